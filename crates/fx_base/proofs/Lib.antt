@@ -1,0 +1,5 @@
+pub mod Entries
+pub mod AtKey
+pub mod PaddedLemmas
+pub mod Giving
+pub mod Compose

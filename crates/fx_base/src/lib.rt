@@ -1,0 +1,39 @@
+//! The ground floor: bytes in and out, texts and fixed names, and the containers that contracts see as lists, finite
+//! maps and finite sets.
+#![tactic(auto)]
+
+pub use bytes_map::BytesMap;
+pub use chain_map::ChainMap;
+pub use chain_name::ChainName;
+pub use counts::{CountSink, Counter, Ticker};
+pub use exact::{Exact, same};
+pub use memory::{BadText, Memory};
+pub use memory_sink::MemSink;
+pub use memory_source::{MemSource, SureSource};
+pub use name_key::NameKey;
+pub use name_map::NameMap;
+pub use net::{Ipv4, Net, PortRange, Proto};
+pub use seq::Seq;
+pub use set_map::SetMap;
+pub use set_name::{SetKind, SetName};
+pub use streams::{Failed, Sink, Source};
+pub use text::Text;
+pub use text_map::TextMap;
+
+mod bytes_map;
+mod chain_map;
+mod chain_name;
+mod counts;
+mod exact;
+mod memory;
+mod memory_sink;
+mod memory_source;
+mod name_key;
+mod name_map;
+mod net;
+mod seq;
+mod set_map;
+mod set_name;
+mod streams;
+mod text;
+mod text_map;
