@@ -1,0 +1,3 @@
+pub mod SameIds
+pub mod SameMember
+pub mod SameViews

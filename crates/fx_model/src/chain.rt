@@ -1,0 +1,59 @@
+//! Rules of chains, in the words of iptables(8) and iptables-extensions(8).
+use crate::ids::PolicyId;
+use fx_base::{ChainName, Seq, Text};
+
+/// The end of a packet's way: where it comes from, or where it goes to.
+#[derive(Clone, Copy, Debug, PartialEq, Eq)]
+pub enum End {
+    Source,
+    Dest,
+}
+
+/// What a packet must meet. `Iface` is `-i` or `-o`, with a `+` behind the name if it is wild; `Mark` is `-m mark
+/// --mark value/mask`; `State` is `-m conntrack --ctstate RELATED,ESTABLISHED`, or `INVALID`.
+#[derive(Debug, Drop)]
+pub enum Match {
+    Iface { end: End, name: Text, wild: bool },
+    Mark { value: u32, mask: u32 },
+    State { related_established: bool },
+}
+
+/// What is done with a packet that meets all matches. `Jump` is `-j`, `Goto` is `-g`, `Mark` is `-j MARK --set-xmark
+/// value/mask`.
+#[derive(Debug, Drop)]
+pub enum Target {
+    Accept,
+    Drop,
+    Return,
+    Jump(ChainName),
+    Goto(ChainName),
+    Mark { value: u32, mask: u32 },
+}
+
+/// Why a packet is allowed or denied. A place is that of a rule in its own list, from 1.
+#[derive(Debug, Drop)]
+pub enum Reason {
+    Policy { id: PolicyId, place: u64 },
+    EndOfTier { tier: Text },
+    Profile { name: Text, place: u64 },
+    MissingProfile { name: Text },
+    NoProfileRule,
+    UnknownInterface,
+    Established,
+    Invalid,
+}
+
+/// What a rule of a chain stands for. It isn't in the kernel.
+#[derive(Debug, Drop)]
+pub enum Tag {
+    Plain,
+    Why(Reason),
+}
+
+/// A rule of a chain.
+#[derive(Debug, Drop)]
+pub struct ChainRule {
+    pub matches: Seq<Match>,
+    pub target: Target,
+    pub tag: Tag,
+}

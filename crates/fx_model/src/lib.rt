@@ -1,0 +1,18 @@
+//! What resources, views, messages, chains and packets are, and what one makes of another.
+#![tactic(auto, using(fx_base::proofs::AtKey::reads))]
+
+pub use chain::{ChainRule, End, Match, Reason, Tag, Target};
+pub use ids::{ItemKey, Key, PolicyId};
+pub use item_map::ItemMap;
+pub use member::{Member, MemberSet};
+pub use packet::{Packet, State, Verdict};
+pub use resources::{Action, Endpoint, Item, Profile, Resources, Rule, Update};
+pub use view::{View, ViewEndpoint, ViewPolicy, ViewProfile, ViewRule, ViewTier};
+
+mod chain;
+mod ids;
+mod item_map;
+mod member;
+mod packet;
+mod resources;
+mod view;
