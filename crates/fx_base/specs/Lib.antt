@@ -1,3 +1,4 @@
+pub mod Extended
 pub mod Keyed
 pub mod Padded
 pub mod Same

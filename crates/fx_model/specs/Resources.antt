@@ -1,0 +1,32 @@
+-- The resources of a node, and what an update makes of them. From Calico's resource reference (`projectcalico.org/v3`):
+-- a workload endpoint runs on the node that `spec.node` names, and a put replaces the resource of its key.
+use Rattle.std.specs.Prelude.{ℕ, List, Bool, true, ◌&&◌, filter}
+use Rattle.std.specs.Str.{bytes_eq}
+use Rattle.std.specs.FinMap as map
+use Rattle.fx_model.specs.declared.ids.ItemKey.{ItemKey}
+use Rattle.fx_model.specs.declared.ids.Key.TheVariants as key
+use Rattle.fx_model.specs.declared.resources.Endpoint.{Endpoint}
+use Rattle.fx_model.specs.declared.resources.Item.TheVariants as item
+use Rattle.fx_model.specs.declared.resources.Update.{Update}
+use Rattle.fx_model.specs.declared.resources.Update.TheVariants as update
+use Rattle.fx_model.specs.declared.resources.Resources.{Resources}
+
+-- the resources after an update; a put whose item is of another kind than its key changes nothing
+abbrev pub after : Resources → Update → Resources
+after R update.InSync = record R { in_sync = true }
+after R (update.Put (key.Item k) (item.Endpoint e)) = record R { endpoints = map.insert R.endpoints k e }
+after R (update.Put (key.Item k) (item.Profile p)) = R
+after R (update.Put (key.Profile name) (item.Endpoint e)) = R
+after R (update.Put (key.Profile name) (item.Profile p)) = record R { profiles = map.insert R.profiles name p }
+
+-- an endpoint that runs on this node
+abbrev pub is_local : Resources → Endpoint → Bool
+is_local R e = bytes_eq e.node R.node
+
+-- before the datastore is in sync, no endpoint is served
+abbrev pub is_served : Resources → Endpoint → Bool
+is_served R e = R.in_sync && is_local R e
+
+-- the endpoints that are served, by their keys
+abbrev pub served_endpoints : Resources → List (ItemKey × Endpoint)
+served_endpoints R = filter (λ x. is_served R x.1) (map.entries R.endpoints)

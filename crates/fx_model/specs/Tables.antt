@@ -1,0 +1,203 @@
+-- The tables that a view is rendered to: IP sets, and chains of the filter table by iptables(8). The names of the chains
+-- and their prefixes are Felix's.
+use Rattle.std.specs.Prelude.{ℕ, suc, List, [], ◌∷◌, ◌++◌, map, Bool, true, false, codes}
+use Rattle.std.specs.List.{flat_map}
+use Rattle.std.specs.Ordering.{nat_cmp}
+use Rattle.std.specs.Cmp.Lexicographic.{slice_cmp}
+use Rattle.std.specs.FinMap as maps
+use Rattle.fx_base.specs.Extended.{collected}
+use Rattle.fx_base.specs.Set as set
+use Rattle.fx_model.specs.declared.member.Member.{Member}
+use Rattle.fx_model.specs.contracts.member.MemberOrd.TheImpl.{cmp-value}
+use Rattle.fx_model.specs.declared.ids.PolicyId.{PolicyId}
+use Rattle.fx_model.specs.declared.resources.Action.{Action}
+use Rattle.fx_model.specs.declared.resources.Action.TheVariants.{Allow, Deny}
+use Rattle.fx_model.specs.declared.view.View.{View}
+use Rattle.fx_model.specs.declared.view.ViewRule.{ViewRule}
+use Rattle.fx_model.specs.declared.view.ViewPolicy.{ViewPolicy}
+use Rattle.fx_model.specs.declared.view.ViewProfile.{ViewProfile}
+use Rattle.fx_model.specs.declared.view.ViewTier.{ViewTier}
+use Rattle.fx_model.specs.declared.view.ViewEndpoint.{ViewEndpoint}
+use Rattle.fx_model.specs.declared.chain.End.{End}
+use Rattle.fx_model.specs.declared.chain.End.TheVariants.{Source, Dest}
+use Rattle.fx_model.specs.declared.chain.Match.{Match}
+use Rattle.fx_model.specs.declared.chain.Match.TheVariants as match
+use Rattle.fx_model.specs.declared.chain.Target.{Target}
+use Rattle.fx_model.specs.declared.chain.Target.TheVariants as target
+use Rattle.fx_model.specs.declared.chain.Reason.{Reason}
+use Rattle.fx_model.specs.declared.chain.Reason.TheVariants as reason
+use Rattle.fx_model.specs.declared.chain.Tag.{Tag}
+use Rattle.fx_model.specs.declared.chain.Tag.TheVariants.{Plain, Why}
+use Rattle.fx_model.specs.declared.chain.ChainRule.{ChainRule}
+use Rattle.fx_model.specs.Directions.{Direction, Ingress, Egress}
+
+-- a chain's name, as bytes
+abbrev pub ChainName : Type 0
+ChainName = List ℕ
+
+abbrev pub Sets : Type 0
+Sets = maps.FinMap (slice_cmp nat_cmp) (set.Set cmp-value.it)
+
+abbrev pub Chains : Type 0
+Chains = maps.FinMap (slice_cmp nat_cmp) (List ChainRule)
+
+-- the dataplane's tables
+pub record Tables : Type 0 where
+  pub sets : Sets
+  pub chains : Chains
+
+-- ---- rules
+
+abbrev pub accept_mark : ℕ
+accept_mark = 0x10000
+
+abbrev pub pass_mark : ℕ
+pass_mark = 0x20000
+
+abbrev pub plain : List Match → Target → ChainRule
+plain ms to = record { matches = ms; target = to; tag = Plain }
+
+abbrev pub told : List Match → Target → Reason → ChainRule
+told ms to why = record { matches = ms; target = to; tag = Why why }
+
+abbrev pub set_mark : ℕ → Target
+set_mark m = target.Mark m m
+
+abbrev pub clear_mark : ℕ → Target
+clear_mark m = target.Mark 0 m
+
+abbrev pub is_set : ℕ → Match
+is_set m = match.Mark m m
+
+abbrev pub is_clear : ℕ → Match
+is_clear m = match.Mark 0 m
+
+-- what a rule does with a packet that meets these matches
+abbrev pub main_rules : Action → List Match → Reason → List ChainRule
+main_rules Allow ms why = told ms (set_mark accept_mark) why ∷ plain (is_set accept_mark ∷ []) target.Return ∷ []
+main_rules Deny ms why = told ms target.Drop why ∷ []
+
+abbrev pub rendered_rule : ViewRule → Reason → List ChainRule
+rendered_rule r why = main_rules r.action [] why
+
+-- rules in order, each told by its place
+abbrev pub rendered_rules : (ℕ → Reason) → ℕ → List ViewRule → List ChainRule
+rendered_rules why place [] = []
+rendered_rules why place (r ∷ rs) = rendered_rule r (why place) ++ rendered_rules why (suc place) rs
+
+-- ---- chains of policies and profiles
+
+abbrev pub policy_chain : Direction → List ℕ → ChainName
+policy_chain Ingress key = codes "cali-pi-" ++ key
+policy_chain Egress key = codes "cali-po-" ++ key
+
+abbrev pub profile_chain : Direction → List ℕ → ChainName
+profile_chain Ingress key = codes "cali-pri-" ++ key
+profile_chain Egress key = codes "cali-pro-" ++ key
+
+abbrev pub policy_side : Direction → ViewPolicy → List ViewRule
+policy_side Ingress p = p.ingress
+policy_side Egress p = p.egress
+
+abbrev pub profile_side : Direction → ViewProfile → List ViewRule
+profile_side Ingress p = p.ingress
+profile_side Egress p = p.egress
+
+abbrev pub policy_rules : Direction → ViewPolicy → List ChainRule
+policy_rules d p = rendered_rules (reason.Policy p.id) 1 (policy_side d p)
+
+-- a missing profile drops
+abbrev pub present_or_missing : Bool → List ℕ → List ChainRule → List ChainRule
+present_or_missing true name rules = told [] target.Drop (reason.MissingProfile name) ∷ []
+present_or_missing false name rules = rules
+
+abbrev pub profile_rules : Direction → ViewProfile → List ChainRule
+profile_rules d p = present_or_missing p.missing p.name (rendered_rules (reason.Profile p.name) 1 (profile_side d p))
+
+-- ---- chains of endpoints
+
+abbrev pub endpoint_chain : Direction → List ℕ → ChainName
+endpoint_chain Ingress iface = codes "cali-tw-" ++ iface
+endpoint_chain Egress iface = codes "cali-fw-" ++ iface
+
+-- a policy is asked while none has passed
+abbrev pub policy_jumps : Direction → List (List ℕ) → List ChainRule
+policy_jumps d [] = []
+policy_jumps d (key ∷ keys) =
+    plain (is_clear pass_mark ∷ []) (target.Jump (policy_chain d key)) ∷ plain (is_set accept_mark ∷ []) target.Return ∷ policy_jumps d keys
+
+-- the tiers, each with its end, and then what follows them
+abbrev pub tier_rules : Direction → List ViewTier → List ChainRule → List ChainRule
+tier_rules d [] rest = rest
+tier_rules d (t ∷ ts) rest =
+    plain [] (clear_mark pass_mark) ∷ (policy_jumps d t.policies ++ told (is_clear pass_mark ∷ []) target.Drop (reason.EndOfTier t.name) ∷ tier_rules d ts rest)
+
+-- the profiles, and then the end
+abbrev pub profile_jumps : Direction → List (List ℕ) → List ChainRule
+profile_jumps d [] = told [] target.Drop reason.NoProfileRule ∷ []
+profile_jumps d (key ∷ keys) =
+    plain [] (target.Jump (profile_chain d key)) ∷ plain (is_set accept_mark ∷ []) target.Return ∷ profile_jumps d keys
+
+abbrev pub tiers_side : Direction → ViewEndpoint → List ViewTier
+tiers_side Ingress e = e.ingress
+tiers_side Egress e = e.egress
+
+abbrev pub endpoint_rules : Direction → ViewEndpoint → List ChainRule
+endpoint_rules d e =
+    told (match.State true ∷ []) target.Accept reason.Established
+    ∷ told (match.State false ∷ []) target.Drop reason.Invalid
+    ∷ plain [] (clear_mark accept_mark)
+    ∷ tier_rules d (tiers_side d e) (profile_jumps d e.profiles)
+
+-- ---- the way to an endpoint's chain
+
+abbrev pub forward : ChainName
+forward = codes "cali-FORWARD"
+
+abbrev pub root_of : Direction → ChainName
+root_of Ingress = codes "cali-to-wl-dispatch"
+root_of Egress = codes "cali-from-wl-dispatch"
+
+abbrev pub end_of : Direction → End
+end_of Ingress = Dest
+end_of Egress = Source
+
+-- each interface goes to its endpoint's chain, and every other one is unknown
+abbrev pub dispatch_rules : Direction → List (List ℕ) → List ChainRule
+dispatch_rules d [] = told [] target.Drop reason.UnknownInterface ∷ []
+dispatch_rules d (iface ∷ ifaces) =
+    plain (match.Iface (end_of d) iface false ∷ []) (target.Goto (endpoint_chain d iface)) ∷ dispatch_rules d ifaces
+
+abbrev pub forward_rules : List ChainRule
+forward_rules =
+    plain [] (target.Mark 0 0xf0000)
+    ∷ plain (match.Iface Source (codes "cali") true ∷ []) (target.Jump (root_of Egress))
+    ∷ plain (match.Iface Dest (codes "cali") true ∷ []) (target.Jump (root_of Ingress))
+    ∷ []
+
+-- ---- the tables of a view
+
+abbrev pub policy_chains : List ℕ × ViewPolicy → List (ChainName × List ChainRule)
+policy_chains x = (policy_chain Ingress x.0, policy_rules Ingress x.1) ∷ (policy_chain Egress x.0, policy_rules Egress x.1) ∷ []
+
+abbrev pub profile_chains : List ℕ × ViewProfile → List (ChainName × List ChainRule)
+profile_chains x = (profile_chain Ingress x.0, profile_rules Ingress x.1) ∷ (profile_chain Egress x.0, profile_rules Egress x.1) ∷ []
+
+abbrev pub endpoint_chains : List ℕ × ViewEndpoint → List (ChainName × List ChainRule)
+endpoint_chains x = (endpoint_chain Ingress x.0, endpoint_rules Ingress x.1) ∷ (endpoint_chain Egress x.0, endpoint_rules Egress x.1) ∷ []
+
+abbrev pub dispatch_chains : View → List (ChainName × List ChainRule)
+dispatch_chains v =
+    (root_of Ingress, dispatch_rules Ingress (maps.keys v.endpoints))
+    ∷ (root_of Egress, dispatch_rules Egress (maps.keys v.endpoints))
+    ∷ (forward, forward_rules)
+    ∷ []
+
+-- all chains of a view, each behind those that it leads to
+abbrev pub chains_of : View → List (ChainName × List ChainRule)
+chains_of v =
+    flat_map policy_chains (maps.entries v.policies) ++ (flat_map profile_chains (maps.entries v.profiles)
+    ++ (flat_map endpoint_chains (maps.entries v.endpoints) ++ dispatch_chains v))
+
+abbrev pub tables_of : View → Tables
+tables_of v = record { sets = v.sets; chains = collected (chains_of v) }

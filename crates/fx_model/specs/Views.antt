@@ -1,0 +1,57 @@
+-- What a node needs of the resources. From Felix's documented calculation graph: the endpoints that run on the node, and
+-- the profiles that they list, whether a profile is there or not.
+use Rattle.std.specs.Prelude.{ℕ, List, [], ◌∷◌, map, Option, Some, None, true, false}
+use Rattle.std.specs.List.{flat_map}
+use Rattle.std.specs.FinMap as maps
+use Rattle.fx_base.specs.Extended.{collected}
+use Rattle.fx_model.specs.declared.ids.ItemKey.{ItemKey}
+use Rattle.fx_model.specs.declared.ids.ItemKey.TheVariants as key
+use Rattle.fx_model.specs.declared.resources.Endpoint.{Endpoint}
+use Rattle.fx_model.specs.declared.resources.Profile.{Profile}
+use Rattle.fx_model.specs.declared.resources.Rule.{Rule}
+use Rattle.fx_model.specs.declared.resources.Resources.{Resources}
+use Rattle.fx_model.specs.declared.view.View.{View}
+use Rattle.fx_model.specs.declared.view.ViewRule.{ViewRule}
+use Rattle.fx_model.specs.declared.view.ViewProfile.{ViewProfile}
+use Rattle.fx_model.specs.declared.view.ViewEndpoint.{ViewEndpoint}
+use Rattle.fx_model.specs.Resources.{served_endpoints}
+
+-- a rule as it is rendered
+abbrev pub view_rule : Rule → ViewRule
+view_rule r = record { action = r.action }
+
+-- a profile's key: its name
+abbrev pub profile_key : List ℕ → List ℕ
+profile_key name = name
+
+abbrev pub view_profile : List ℕ → Option Profile → ViewProfile
+view_profile name None = record { name = name; missing = true; ingress = []; egress = [] }
+view_profile name (Some p) = record { name = name; missing = false; ingress = map view_rule p.ingress; egress = map view_rule p.egress }
+
+-- an endpoint with its profiles; there are no policies yet, so no tier takes part
+abbrev pub view_endpoint : ItemKey → Endpoint → ViewEndpoint
+view_endpoint (key.Endpoint ns name) e = record { ns = ns; name = name; ingress = []; egress = []; profiles = map profile_key e.profiles }
+view_endpoint (key.NetSet ns name) e = record { ns = []; name = name; ingress = []; egress = []; profiles = map profile_key e.profiles }
+
+-- the names that served endpoints list
+abbrev pub active_profiles : Resources → List (List ℕ)
+active_profiles R = flat_map (λ x. x.1.profiles) (served_endpoints R)
+
+abbrev pub profile_entry : Resources → List ℕ → List ℕ × ViewProfile
+profile_entry R name = (profile_key name, view_profile name (maps.get R.profiles name))
+
+abbrev pub endpoint_entry : ItemKey × Endpoint → List ℕ × ViewEndpoint
+endpoint_entry x = (x.1.iface, view_endpoint x.0 x.1)
+
+-- the view of the resources
+abbrev pub view_of : Resources → View
+view_of R = record {
+    sets = maps.empty;
+    policies = maps.empty;
+    profiles = collected (map (profile_entry R) (active_profiles R));
+    endpoints = collected (map endpoint_entry (served_endpoints R));
+  }
+
+-- the view before anything was sent
+abbrev pub empty_view : View
+empty_view = record { sets = maps.empty; policies = maps.empty; profiles = maps.empty; endpoints = maps.empty }
