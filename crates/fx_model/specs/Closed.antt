@@ -1,19 +1,15 @@
 -- Nothing is named that isn't there: what the kernel asks of tables by iptables(8) and ipset(8), and what it asks of a view.
-use Rattle.std.specs.Prelude.{◌≡◌, ℕ, List, [], ◌∷◌, Bool, true, Option, Some, IsTrue, All}
+use Rattle.std.specs.Prelude.{◌≡◌, ℕ, List, [], ◌∷◌, true, Some}
 use Rattle.std.specs.Ordering.{nat_cmp}
 use Rattle.std.specs.Cmp.Lexicographic.{slice_cmp}
 use Rattle.std.specs.FinMap as maps
 use Rattle.fx_model.specs.declared.view.View.{View}
-use Rattle.fx_model.specs.declared.view.ViewRule.{ViewRule}
 use Rattle.fx_model.specs.declared.view.ViewTier.{ViewTier}
-use Rattle.fx_model.specs.declared.view.ViewPolicy.{ViewPolicy}
-use Rattle.fx_model.specs.declared.view.ViewProfile.{ViewProfile}
 use Rattle.fx_model.specs.declared.view.ViewEndpoint.{ViewEndpoint}
-use Rattle.fx_model.specs.declared.chain.Match.{Match}
 use Rattle.fx_model.specs.declared.chain.Target.{Target}
 use Rattle.fx_model.specs.declared.chain.Target.TheVariants as target
 use Rattle.fx_model.specs.declared.chain.ChainRule.{ChainRule}
-use Rattle.fx_model.specs.Tables.{ChainName, Chains, Sets, Tables}
+use Rattle.fx_model.specs.Tables.{ChainName, Chains, Tables}
 
 -- each of these keys is in the map
 abbrev pub AreThere : {X : Type 0} → maps.FinMap (slice_cmp nat_cmp) X → List (List ℕ) → Type 0

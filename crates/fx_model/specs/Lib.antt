@@ -6,3 +6,5 @@ pub mod Resources
 pub mod Views
 pub mod Tables
 pub mod Closed
+pub mod Messages
+pub mod Told

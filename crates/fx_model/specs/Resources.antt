@@ -1,6 +1,6 @@
 -- The resources of a node, and what an update makes of them. From Calico's resource reference (`projectcalico.org/v3`):
 -- a workload endpoint runs on the node that `spec.node` names, and a put replaces the resource of its key.
-use Rattle.std.specs.Prelude.{ℕ, List, Bool, true, ◌&&◌, filter}
+use Rattle.std.specs.Prelude.{List, Bool, true, ◌&&◌, filter}
 use Rattle.std.specs.Str.{bytes_eq}
 use Rattle.std.specs.FinMap as map
 use Rattle.fx_model.specs.declared.ids.ItemKey.{ItemKey}

@@ -1,15 +1,13 @@
 -- The tables that a view is rendered to: IP sets, and chains of the filter table by iptables(8). The names of the chains
 -- and their prefixes are Felix's.
-use Rattle.std.specs.Prelude.{ℕ, suc, List, [], ◌∷◌, ◌++◌, map, Bool, true, false, codes}
+use Rattle.std.specs.Prelude.{ℕ, suc, List, [], ◌∷◌, ◌++◌, Bool, true, false, codes}
 use Rattle.std.specs.List.{flat_map}
 use Rattle.std.specs.Ordering.{nat_cmp}
 use Rattle.std.specs.Cmp.Lexicographic.{slice_cmp}
 use Rattle.std.specs.FinMap as maps
 use Rattle.fx_base.specs.Extended.{collected}
 use Rattle.fx_base.specs.Set as set
-use Rattle.fx_model.specs.declared.member.Member.{Member}
 use Rattle.fx_model.specs.contracts.member.MemberOrd.TheImpl.{cmp-value}
-use Rattle.fx_model.specs.declared.ids.PolicyId.{PolicyId}
 use Rattle.fx_model.specs.declared.resources.Action.{Action}
 use Rattle.fx_model.specs.declared.resources.Action.TheVariants.{Allow, Deny}
 use Rattle.fx_model.specs.declared.view.View.{View}
@@ -26,7 +24,6 @@ use Rattle.fx_model.specs.declared.chain.Target.{Target}
 use Rattle.fx_model.specs.declared.chain.Target.TheVariants as target
 use Rattle.fx_model.specs.declared.chain.Reason.{Reason}
 use Rattle.fx_model.specs.declared.chain.Reason.TheVariants as reason
-use Rattle.fx_model.specs.declared.chain.Tag.{Tag}
 use Rattle.fx_model.specs.declared.chain.Tag.TheVariants.{Plain, Why}
 use Rattle.fx_model.specs.declared.chain.ChainRule.{ChainRule}
 use Rattle.fx_model.specs.Directions.{Direction, Ingress, Egress}

@@ -1,6 +1,6 @@
 -- What a node needs of the resources. From Felix's documented calculation graph: the endpoints that run on the node, and
 -- the profiles that they list, whether a profile is there or not.
-use Rattle.std.specs.Prelude.{ℕ, List, [], ◌∷◌, map, Option, Some, None, true, false}
+use Rattle.std.specs.Prelude.{ℕ, List, [], map, Option, Some, None, true, false}
 use Rattle.std.specs.List.{flat_map}
 use Rattle.std.specs.FinMap as maps
 use Rattle.fx_base.specs.Extended.{collected}
@@ -46,11 +46,11 @@ endpoint_entry x = (x.1.iface, view_endpoint x.0 x.1)
 -- the view of the resources
 abbrev pub view_of : Resources → View
 view_of R = record {
-    sets = maps.empty;
-    policies = maps.empty;
-    profiles = collected (map (profile_entry R) (active_profiles R));
-    endpoints = collected (map endpoint_entry (served_endpoints R));
-  }
+  sets = maps.empty;
+  policies = maps.empty;
+  profiles = collected (map (profile_entry R) (active_profiles R));
+  endpoints = collected (map endpoint_entry (served_endpoints R));
+}
 
 -- the view before anything was sent
 abbrev pub empty_view : View
