@@ -1,5 +1,6 @@
 pub mod Entries
 pub mod AtKey
 pub mod PaddedLemmas
+pub mod ExtendedLemmas
 pub mod Giving
 pub mod Compose

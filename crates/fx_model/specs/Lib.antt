@@ -2,6 +2,7 @@ pub mod SameIds
 pub mod SameMember
 pub mod SameViews
 pub mod Directions
+pub mod Formed
 pub mod Resources
 pub mod Views
 pub mod Tables

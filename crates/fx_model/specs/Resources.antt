@@ -4,20 +4,26 @@ use Rattle.std.specs.Prelude.{List, Bool, true, ◌&&◌, filter}
 use Rattle.std.specs.Str.{bytes_eq}
 use Rattle.std.specs.FinMap as map
 use Rattle.fx_model.specs.declared.ids.ItemKey.{ItemKey}
+use Rattle.fx_model.specs.declared.ids.Key.{Key}
 use Rattle.fx_model.specs.declared.ids.Key.TheVariants as key
 use Rattle.fx_model.specs.declared.resources.Endpoint.{Endpoint}
+use Rattle.fx_model.specs.declared.resources.Item.{Item}
 use Rattle.fx_model.specs.declared.resources.Item.TheVariants as item
 use Rattle.fx_model.specs.declared.resources.Update.{Update}
 use Rattle.fx_model.specs.declared.resources.Update.TheVariants as update
 use Rattle.fx_model.specs.declared.resources.Resources.{Resources}
 
--- the resources after an update; a put whose item is of another kind than its key changes nothing
+-- a put at a key; an item of another kind than the key changes nothing
+abbrev pub after_put : Resources → Key → Item → Resources
+after_put R (key.Item k) (item.Endpoint e) = record R { endpoints = map.insert R.endpoints k e }
+after_put R (key.Item k) (item.Profile p) = R
+after_put R (key.Profile name) (item.Endpoint e) = R
+after_put R (key.Profile name) (item.Profile p) = record R { profiles = map.insert R.profiles name p }
+
+-- the resources after an update
 abbrev pub after : Resources → Update → Resources
 after R update.InSync = record R { in_sync = true }
-after R (update.Put (key.Item k) (item.Endpoint e)) = record R { endpoints = map.insert R.endpoints k e }
-after R (update.Put (key.Item k) (item.Profile p)) = R
-after R (update.Put (key.Profile name) (item.Endpoint e)) = R
-after R (update.Put (key.Profile name) (item.Profile p)) = record R { profiles = map.insert R.profiles name p }
+after R (update.Put k x) = after_put R k x
 
 -- an endpoint that runs on this node
 abbrev pub is_local : Resources → Endpoint → Bool

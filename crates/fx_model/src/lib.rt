@@ -9,6 +9,7 @@ pub use message::{MemberList, Message};
 pub use packet::{Packet, State, Verdict};
 pub use resources::{Action, Endpoint, Item, Profile, Resources, Rule, Update};
 pub use view::{View, ViewEndpoint, ViewPolicy, ViewProfile, ViewRule, ViewTier};
+pub use wanted::view_of;
 
 mod chain;
 mod ids;
@@ -18,3 +19,4 @@ mod message;
 mod packet;
 mod resources;
 mod view;
+mod wanted;

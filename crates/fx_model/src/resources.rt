@@ -1,7 +1,11 @@
 //! The resources, as Calico's resource reference (`projectcalico.org/v3`) names them, and what changes them.
+ghost use Rattle.std.specs.Prelude.{◌≡◌, OnOk, OnErr, false};
+ghost use Rattle.std.specs.FinMap as map;
+
 use crate::ids::{ItemKey, Key};
 use crate::item_map::ItemMap;
-use fx_base::{Seq, Text, TextMap};
+use fx_base::{Memory, Seq, Text, TextMap};
+use std::alloc::Global;
 
 /// What a rule does with a packet that it matches.
 #[derive(Clone, Copy, Debug, PartialEq, Eq)]
@@ -52,4 +56,70 @@ pub struct Resources {
     pub in_sync: bool,
     pub endpoints: ItemMap<Endpoint>,
     pub profiles: TextMap<Profile>,
+}
+
+impl Resources {
+    ghost use Rattle.fx_model.specs.Resources.{after, after_put, is_local, is_served};
+
+    /// No resources yet, and not in sync.
+    pub fn new(alloc: Global, node: Text) -> Resources
+        ensures { result ≡ record { node = node; in_sync = false; endpoints = map.empty; profiles = map.empty } }
+    {
+        Resources {
+            node,
+            in_sync: false,
+            endpoints: ItemMap::new(alloc),
+            profiles: TextMap::new(alloc),
+        }
+    }
+
+    /// Makes an update.
+    pub fn apply(&mut self, update: Update) -> Result<(), Memory>
+        ensures ok { OnOk result (self.new ≡ after self.old update) }
+        ensures err { OnErr result (self.new ≡ self.old) }
+    {
+        match update {
+            Update::InSync => {
+                self.in_sync = true;
+                Ok(())
+            }
+            Update::Put { key, item } => self.put(key, item),
+        }
+    }
+
+    fn put(&mut self, key: Key, item: Item) -> Result<(), Memory>
+        ensures ok { OnOk result (self.new ≡ after_put self.old key item) }
+        ensures err { OnErr result (self.new ≡ self.old) }
+    {
+        match key {
+            Key::Item(key) => match item {
+                Item::Endpoint(endpoint) => {
+                    self.endpoints.insert(key, endpoint)?;
+                    Ok(())
+                }
+                Item::Profile(_) => Ok(()),
+            },
+            Key::Profile { name } => match item {
+                Item::Endpoint(_) => Ok(()),
+                Item::Profile(profile) => {
+                    self.profiles.insert(name, profile)?;
+                    Ok(())
+                }
+            },
+        }
+    }
+
+    /// Whether the endpoint runs on this node.
+    pub fn is_local(&self, endpoint: &Endpoint) -> bool
+        ensures { result ≡ is_local self.now endpoint.now }
+    {
+        endpoint.node.bytes() == self.node.bytes()
+    }
+
+    /// Whether the endpoint runs on this node and the datastore is in sync.
+    pub fn is_served(&self, endpoint: &Endpoint) -> bool
+        ensures { result ≡ is_served self.now endpoint.now }
+    {
+        self.in_sync && self.is_local(endpoint)
+    }
 }

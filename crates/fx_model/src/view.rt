@@ -9,6 +9,7 @@ use crate::ids::PolicyId;
 use crate::member::MemberSet;
 use crate::resources::Action;
 use fx_base::{Exact, NameKey, NameMap, Seq, SetMap, Text, TextMap};
+use std::alloc::Global;
 
 /// A rule as it is rendered.
 #[derive(Clone, Copy, Debug, PartialEq, Eq)]
@@ -102,4 +103,21 @@ impl Exact for View {
         } };
 
     ghost copies = { λ x y h i. record { sets = h.0 i; policies = h.1.0 i; profiles = h.1.1.0 i; endpoints = h.1.1.1 i } };
+}
+
+impl View {
+    ghost use Rattle.std.specs.Prelude.{◌≡◌};
+    ghost use Rattle.fx_model.specs.Views.{empty_view};
+
+    /// The view before anything was sent.
+    pub fn new(alloc: Global) -> View
+        ensures { result ≡ empty_view }
+    {
+        View {
+            sets: SetMap::new(alloc),
+            policies: NameMap::new(alloc),
+            profiles: NameMap::new(alloc),
+            endpoints: TextMap::new(alloc),
+        }
+    }
 }

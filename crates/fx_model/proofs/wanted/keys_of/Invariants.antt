@@ -1,0 +1,6 @@
+use Rattle.std.proofs.Common.{◌≡◌, map, take}
+use Rattle.fx_model.specs.Views.{profile_key}
+use Rattle.fx_model.proofs.wanted.keys_of.Given as goal
+
+abbrev pub invariant-loop-name : goal.invariant-loop-name
+invariant-loop-name l = l.keys ≡ map profile_key (take l.name-index l.name-items)

@@ -1,0 +1,130 @@
+//! The view of the resources, computed whole.
+ghost use Rattle.std.specs.Prelude.{◌≡◌, IfOk, OnOk, map, true};
+ghost use Rattle.std.specs.Option.{option_copied};
+ghost use Rattle.std.specs.List.{list_all};
+ghost use Rattle.std.specs.FinMap as maps;
+ghost use Rattle.fx_base.specs.Extended.{extended};
+ghost use Rattle.fx_model.specs.Formed.{are_formed, is_formed_profile_name, is_formed_endpoint};
+ghost use Rattle.fx_model.specs.Views.{view_of, view_rule, view_profile, view_endpoint, profile_entry, profile_key};
+
+use crate::ids::ItemKey;
+use crate::resources::{Endpoint, Profile, Resources, Rule};
+use crate::view::{View, ViewEndpoint, ViewProfile, ViewRule};
+use fx_base::{Memory, NameKey, NameMap, Seq, Text};
+use std::alloc::Global;
+
+/// What the node needs of the resources.
+#[tactic(auto, using(crate::proofs::Serving::profiles_both))]
+pub fn view_of(alloc: Global, resources: &Resources) -> Result<View, Memory>
+    requires { are_formed resources.now ≡ true }
+    ensures { IfOk result (λ v. v ≡ view_of resources.now) }
+{
+    let mut view = View::new(alloc);
+    for (key, endpoint) in resources.endpoints.iter() {
+        if resources.is_served(endpoint) {
+            put_served(alloc, resources, key, endpoint, &mut view)?;
+        }
+    }
+    Ok(view)
+}
+
+// A served endpoint and its profiles.
+fn put_served(
+    alloc: Global,
+    resources: &Resources,
+    key: &ItemKey,
+    endpoint: &Endpoint,
+    view: &mut View,
+) -> Result<(), Memory>
+    requires { is_formed_endpoint endpoint.now ≡ true }
+    ensures profiles { OnOk result (view.new.profiles ≡ extended view.old.profiles (map (profile_entry resources.now) endpoint.now.profiles)) }
+    ensures endpoint { OnOk result (view.new.endpoints ≡ maps.insert view.old.endpoints endpoint.now.iface (view_endpoint key.now endpoint.now)) }
+    ensures others { (view.new.sets ≡ view.old.sets) × (view.new.policies ≡ view.old.policies) }
+{
+    put_profiles(alloc, resources, &endpoint.profiles, &mut view.profiles)?;
+    let wanted = view_endpoint(alloc, key, endpoint)?;
+    view.endpoints.insert(endpoint.iface.clone()?, wanted)?;
+    Ok(())
+}
+
+// The profiles of these names.
+fn put_profiles(
+    alloc: Global,
+    resources: &Resources,
+    names: &Seq<Text>,
+    profiles: &mut NameMap<ViewProfile>,
+) -> Result<(), Memory>
+    requires { list_all is_formed_profile_name names.now ≡ true }
+    ensures { OnOk result (profiles.new ≡ extended profiles.old (map (profile_entry resources.now) names.now)) }
+{
+    for name in names.as_slice() {
+        let profile = view_profile(alloc, name, resources.profiles.get(name))?;
+        profiles.insert(NameKey::new(name.bytes()), profile)?;
+    }
+    Ok(())
+}
+
+fn view_profile(
+    alloc: Global,
+    name: &Text,
+    profile: Option<&Profile>,
+) -> Result<ViewProfile, Memory>
+    ensures { IfOk result (λ p. p ≡ view_profile name.now (option_copied profile.entry)) }
+{
+    let name = name.clone()?;
+    match profile {
+        None => Ok(ViewProfile {
+            name,
+            missing: true,
+            ingress: Seq::new(alloc),
+            egress: Seq::new(alloc),
+        }),
+        Some(profile) => Ok(ViewProfile {
+            name,
+            missing: false,
+            ingress: view_rules(alloc, &profile.ingress)?,
+            egress: view_rules(alloc, &profile.egress)?,
+        }),
+    }
+}
+
+fn view_rules(alloc: Global, rules: &Seq<Rule>) -> Result<Seq<ViewRule>, Memory>
+    ensures { IfOk result (λ rs. rs ≡ map view_rule rules.now) }
+{
+    let mut wanted = Seq::new(alloc);
+    for rule in rules.as_slice() {
+        wanted.push(ViewRule {
+            action: rule.action,
+        })?;
+    }
+    Ok(wanted)
+}
+
+fn view_endpoint(alloc: Global, key: &ItemKey, endpoint: &Endpoint) -> Result<ViewEndpoint, Memory>
+    requires { is_formed_endpoint endpoint.now ≡ true }
+    ensures { IfOk result (λ e. e ≡ view_endpoint key.now endpoint.now) }
+{
+    let (ns, name) = match key {
+        ItemKey::Endpoint { ns, name } => (ns.clone()?, name.clone()?),
+        ItemKey::NetSet { name, .. } => (Text::from_vec(Vec::new(alloc)), name.clone()?),
+    };
+    Ok(ViewEndpoint {
+        ns,
+        name,
+        ingress: Seq::new(alloc),
+        egress: Seq::new(alloc),
+        profiles: keys_of(alloc, &endpoint.profiles)?,
+    })
+}
+
+// The keys of profiles.
+fn keys_of(alloc: Global, names: &Seq<Text>) -> Result<Seq<NameKey>, Memory>
+    requires { list_all is_formed_profile_name names.now ≡ true }
+    ensures { IfOk result (λ keys. keys ≡ map profile_key names.now) }
+{
+    let mut keys = Seq::new(alloc);
+    for name in names.as_slice() {
+        keys.push(NameKey::new(name.bytes()))?;
+    }
+    Ok(keys)
+}
