@@ -8,3 +8,4 @@ pub mod Tables
 pub mod Closed
 pub mod Messages
 pub mod Told
+pub mod Ranks
