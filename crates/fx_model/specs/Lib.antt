@@ -9,3 +9,8 @@ pub mod Tables
 pub mod Closed
 pub mod Messages
 pub mod Told
+pub mod Ranks
+pub mod Machine
+pub mod Walk
+pub mod Policy
+pub mod ViewPolicy

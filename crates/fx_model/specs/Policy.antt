@@ -1,0 +1,168 @@
+-- The policy reference: what resources say of the first packet of a connection. From Calico's resource reference
+-- (`projectcalico.org/v3`): tiers and policies in their order, then profiles in listed order, each rule allowing, denying or
+-- passing. It knows no chain, mark or jump.
+use Rattle.std.specs.Prelude.{ℕ, suc, Bool, true, false, List, [], ◌∷◌, map, nat_eq, codes, Option, Some, None}
+use Rattle.std.specs.List.{starts_with}
+use Rattle.std.specs.Str.{bytes_eq}
+use Rattle.std.specs.FinMap as maps
+use Rattle.fx_model.specs.declared.ids.ItemKey.{ItemKey}
+use Rattle.fx_model.specs.declared.packet.Packet.{Packet}
+use Rattle.fx_model.specs.declared.packet.Verdict.{Verdict}
+use Rattle.fx_model.specs.declared.packet.Verdict.TheVariants.{Allow, Deny}
+use Rattle.fx_model.specs.declared.chain.Reason.{Reason}
+use Rattle.fx_model.specs.declared.chain.Reason.TheVariants as reason
+use Rattle.fx_model.specs.declared.resources.Action.{Action}
+use Rattle.fx_model.specs.declared.resources.Action.TheVariants as action
+use Rattle.fx_model.specs.declared.resources.Rule.{Rule}
+use Rattle.fx_model.specs.declared.resources.Endpoint.{Endpoint}
+use Rattle.fx_model.specs.declared.resources.Profile.{Profile}
+use Rattle.fx_model.specs.declared.resources.Resources.{Resources}
+use Rattle.fx_model.specs.Directions.{Direction, Ingress, Egress}
+use Rattle.fx_model.specs.Resources.{served_endpoints}
+
+-- ---- rules, in their order
+
+-- a rule as a packet meets it
+pub record MetRule : Type 0 where
+  pub why : Reason
+  pub action : Action
+  pub matches : Bool
+
+-- what rules say: nothing, that the tier is passed, or a verdict with its reason
+pub data Answer : Type 0 where
+  Silent Passed : Answer
+  Allowed Denied : Reason → Answer
+
+-- what a rule that matches says, where those behind it say `rest`
+abbrev pub answer_of : Action → Reason → Answer → Answer
+answer_of action.Allow why rest = Allowed why
+answer_of action.Deny why rest = Denied why
+
+-- the first rule that matches and decides or passes
+abbrev pub first_answer : List MetRule → Answer
+first_answer [] = Silent
+first_answer (r ∷ rs) = elim r.matches [ true ↦ answer_of r.action r.why (first_answer rs) | false ↦ first_answer rs ]
+
+-- ---- tiers and profiles
+
+pub record Decision : Type 0 where
+  pub verdict : Verdict
+  pub why : Reason
+
+-- a tier that takes part: the rules of its policies that apply, in one list
+pub record Tier : Type 0 where
+  pub name : List ℕ
+  pub rules : List MetRule
+
+-- Pass goes on behind the tier, and a tier that says nothing denies at its end
+abbrev pub after_tier : List ℕ → Answer → Decision → Decision
+after_tier name Silent rest = record { verdict = Deny; why = reason.EndOfTier name }
+after_tier name Passed rest = rest
+after_tier name (Allowed why) rest = record { verdict = Allow; why = why }
+after_tier name (Denied why) rest = record { verdict = Deny; why = why }
+
+abbrev pub tiers_verdict : List Tier → Decision → Decision
+tiers_verdict [] rest = rest
+tiers_verdict (t ∷ ts) rest = after_tier t.name (first_answer t.rules) (tiers_verdict ts rest)
+
+-- a listed profile: missing, or there with its rules
+pub data Listed : Type 0 where
+  Missing : List ℕ → Listed
+  There : List MetRule → Listed
+
+-- a profile decides, or else the rest does
+abbrev pub or_rest : Answer → Decision → Decision
+or_rest Silent rest = rest
+or_rest Passed rest = rest
+or_rest (Allowed why) rest = record { verdict = Allow; why = why }
+or_rest (Denied why) rest = record { verdict = Deny; why = why }
+
+-- a missing profile denies at its place, and so does the end
+abbrev pub profiles_verdict : List Listed → Decision
+profiles_verdict [] = record { verdict = Deny; why = reason.NoProfileRule }
+profiles_verdict (Missing name ∷ ps) = record { verdict = Deny; why = reason.MissingProfile name }
+profiles_verdict (There rules ∷ ps) = or_rest (first_answer rules) (profiles_verdict ps)
+
+-- ---- an endpoint of the resources
+
+-- a rule has no criteria yet, so it matches each packet
+abbrev pub rule_matches : Resources → Rule → Packet → Bool
+rule_matches R r a = true
+
+-- rules as a packet meets them, each told by its place
+abbrev pub met_rules : Resources → Packet → (ℕ → Reason) → ℕ → List Rule → List MetRule
+met_rules R a why place [] = []
+met_rules R a why place (r ∷ rs) =
+    record { why = why place; action = r.action; matches = rule_matches R r a } ∷ met_rules R a why (suc place) rs
+
+abbrev pub side_of : Direction → Profile → List Rule
+side_of Ingress p = p.ingress
+side_of Egress p = p.egress
+
+abbrev pub there_or_missing : Resources → Direction → Packet → List ℕ → Option Profile → Listed
+there_or_missing R d a name None = Missing name
+there_or_missing R d a name (Some p) = There (met_rules R a (reason.Profile name) 1 (side_of d p))
+
+abbrev pub listed_profile : Resources → Direction → Packet → List ℕ → Listed
+listed_profile R d a name = there_or_missing R d a name (maps.get R.profiles name)
+
+-- the tiers that take part for an endpoint: there are no policies among the resources yet
+abbrev pub tiers_for : Resources → Direction → Endpoint → Packet → List Tier
+tiers_for R d e a = []
+
+abbrev pub endpoint_verdict : Resources → Direction → Endpoint → Packet → Decision
+endpoint_verdict R d e a =
+    tiers_verdict (tiers_for R d e a) (profiles_verdict (map (listed_profile R d a) e.profiles))
+
+-- ---- a packet
+
+-- the endpoint of the first of these that has this interface
+abbrev pub with_iface : List (ItemKey × Endpoint) → List ℕ → Option Endpoint
+with_iface [] iface = None
+with_iface (x ∷ xs) iface = elim (bytes_eq iface x.1.iface) [ true ↦ Some x.1 | false ↦ with_iface xs iface ]
+
+-- the served endpoint on an interface
+abbrev pub endpoint_at : Resources → List ℕ → Option Endpoint
+endpoint_at R iface = with_iface (served_endpoints R) iface
+
+abbrev pub verdict_at : Resources → Direction → Packet → Option Endpoint → Option Decision
+verdict_at R d a None = None
+verdict_at R d a (Some e) = Some (endpoint_verdict R d e a)
+
+-- an interface that begins so is of a workload
+abbrev pub is_workload : List ℕ → Bool
+is_workload iface = starts_with nat_eq iface (codes "cali")
+
+-- a workload's interface without an endpoint is unknown, and each other one is free
+abbrev pub unknown_or_free : Bool → Option Decision
+unknown_or_free true = Some (record { verdict = Deny; why = reason.UnknownInterface })
+unknown_or_free false = None
+
+-- what is decided at an interface, by its endpoint if it has one
+abbrev pub side_verdict : Option Decision → List ℕ → Option Decision
+side_verdict (Some x) iface = Some x
+side_verdict None iface = unknown_or_free (is_workload iface)
+
+pub record Outcome : Type 0 where
+  pub verdict : Verdict
+  pub egress : Option Reason
+  pub ingress : Option Reason
+
+abbrev pub with_ingress : Option Reason → Option Decision → Outcome
+with_ingress egress None = record { verdict = Allow; egress = egress; ingress = None }
+with_ingress egress (Some x) = record { verdict = x.verdict; egress = egress; ingress = Some x.why }
+
+-- egress comes first, and where it denies there is no ingress
+abbrev pub both_sides : Option Decision → Option Decision → Outcome
+both_sides None ingress = with_ingress None ingress
+both_sides (Some x) ingress =
+    elim x.verdict [
+      | Allow ↦ with_ingress (Some x.why) ingress
+      | Deny ↦ record { verdict = Deny; egress = Some x.why; ingress = None }
+    ]
+
+-- a packet in state NEW
+abbrev pub packet_verdict : Resources → Packet → Outcome
+packet_verdict R a =
+    both_sides (side_verdict (verdict_at R Egress a (endpoint_at R a.iface_in)) a.iface_in)
+    (side_verdict (verdict_at R Ingress a (endpoint_at R a.iface_out)) a.iface_out)

@@ -1,0 +1,90 @@
+-- What a view says of the first packet of a connection: the policy reference read from the view's policies and profiles, as
+-- Calico's resource reference (`projectcalico.org/v3`) orders them. It knows no chain, mark or jump.
+use Rattle.std.specs.Prelude.{◌≡◌, ℕ, suc, Bool, true, false, List, [], ◌∷◌, map, Option, Some, None}
+use Rattle.std.specs.List.{flat_map}
+use Rattle.std.specs.FinMap as maps
+use Rattle.fx_model.specs.declared.ids.ItemKey.{ItemKey}
+use Rattle.fx_model.specs.declared.packet.State.TheVariants.{New}
+use Rattle.fx_model.specs.declared.packet.Packet.{Packet}
+use Rattle.fx_model.specs.declared.packet.Verdict.{Verdict}
+use Rattle.fx_model.specs.declared.chain.Reason.{Reason}
+use Rattle.fx_model.specs.declared.chain.Reason.TheVariants as reason
+use Rattle.fx_model.specs.declared.resources.Endpoint.{Endpoint}
+use Rattle.fx_model.specs.declared.resources.Resources.{Resources}
+use Rattle.fx_model.specs.declared.view.View.{View}
+use Rattle.fx_model.specs.declared.view.ViewRule.{ViewRule}
+use Rattle.fx_model.specs.declared.view.ViewTier.{ViewTier}
+use Rattle.fx_model.specs.declared.view.ViewPolicy.{ViewPolicy}
+use Rattle.fx_model.specs.declared.view.ViewProfile.{ViewProfile}
+use Rattle.fx_model.specs.declared.view.ViewEndpoint.{ViewEndpoint}
+use Rattle.fx_model.specs.Directions.{Direction, Ingress, Egress}
+use Rattle.fx_model.specs.Resources.{is_served}
+use Rattle.fx_model.specs.Views.{view_of}
+use Rattle.fx_model.specs.Tables.{Tables, tables_of, policy_side, profile_side, tiers_side}
+use Rattle.fx_model.specs.Policy.{MetRule, Tier, Listed, Missing, There, Decision, Outcome, tiers_verdict, profiles_verdict, side_verdict, both_sides, is_workload, packet_verdict}
+use Rattle.fx_model.specs.Machine.{Decides}
+
+-- a rule has no criteria yet, so it matches each packet
+abbrev pub view_rule_matches : ViewRule → Packet → Bool
+view_rule_matches r a = true
+
+abbrev pub met_view_rules : Packet → (ℕ → Reason) → ℕ → List ViewRule → List MetRule
+met_view_rules a why place [] = []
+met_view_rules a why place (r ∷ rs) =
+    record { why = why place; action = r.action; matches = view_rule_matches r a } ∷ met_view_rules a why (suc place) rs
+
+-- a policy that isn't in the view says nothing; a closed view has each that it names
+abbrev pub rules_of_policy : Direction → Packet → Option ViewPolicy → List MetRule
+rules_of_policy d a None = []
+rules_of_policy d a (Some p) = met_view_rules a (reason.Policy p.id) 1 (policy_side d p)
+
+abbrev pub view_tier : View → Direction → Packet → ViewTier → Tier
+view_tier v d a t = record { name = t.name; rules = flat_map (λ key. rules_of_policy d a (maps.get v.policies key)) t.policies }
+
+abbrev pub missing_or_there : Bool → List ℕ → List MetRule → Listed
+missing_or_there true name rules = Missing name
+missing_or_there false name rules = There rules
+
+abbrev pub listed_of : Direction → Packet → Option ViewProfile → Listed
+listed_of d a None = There []
+listed_of d a (Some p) = missing_or_there p.missing p.name (met_view_rules a (reason.Profile p.name) 1 (profile_side d p))
+
+abbrev pub view_listed : View → Direction → Packet → List ℕ → Listed
+view_listed v d a key = listed_of d a (maps.get v.profiles key)
+
+abbrev pub view_endpoint_verdict : View → Direction → ViewEndpoint → Packet → Decision
+view_endpoint_verdict v d e a =
+    tiers_verdict (map (view_tier v d a) (tiers_side d e)) (profiles_verdict (map (view_listed v d a) e.profiles))
+
+abbrev pub view_verdict_at : View → Direction → Packet → Option ViewEndpoint → Option Decision
+view_verdict_at v d a None = None
+view_verdict_at v d a (Some e) = Some (view_endpoint_verdict v d e a)
+
+-- a packet in state NEW
+abbrev pub view_verdict : View → Packet → Outcome
+view_verdict v a =
+    both_sides (side_verdict (view_verdict_at v Egress a (maps.get v.endpoints a.iface_in)) a.iface_in)
+    (side_verdict (view_verdict_at v Ingress a (maps.get v.endpoints a.iface_out)) a.iface_out)
+
+-- ---- where the tables say what the policy says
+
+-- each endpoint's interface begins as those of workloads do
+abbrev pub IsOnWorkloads : View → Type 0
+IsOnWorkloads v = (iface : List ℕ) (e : ViewEndpoint) → maps.get v.endpoints iface ≡ Some e → is_workload iface ≡ true
+
+-- the tables of a view give each first packet the view's verdict and reasons
+abbrev pub TablesAgree : Type 0
+TablesAgree =
+    (v : View) (a : Packet) → IsOnWorkloads v → a.state ≡ New
+    → let answer = view_verdict v a in Decides (tables_of v) a answer.verdict answer.egress answer.ingress
+
+-- served endpoints stand on workloads' interfaces, each on its own
+pub record IsServable (R : Resources) : Type 0 where
+  pub on_workloads : (k : ItemKey) (e : Endpoint) → maps.get R.endpoints k ≡ Some e → is_served R e ≡ true → is_workload e.iface ≡ true
+  pub apart : (k l : ItemKey) (e f : Endpoint) → maps.get R.endpoints k ≡ Some e → maps.get R.endpoints l ≡ Some f → is_served R e ≡ true → is_served R f ≡ true → e.iface ≡ f.iface → k ≡ l
+
+-- for all resources of which these are the tables, this is the policy reference's answer to a packet in state NEW
+abbrev pub IsPolicyAnswer : Tables → Packet → Verdict → Option Reason → Option Reason → Type 0
+IsPolicyAnswer tables a v egress ingress =
+    (R : Resources) → tables ≡ tables_of (view_of R) → IsServable R → a.state ≡ New
+    → let answer = packet_verdict R a in (v ≡ answer.verdict) × (egress ≡ answer.egress) × (ingress ≡ answer.ingress)
