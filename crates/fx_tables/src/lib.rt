@@ -1,0 +1,6 @@
+//! The modelled dataplane: IP sets and chains, changed by single operations as ipset(8) and iptables(8) make them.
+#![tactic(auto, using(fx_base::proofs::AtKey::reads))]
+
+pub use tables::Tables;
+
+mod tables;
