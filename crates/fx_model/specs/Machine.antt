@@ -1,6 +1,6 @@
 -- The packet machine: what the kernel does with a packet at the FORWARD hook, rule by rule. From iptables(8) (`-j`, `-g`,
 -- ACCEPT, DROP, RETURN, the end of a chain) and iptables-extensions(8) (matches on mark and connection state, and MARK).
-use Rattle.std.specs.Prelude.{◌≡◌, ℕ, suc, Bool, true, false, not, ◌||◌, ◌==◌, if◌then◌else◌, codes, List, [], ◌∷◌, ◌++◌, nat_eq, bit_and, bit_xor, slice_get, Option, Some, None}
+use Rattle.std.specs.Prelude.{◌≡◌, ℕ, suc, Bool, true, false, not, ◌||◌, ◌==◌, if◌then◌else◌, List, [], ◌∷◌, ◌++◌, nat_eq, bit_and, bit_xor, slice_get, Option, Some, None}
 use Rattle.std.specs.Int.{bit_not, w32}
 use Rattle.std.specs.List.{list_all, starts_with}
 use Rattle.std.specs.Str.{bytes_eq}

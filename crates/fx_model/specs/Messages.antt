@@ -76,18 +76,25 @@ set_changed sent e =
     let before = members_of (maps.get sent e.0) in SetDelta e.0 (set.items_minus e.1 before) (set.items_minus before e.1)
 
 -- the first of these that there is: sets that are new and sets with other members; policies, profiles and endpoints that
--- are new or other; endpoints, profiles, policies and sets that are gone
-abbrev pub next_message : View → View → Option Change
-next_message sent wanted =
+-- are new or other
+abbrev pub next_put : View → View → Option Change
+next_put sent wanted =
     or_else (option_map set_added (first_absent sent.sets wanted.sets))
     (or_else (option_map (set_changed sent.sets) (first_other members_eq.eq-value.it sent.sets wanted.sets))
     (or_else (option_map (λ e. PolicyPut e.0 e.1) (first_changed policy_eq.eq-value.it sent.policies wanted.policies))
     (or_else (option_map (λ e. ProfilePut e.0 e.1) (first_changed profile_eq.eq-value.it sent.profiles wanted.profiles))
-    (or_else (option_map (λ e. EndpointPut e.0 e.1) (first_changed endpoint_eq.eq-value.it sent.endpoints wanted.endpoints))
-    (or_else (option_map (λ e. EndpointGone e.0) (first_absent wanted.endpoints sent.endpoints))
+    (option_map (λ e. EndpointPut e.0 e.1) (first_changed endpoint_eq.eq-value.it sent.endpoints wanted.endpoints)))))
+
+-- then the first of endpoints, profiles, policies and sets that are gone
+abbrev pub next_gone : View → View → Option Change
+next_gone sent wanted =
+    or_else (option_map (λ e. EndpointGone e.0) (first_absent wanted.endpoints sent.endpoints))
     (or_else (option_map (λ e. ProfileGone e.0) (first_absent wanted.profiles sent.profiles))
     (or_else (option_map (λ e. PolicyGone e.0) (first_absent wanted.policies sent.policies))
-    (option_map (λ e. SetGone e.0) (first_absent wanted.sets sent.sets)))))))))
+    (option_map (λ e. SetGone e.0) (first_absent wanted.sets sent.sets))))
+
+abbrev pub next_message : View → View → Option Change
+next_message sent wanted = or_else (next_put sent wanted) (next_gone sent wanted)
 
 -- ---- one message after another
 
