@@ -14,3 +14,4 @@ pub mod Machine
 pub mod Walk
 pub mod Policy
 pub mod ViewPolicy
+pub mod Places
