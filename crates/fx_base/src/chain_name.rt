@@ -47,7 +47,8 @@ impl ChainName {
     }
 
     pub fn bytes(&self) -> &[u8]
-        ensures { result.now ≡ self.now }
+        ensures same { result.now ≡ self.now }
+        ensures short { length self.now ≤ 28 }
     {
         &self.held[..usize::from(self.len)]
     }

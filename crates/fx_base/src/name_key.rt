@@ -45,7 +45,8 @@ impl NameKey {
     }
 
     pub fn bytes(&self) -> &[u8]
-        ensures { result.now ≡ self.now }
+        ensures same { result.now ≡ self.now }
+        ensures short { length self.now ≤ 20 }
     {
         &self.held[..usize::from(self.len)]
     }

@@ -9,6 +9,9 @@ use Rattle.fx_model.specs.declared.resources.Item.TheVariants as item
 use Rattle.fx_model.specs.declared.resources.Update.{Update}
 use Rattle.fx_model.specs.declared.resources.Update.TheVariants as update
 use Rattle.fx_model.specs.declared.resources.Resources.{Resources}
+use Rattle.fx_model.specs.declared.view.View.{View}
+use Rattle.fx_model.specs.declared.view.ViewEndpoint.{ViewEndpoint}
+use Rattle.fx_model.specs.declared.view.ViewProfile.{ViewProfile}
 
 abbrev pub is_formed_profile_name : List ℕ → Bool
 is_formed_profile_name name = nat_le (length name) 19
@@ -25,3 +28,13 @@ is_formed (update.Put (key.Profile name) (item.Profile p)) = is_formed_profile_n
 
 abbrev pub are_formed : Resources → Bool
 are_formed R = list_all (λ x. is_formed_endpoint x.1) (maps.entries R.endpoints) && list_all (λ x. is_formed_profile_name x.0) (maps.entries R.profiles)
+
+-- what the view of such resources keeps
+abbrev pub is_formed_view_endpoint : List ℕ × ViewEndpoint → Bool
+is_formed_view_endpoint x = nat_le (length x.0) 15 && (starts_with nat_eq x.0 (codes "cali") && list_all is_formed_profile_name x.1.profiles)
+
+abbrev pub is_formed_view_profile : List ℕ × ViewProfile → Bool
+is_formed_view_profile x = is_formed_profile_name x.0
+
+abbrev pub is_formed_view : View → Bool
+is_formed_view v = list_all is_formed_view_endpoint (maps.entries v.endpoints) && list_all is_formed_view_profile (maps.entries v.profiles)

@@ -1,0 +1,5 @@
+//! Replays lines of updates: what is read, and what a node's dataplane becomes.
+#![tactic(auto, using(fx_base::proofs::AtKey::reads))]
+
+mod chains;
+mod rules;
