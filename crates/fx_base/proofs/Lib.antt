@@ -5,3 +5,5 @@ pub mod ExtendedLemmas
 pub mod KeyCases
 pub mod Giving
 pub mod Compose
+pub mod Found
+pub mod ExtendedKeys

@@ -1,2 +1,4 @@
 pub mod Orders
 pub mod Serving
+pub mod Writable
+pub mod Leading
