@@ -6,3 +6,5 @@ pub mod KeyCases
 pub mod AllEntries
 pub mod Giving
 pub mod Compose
+pub mod Found
+pub mod ExtendedKeys

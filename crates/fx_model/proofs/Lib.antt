@@ -1,3 +1,5 @@
 pub mod Orders
 pub mod Serving
 pub mod FormedLemmas
+pub mod Writable
+pub mod Leading

@@ -7,6 +7,7 @@ pub mod Resources
 pub mod Views
 pub mod Tables
 pub mod Closed
+pub mod Writing
 pub mod Messages
 pub mod Told
 pub mod Ranks
