@@ -1,0 +1,4 @@
+pub mod Forms
+pub mod Fields
+pub mod Puts
+pub mod Refusals

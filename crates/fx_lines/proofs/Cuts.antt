@@ -1,0 +1,206 @@
+-- How lines are cut off the front of some bytes.
+use Rattle.std.proofs.Common.{◌≡◌, ◌≢◌, ◌⊎◌, inl, inr, ⊎_elim, ◌<◌, ◌≤◌, ◌+◌, ℕ, suc, List, [], ◌∷◌, ◌++◌, length, slice_index, Bool, true, false, Option, Some, None, refl, sym, ◌∙◌, ap, subst, arith, length-append, append_assoc}
+use Rattle.std.proofs.Common.{cond, Result, Ok, Err, OnErr}
+use Rattle.std.proofs.lemmas.List.{append-nil, get_or_append_left}
+use Rattle.std.proofs.lemmas.Bool.{cases_lt}
+use Rattle.std.proofs.lemmas.Bool.Decides.{nat_tests}
+use Rattle.fx_base.specs.Streams.{Gives}
+use Rattle.fx_base.proofs.Compose.{Gives-more, Gives-none}
+use Rattle.fx_lines.specs.Lines.{lines_of, HasNoNewline, has_newline, to_last_newline, answerable}
+use Rattle.fx_lines.specs.Reading.{IsNext, line_if, AreLines, IsCut, HasRead}
+
+-- a front without a newline, by its places
+pub HasNoNewline-from_places : (bytes : List ℕ) → ((k : ℕ) → k < length bytes → slice_index bytes k ≢ 10) → HasNoNewline bytes
+HasNoNewline-from_places [] none = tt
+HasNoNewline-from_places (b ∷ bytes) none = (none 0 (omega arith), HasNoNewline-from_places bytes (λ k small. none (suc k) (omega arith)))
+
+pub lines_of-first : (line rest : List ℕ) → HasNoNewline line → lines_of (line ++ 10 ∷ rest) ≡ line ∷ lines_of rest
+unfolding lines_of
+lines_of-first [] rest none = refl
+lines_of-first (b ∷ line) rest none =
+    let e = lines_of-first line rest none.1 in
+    let n : b ≢ 10 = none.0 in
+    grind (arith, nat_tests, e)
+
+pub lines_of-last : (line : List ℕ) → HasNoNewline line → 0 < length line → lines_of line ≡ line ∷ []
+unfolding lines_of
+lines_of-last [] none some = absurd (omega arith)
+lines_of-last (b ∷ []) none some =
+    let n : b ≢ 10 = none.0 in
+    grind (arith, nat_tests)
+lines_of-last (b ∷ c ∷ line) none some =
+    let e = lines_of-last (c ∷ line) none.1 (omega arith) in
+    let n : b ≢ 10 = none.0 in
+    grind (arith, nat_tests, e)
+
+-- a place before `at` is before `from` or not
+pub places_below : (P : ℕ → Type 0) (from at : ℕ) → ((k : ℕ) → k < from → P k) → ((k : ℕ) → from ≤ k → k < at → P k) → (k : ℕ) → k < at → P k
+places_below P from at below above k small = ⊎_elim (below k) (λ high. above k high small) (cases_lt k from)
+
+-- no newline stands before a place
+abbrev pub NoneBefore : List ℕ → ℕ → Type 0
+NoneBefore bytes at = (k : ℕ) → k < at → slice_index bytes k ≢ 10
+
+pub none_before : (held bytes : List ℕ) (from at : ℕ) → bytes ≡ held → NoneBefore held from → ((k : ℕ) → from ≤ k → k < at → slice_index bytes k ≢ 10) → NoneBefore held at
+none_before held bytes from at same below above =
+    places_below (λ k. slice_index held k ≢ 10) from at below (subst (λ (l : List ℕ). (k : ℕ) → from ≤ k → k < at → slice_index l k ≢ 10) same above)
+
+pub none_in_front : (line rest : List ℕ) → NoneBefore (line ++ rest) (length line) → HasNoNewline line
+none_in_front [] rest none = tt
+none_in_front (b ∷ line) rest none = (none 0 (omega arith), none_in_front line rest (λ k small. none (suc k) (omega arith)))
+
+pub none_goes_on : (bytes more : List ℕ) (at : ℕ) → at ≤ length bytes → NoneBefore bytes at → NoneBefore (bytes ++ more) at
+none_goes_on bytes more at within none k small = subst (λ (x : ℕ). x ≢ 10) (sym (get_or_append_left bytes more 0 k (omega arith))) (none k small)
+
+pub line_is_next : (before piece held line now : List ℕ) (ended : Bool) (at : ℕ) → held ≡ before ++ piece → held ≡ line ++ 10 ∷ now → length line ≡ at → NoneBefore held at → IsNext before piece (Some line) now ended
+line_is_next before piece held line now ended at whole is long none = (
+  none_in_front line (10 ∷ now) (subst (λ (n : ℕ). NoneBefore (line ++ 10 ∷ now) n) (sym long) (subst (λ (l : List ℕ). NoneBefore l at) is none)),
+  inl (sym whole ∙ is),
+)
+
+pub last_is_next : (before piece held : List ℕ) (found : Bool) (line now : List ℕ) (ended : Bool) → held ≡ before ++ piece
+    → (found ≡ true → (line ≡ held) × (0 < length line)) → (found ≡ false → held ≡ []) → now ≡ [] → ended ≡ true → HasNoNewline held
+    → IsNext before piece (line_if found line) now ended
+last_is_next before piece held false line now ended whole some none empty end clear = (sym whole ∙ none refl, empty, end)
+last_is_next before piece held true line now ended whole some none empty end clear =
+    let is = some refl in
+    (subst HasNoNewline (sym is.0) clear, inr (sym whole ∙ sym is.0, is.1, empty, end))
+
+AreLines-none : AreLines [] []
+AreLines-none = record { goes = λ more. refl; whole = λ more. refl }
+
+has_newline-line : (line more : List ℕ) → has_newline (line ++ 10 ∷ more) ≡ true
+has_newline-line [] more = refl
+has_newline-line (b ∷ line) more =
+    let e = has_newline-line line more in
+    grind (arith, nat_tests, e)
+
+to_last_newline-line : (line more : List ℕ) → to_last_newline (line ++ 10 ∷ more) ≡ line ++ 10 ∷ to_last_newline more
+unfolding to_last_newline
+to_last_newline-line [] more = refl
+to_last_newline-line (b ∷ line) more =
+    ap (λ (t : Bool). cond t (b ∷ to_last_newline (line ++ 10 ∷ more)) []) (has_newline-line (b ∷ line) more)
+    ∙ ap (λ (l : List ℕ). b ∷ l) (to_last_newline-line line more)
+
+AreLines-more : (front line : List ℕ) (lines : List (List ℕ)) → AreLines front lines → HasNoNewline line → AreLines (front ++ (line ++ 10 ∷ [])) (lines ++ line ∷ [])
+AreLines-more front line lines was none = record {
+  goes = λ m.
+      ap lines_of (append_assoc front (line ++ 10 ∷ []) m)
+      ∙ was.goes ((line ++ 10 ∷ []) ++ m)
+      ∙ ap (λ (l : List ℕ). lines ++ lines_of l) (append_assoc line (10 ∷ []) m)
+      ∙ ap (λ (l : List (List ℕ)). lines ++ l) (lines_of-first line m none)
+      ∙ sym (append_assoc lines (line ∷ []) (lines_of m));
+  whole = λ m.
+      ap to_last_newline (append_assoc front (line ++ 10 ∷ []) m)
+      ∙ was.whole ((line ++ 10 ∷ []) ++ m)
+      ∙ ap (λ (l : List ℕ). front ++ to_last_newline l) (append_assoc line (10 ∷ []) m)
+      ∙ ap (λ (l : List ℕ). front ++ l) (to_last_newline-line line m ∙ sym (append_assoc line (10 ∷ []) (to_last_newline m)))
+      ∙ sym (append_assoc front (line ++ 10 ∷ []) (to_last_newline m));
+}
+
+-- before the first line
+pub HasRead-none : (left : Option (List ℕ)) (given : ℕ) (ended : Bool) → HasRead left left given given [] ended []
+HasRead-none left given ended = record { taken = []; gives = Gives-none left given; cut = record { front = []; whole = refl; cut = inl AreLines-none } }
+
+-- one line more
+pub IsCut-more : (taken held piece : List ℕ) (ended ended_now : Bool) (lines : List (List ℕ)) (line now : List ℕ) → IsCut taken held ended lines → (ended ≡ true → piece ≡ []) → IsNext held piece (Some line) now ended_now
+    → IsCut (taken ++ piece) now ended_now (lines ++ line ∷ [])
+IsCut-more taken held piece ended ended_now lines line now was quiet (none, next) = more was.cut next
+  where
+    joined : taken ++ piece ≡ was.front ++ (held ++ piece)
+    joined = ap (λ (l : List ℕ). l ++ piece) was.whole ∙ append_assoc was.front held piece
+
+    more : AreLines was.front lines ⊎ ((lines_of was.front ≡ lines) × (held ≡ []) × (ended ≡ true))
+        → (held ++ piece ≡ line ++ 10 ∷ now) ⊎ ((held ++ piece ≡ line) × (0 < length line) × (now ≡ []) × (ended_now ≡ true)) → IsCut (taken ++ piece) now ended_now (lines ++ line ∷ [])
+    more (inl cut) (inl is) = record {
+      front = was.front ++ (line ++ 10 ∷ []);
+      whole = joined ∙ ap (λ (l : List ℕ). was.front ++ l) (is ∙ sym (append_assoc line (10 ∷ []) now)) ∙ sym (append_assoc was.front (line ++ 10 ∷ []) now);
+      cut = inl (AreLines-more was.front line lines cut none);
+    }
+    more (inl cut) (inr last) = record {
+      front = was.front ++ line;
+      whole = joined ∙ ap (λ (l : List ℕ). was.front ++ l) last.0 ∙ sym (append-nil (was.front ++ line)) ∙ ap (λ (l : List ℕ). (was.front ++ line) ++ l) (sym last.2);
+      cut = inr (cut.goes line ∙ ap (λ (l : List (List ℕ)). lines ++ l) (lines_of-last line none last.1), last.2, last.3);
+    }
+    more (inr (all, empty, end)) (inl is) =
+        let nothing : held ++ piece ≡ [] = ap (λ (l : List ℕ). l ++ piece) empty ∙ quiet end in
+        absurd (omega (arith, ap length is, ap length nothing, length-append line (10 ∷ now)))
+    more (inr (all, empty, end)) (inr last) =
+        let nothing : held ++ piece ≡ [] = ap (λ (l : List ℕ). l ++ piece) empty ∙ quiet end in
+        absurd (omega (arith, last.1, ap length last.0, ap length nothing))
+
+-- What is answerable of what was taken by now begins with the lines.
+pub answerable-lines : (taken held piece : List ℕ) (ended ended_now : Bool) (lines : List (List ℕ)) → IsCut taken held ended lines → (ended ≡ true → (piece ≡ []) × (ended_now ≡ true))
+    → (rest : List (List ℕ)) × (lines_of (answerable ended_now (taken ++ piece)) ≡ lines ++ rest)
+answerable-lines taken held piece ended ended_now lines was quiet = by_cut was.cut
+  where
+    joined : taken ++ piece ≡ was.front ++ (held ++ piece)
+    joined = ap (λ (l : List ℕ). l ++ piece) was.whole ∙ append_assoc was.front held piece
+
+    at_end : (e : Bool) → AreLines was.front lines → (rest : List (List ℕ)) × (lines_of (answerable e (was.front ++ (held ++ piece))) ≡ lines ++ rest)
+    at_end true cut = (lines_of (held ++ piece), cut.goes (held ++ piece))
+    at_end false cut = (lines_of (to_last_newline (held ++ piece)), ap lines_of (cut.whole (held ++ piece)) ∙ cut.goes (to_last_newline (held ++ piece)))
+
+    by_cut : AreLines was.front lines ⊎ ((lines_of was.front ≡ lines) × (held ≡ []) × (ended ≡ true)) → (rest : List (List ℕ)) × (lines_of (answerable ended_now (taken ++ piece)) ≡ lines ++ rest)
+    by_cut (inl cut) = subst (λ (l : List ℕ). (rest : List (List ℕ)) × (lines_of (answerable ended_now l) ≡ lines ++ rest)) (sym joined) (at_end ended_now cut)
+    by_cut (inr (all, empty, end)) =
+        let is = quiet end in
+        let whole : taken ++ piece ≡ was.front = joined ∙ ap (λ (l : List ℕ). was.front ++ (l ++ piece)) empty ∙ ap (λ (l : List ℕ). was.front ++ l) is.0 ∙ append-nil was.front in
+        ([], ap (λ (e : Bool). lines_of (answerable e (taken ++ piece))) is.1 ∙ ap lines_of whole ∙ all ∙ sym (append-nil lines))
+
+-- the front is these lines
+pub lines_of-front : (taken held : List ℕ) (ended : Bool) (lines : List (List ℕ)) (was : IsCut taken held ended lines) → lines_of was.front ≡ lines
+unfolding lines_of
+lines_of-front taken held ended lines was = elim was.cut as (λ _. lines_of was.front ≡ lines) [
+  | inl cut ↦ ap lines_of (sym (append-nil was.front)) ∙ cut.goes [] ∙ append-nil lines
+  | inr all ↦ all.0
+]
+
+-- the end
+pub IsCut-end : (taken held piece : List ℕ) (ended ended_now : Bool) (lines : List (List ℕ)) (now : List ℕ) → IsCut taken held ended lines → IsNext held piece None now ended_now → lines_of (taken ++ piece) ≡ lines
+IsCut-end taken held piece ended ended_now lines now was is =
+    ap lines_of (ap (λ (l : List ℕ). l ++ piece) was.whole ∙ append_assoc was.front held piece ∙ ap (λ (l : List ℕ). was.front ++ l) is.0 ∙ append-nil was.front)
+    ∙ lines_of-front taken held ended lines was
+
+-- a reader that has met the end takes nothing
+pub nothing_given : (left left_now : Option (List ℕ)) (given given_now : ℕ) (piece : List ℕ) → Gives left left_now given given_now piece → given_now ≡ given → piece ≡ []
+nothing_given left left_now given given_now [] gives same = refl
+nothing_given left left_now given given_now (b ∷ piece) gives same = absurd (omega (arith, gives.count))
+
+module _ (left_before left left_now : Option (List ℕ)) (given_before given given_now : ℕ) (held piece now : List ℕ) (ended ended_now : Bool) (lines : List (List ℕ)) where
+  pub HasRead-more : (line : List ℕ) → HasRead left_before left given_before given held ended lines → Gives left left_now given given_now piece → (ended ≡ true → given_now ≡ given) → IsNext held piece (Some line) now ended_now
+      → HasRead left_before left_now given_before given_now now ended_now (lines ++ line ∷ [])
+  HasRead-more line was gives quiet next = record {
+    taken = was.taken ++ piece;
+    gives = Gives-more left_before left left_now given_before given given_now was.taken piece was.gives gives;
+    cut = IsCut-more was.taken held piece ended ended_now lines line now was.cut (λ end. nothing_given left left_now given given_now piece gives (quiet end)) next;
+  }
+
+  pub HasRead-end : HasRead left_before left given_before given held ended lines → Gives left left_now given given_now piece → IsNext held piece None now ended_now
+      → (bytes : List ℕ) × Gives left_before left_now given_before given_now bytes × (lines_of bytes ≡ lines) × (ended_now ≡ true)
+  HasRead-end was gives next = (
+    was.taken ++ piece,
+    Gives-more left_before left left_now given_before given given_now was.taken piece was.gives gives,
+    IsCut-end was.taken held piece ended ended_now lines now was.cut next,
+    next.2,
+  )
+
+-- a line was found, or the end
+pub next_line : (held piece line now : List ℕ) (found ended : Bool) → found ≡ true → IsNext held piece (line_if found line) now ended → IsNext held piece (Some line) now ended
+next_line held piece line now found ended is next = subst (λ (b : Bool). IsNext held piece (line_if b line) now ended) is next
+
+pub next_end : (held piece line now : List ℕ) (found ended : Bool) → found ≡ false → IsNext held piece (line_if found line) now ended → IsNext held piece None now ended
+next_end held piece line now found ended is next = subst (λ (b : Bool). IsNext held piece (line_if b line) now ended) is next
+
+-- a line takes at least one byte
+pub next_shrinks : (left left_now : Option (List ℕ)) (given given_now : ℕ) (held piece line now : List ℕ) (ended_now : Bool) → Gives left left_now given given_now piece → IsNext held piece (Some line) now ended_now
+    → given + length now < given_now + length held
+next_shrinks left left_now given given_now held piece line now ended_now gives (none, inl is) =
+    omega (arith, gives.count, ap length is, length-append held piece, length-append line (10 ∷ now))
+next_shrinks left left_now given given_now held piece line now ended_now gives (none, inr last) =
+    omega (arith, gives.count, ap length last.0, last.1, ap length last.2, length-append held piece)
+
+-- a fact that holds is a clause on an error
+pub OnErr-always : {T E X : Type 0} (r : Result T E) → X → OnErr r X
+OnErr-always (Ok x) fact = tt
+OnErr-always (Err e) fact = fact

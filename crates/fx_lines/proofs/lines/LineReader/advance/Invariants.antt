@@ -1,0 +1,19 @@
+use Rattle.std.proofs.Common.{◌≡◌, ◌≢◌, ◌<◌, ◌≤◌, ◌+◌, ◌*◌, ◌-◌, ◌^◌, ℕ, List, ◌++◌, length, slice_index, cond, true}
+use Rattle.fx_base.specs.Streams.{Gives}
+use Rattle.fx_lines.specs.Held.{rest_of}
+use Rattle.fx_lines.proofs.lines.LineReader.advance.Given as goal
+
+abbrev pub invariant-loop-self : goal.invariant-loop-self
+invariant-loop-self g l = record {
+  seen : (piece : List ℕ) × (rest_of l.self ≡ rest_of l.fn.self ++ piece)
+      × Gives (g.S.Source.left l.fn.source) (g.S.Source.left l.source) (g.S.Source.given l.fn.source) (g.S.Source.given l.source) piece;
+  given : g.S.Source.given l.source ≡ l.self.taken;
+  ended : g.S.Source.ended l.source ≡ l.self.ended;
+  quiet : l.fn.self.ended ≡ true → (l.self.ended ≡ true) × (g.S.Source.given l.source ≡ g.S.Source.given l.fn.source);
+  later : g.S.Source.faults l.fn.source ≤ g.S.Source.faults l.source;
+  within : l.seen ≤ length (rest_of l.self);
+  none : (k : ℕ) → k < l.seen → slice_index (rest_of l.self) k ≢ 10;
+}
+
+abbrev pub decreases-loop-self : goal.decreases-loop-self
+decreases-loop-self g l = 2 * (2 ^ 32 - l.self.taken) + cond l.self.ended 0 1

@@ -1,0 +1,8 @@
+//! Cuts a source into lines, and reads what each line says.
+#![tactic(auto)]
+
+pub use commands::{Command, read_command};
+pub use lines::{LineFault, LineReader};
+
+mod commands;
+mod lines;

@@ -1,0 +1,248 @@
+//! Reads a source piece by piece, and cuts what it gives into lines.
+ghost use Rattle.std.specs.Prelude.{◌≡◌, ◌≢◌, ◌<◌, ◌≤◌, ◌+◌, ◌-◌, ◌^◌, ◌==◌, ℕ, List, [], ◌∷◌, ◌++◌, length, slice_index, vec_len, IfOk, OnOk, OnErr, IsErrOf, false, true};
+ghost use Rattle.std.specs.Io.KnownBytes.{IsAtEnd};
+ghost use Rattle.fx_base.specs.Streams.{Gives, Rose};
+ghost use Rattle.fx_lines.specs.Reading.{IsNext, line_if};
+ghost use Rattle.fx_lines.specs.declared.lines.LineFault.TheVariants as fault;
+
+use fx_base::Source;
+use std::alloc::{AllocError, Global};
+
+/// How many bytes one read asks for at most.
+const PIECE: usize = 8192;
+
+/// The input has fewer bytes than this, so a line's number fits 32 bits.
+const LIMIT: u64 = 1 << 32;
+
+/// Why no line is given.
+#[derive(Clone, Copy, Debug, PartialEq, Eq)]
+pub enum LineFault {
+    ReadFault,
+    InputTooLong,
+    Memory,
+}
+
+impl From<AllocError> for LineFault {
+    ghost from_gives = { λ _ e. e ≡ fault.Memory };
+
+    fn from(_: AllocError) -> Self {
+        LineFault::Memory
+    }
+}
+
+/// What was taken of a source and not given as a line yet, behind the line that was given last.
+#[derive(Drop)]
+pub struct LineReader {
+    held: Vec<u8>,
+    line: usize,
+    end: usize,
+    start: usize,
+    pub taken: u64,
+    pub ended: bool,
+    ghost line_in_range: { line ≤ end },
+    ghost end_in_range: { end ≤ vec_len held },
+    ghost start_in_range: { start ≤ vec_len held },
+    ghost within: { vec_len held ≤ taken },
+    ghost limited: { taken ≤ 2 ^ 32 },
+    ghost open_at_limit: { taken ≡ 2 ^ 32 → ended ≡ false },
+}
+
+impl LineReader {
+    ghost use Rattle.fx_lines.specs.Held.{rest_of, line_of};
+
+    pub fn new(alloc: Global) -> LineReader
+        ensures { (rest_of result ≡ []) × (result.taken ≡ 0) × (result.ended ≡ false) }
+    {
+        LineReader {
+            held: Vec::new(alloc),
+            line: 0,
+            end: 0,
+            start: 0,
+            taken: 0,
+            ended: false,
+        }
+    }
+
+    /// The line that was given last, without its newline.
+    pub fn line(&self) -> &[u8]
+        ensures { result.now ≡ line_of self.now }
+    {
+        &self.held[self.line..self.end]
+    }
+
+    /// Goes on to the next line, and tells whether there is one.
+    pub fn advance<S: Source>(&mut self, source: &mut S) -> Result<bool, LineFault>
+        requires given { S.given source.old ≡ self.old.taken }
+        requires ended { S.ended source.old ≡ self.old.ended }
+        ensures next { IfOk result (λ found. (piece : List ℕ) × Gives (S.left source.old) (S.left source.new) (S.given source.old) (S.given source.new) piece
+            × IsNext (rest_of self.old) piece (line_if found (line_of self.new)) (rest_of self.new) self.new.ended) }
+        ensures stopped { OnErr result ((piece : List ℕ) × Gives (S.left source.old) (S.left source.new) (S.given source.old) (S.given source.new) piece) }
+        ensures given { OnOk result (S.given source.new ≡ self.new.taken) }
+        ensures ended { OnOk result (S.ended source.new ≡ self.new.ended) }
+
+        // Behind the end nothing more is taken.
+        ensures quiet { self.old.ended ≡ true → (S.given source.new ≡ S.given source.old) × (S.ended source.new ≡ true) }
+        ensures later { S.faults source.old ≤ S.faults source.new }
+
+        // Each fault has its cause.
+        ensures read_fault { IsErrOf result LineFault.ReadFault → Rose (S.faults source.old) (S.faults source.new) × (S.given source.new < 2 ^ 32) }
+        ensures too_long { IsErrOf result LineFault.InputTooLong → (S.given source.new ≡ 2 ^ 32) × (S.ended source.new ≡ false) }
+        ensures short { OnOk result (S.given source.new < 2 ^ 32) }
+    {
+        let mut seen = 0;
+        loop {
+            if self.taken == LIMIT {
+                return Err(LineFault::InputTooLong);
+            }
+            let at = newline_from(self.rest(), seen);
+            if at < self.rest().len() {
+                self.cut(at);
+                return Ok(true);
+            }
+            if self.ended {
+                return Ok(self.cut_last());
+            }
+            seen = at;
+            self.fill(source)?;
+        }
+    }
+
+    // What isn't given yet.
+    fn rest(&self) -> &[u8]
+        ensures { result.now ≡ rest_of self.now }
+    {
+        &self.held[self.start..]
+    }
+
+    // Gives the bytes up to a newline, which goes.
+    fn cut(&mut self, at: usize)
+        requires within { at < length (rest_of self.old) }
+        requires newline { slice_index (rest_of self.old) at ≡ 10 }
+        ensures line { rest_of self.old ≡ line_of self.new ++ 10 ∷ rest_of self.new }
+        ensures len { length (line_of self.new) ≡ at }
+        ensures same { (self.new.taken ≡ self.old.taken) × (self.new.ended ≡ self.old.ended) }
+    {
+        self.line = self.start;
+        self.end = self.start + at;
+        self.start = self.end + 1;
+    }
+
+    // Gives all that is left, if it is something.
+    fn cut_last(&mut self) -> bool
+        ensures some { result ≡ true → (line_of self.new ≡ rest_of self.old) × (0 < length (line_of self.new)) }
+        ensures none { result ≡ false → rest_of self.old ≡ [] }
+        ensures rest { rest_of self.new ≡ [] }
+        ensures same { (self.new.taken ≡ self.old.taken) × (self.new.ended ≡ self.old.ended) }
+    {
+        self.line = self.start;
+        self.end = self.held.len();
+        self.start = self.end;
+        self.line < self.end
+    }
+
+    // Takes one more piece. What is left moves to the front first, once for a line, however long it grows.
+    fn fill<S: Source>(&mut self, source: &mut S) -> Result<(), LineFault>
+        requires given { S.given source.old ≡ self.old.taken }
+        requires below { self.old.taken < 2 ^ 32 }
+        ensures ok { OnOk result ((piece : List ℕ) × (rest_of self.new ≡ rest_of self.old ++ piece)
+            × Gives (S.left source.old) (S.left source.new) (S.given source.old) (S.given source.new) piece
+            × (self.new.ended ≡ (length piece == 0))) }
+        ensures stopped { OnErr result ((piece : List ℕ) × Gives (S.left source.old) (S.left source.new) (S.given source.old) (S.given source.new) piece) }
+        ensures given { S.given source.new ≡ self.new.taken }
+        ensures ended { OnOk result (S.ended source.new ≡ self.new.ended) }
+        ensures later { S.faults source.old ≤ S.faults source.new }
+        ensures read_fault { IsErrOf result LineFault.ReadFault → Rose (S.faults source.old) (S.faults source.new) × (S.given source.new < 2 ^ 32) }
+        ensures not_too_long { IsErrOf result LineFault.InputTooLong → ⊥ }
+    {
+        self.compact();
+        let mut buf = [0u8; PIECE];
+        let room = (LIMIT - self.taken).min(PIECE as u64) as usize;
+        let Ok(n) = source.read(&mut buf[..room]) else {
+            return Err(LineFault::ReadFault);
+        };
+        self.taken += n as u64;
+        self.ended = n == 0;
+        self.held.extend_from_slice(&buf[..n])?;
+        Ok(())
+    }
+
+    // Lets the lines go that were given.
+    fn compact(&mut self)
+        ensures rest { rest_of self.new ≡ rest_of self.old }
+        ensures start { self.new.start ≡ 0 }
+        ensures same { (self.new.taken ≡ self.old.taken) × (self.new.ended ≡ self.old.ended) }
+    {
+        self.line = 0;
+        self.end = 0;
+        if self.start > 0 {
+            self.held.drain(..self.start);
+            self.start = 0;
+        }
+    }
+}
+
+// Where the first newline at or behind a place stands, or else the length.
+fn newline_from(bytes: &[u8], from: usize) -> usize
+    requires { from ≤ length bytes.now }
+    ensures bound { (from ≤ result) × (result ≤ length bytes.now) }
+    ensures none { (k : ℕ) → from ≤ k → k < result → slice_index bytes.now k ≢ 10 }
+    ensures found { result < length bytes.now → slice_index bytes.now result ≡ 10 }
+{
+    let mut at = from;
+    while at < bytes.len() && bytes[at] != b'\n' {
+        at += 1;
+    }
+    at
+}
+
+#[cfg(test)]
+mod tests {
+    use super::*;
+    use fx_base::{MemSource, SureSource};
+    use std::test::Fail;
+
+    // The lines, each with a bar behind it.
+    fn barred(alloc: Global, input: &[u8], piece: u32) -> Result<Vec<u8>, Fail>
+        requires { 0 < piece }
+    {
+        let mut source = SureSource::new(input.to_vec(alloc)?, piece);
+        let mut reader = LineReader::new(alloc);
+        let mut found = Vec::new(alloc);
+        for _ in 0..10 {
+            let Ok(true) = reader.advance(&mut source) else {
+                break;
+            };
+            found.extend_from_slice(reader.line())?;
+            found.push(b'|')?;
+        }
+        Ok(found)
+    }
+
+    #[test]
+    fn lines_are_cut_whatever_the_pieces(rt: HostRuntime) -> Result<(), Fail> {
+        let alloc = rt.alloc();
+        let inputs: [(&[u8], &[u8]); 4] = [
+            (b"", b""),
+            (b"\n", b"|"),
+            (b"a\n", b"a|"),
+            (b"ab\r\n\n\ncde", b"ab\r|||cde|"),
+        ];
+        for (input, want) in inputs {
+            for piece in [1, 2, 3, 4096] {
+                assert_eq!(rt; barred(alloc, input, piece)?.as_slice(), want);
+            }
+        }
+        Ok(())
+    }
+
+    #[test]
+    fn a_failing_read_is_told(rt: HostRuntime) -> Result<(), Fail> {
+        let alloc = rt.alloc();
+        let mut source = MemSource::new(b"a\nb\nc".to_vec(alloc)?, 3, vec![in alloc; 2]?);
+        let mut reader = LineReader::new(alloc);
+        assert_eq!(rt; reader.advance(&mut source), Ok(true));
+        assert_eq!(rt; reader.line(), b"a".as_slice());
+        assert_eq!(rt; reader.advance(&mut source), Err(LineFault::ReadFault));
+        Ok(())
+    }
+}

@@ -1,0 +1,6 @@
+use Rattle.std.proofs.Common.{◌≡◌, ◌++◌, take}
+use Rattle.fx_print.specs.PacketTexts.{hops_of, hops_text}
+use Rattle.fx_print.proofs.packets.push_hops.Given as goal
+
+abbrev pub invariant-loop-hop : goal.invariant-loop-hop
+invariant-loop-hop l = l.line.items ≡ l.fn.line.items ++ hops_text (hops_of (take l.hop-index l.path))

@@ -1,0 +1,5 @@
+pub mod Texts
+pub mod MemberTexts
+pub mod MessageTexts
+pub mod TableTexts
+pub mod PacketTexts

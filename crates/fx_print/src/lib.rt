@@ -1,0 +1,13 @@
+//! What is written: refusals, messages, tables and packets as text.
+#![tactic(auto, using(fx_base::proofs::AtKey::reads))]
+
+pub use messages::message_text;
+pub use packets::{Hop, packet_texts};
+pub use tables::tables_text;
+pub use texts::{flushed_text, refusal_text, usage_text};
+
+mod members;
+mod messages;
+mod packets;
+mod tables;
+mod texts;

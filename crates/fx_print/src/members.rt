@@ -1,0 +1,66 @@
+//! Members of sets as text.
+ghost use Rattle.std.specs.Prelude.{◌≡◌, ◌++◌, OnOk};
+ghost use Rattle.fx_print.specs.MemberTexts.{address_text, protocol_text, member_text, type_text};
+
+use crate::texts::push_decimal;
+use fx_base::{Ipv4, Memory, Proto, SetKind, SetName};
+use fx_model::Member;
+
+/// `a.b.c.d/len`, or `a.b.c.d,proto:port`.
+pub fn push_member(line: &mut Vec<u8>, member: Member) -> Result<(), Memory>
+    ensures { OnOk result (line.new.items ≡ line.old.items ++ member_text member) }
+{
+    match member {
+        Member::Net(net) => {
+            push_address(line, net.addr)?;
+            line.extend_from_slice(b"/")?;
+            push_decimal(line, u64::from(net.len))
+        }
+        Member::PortAt {
+            addr,
+            proto,
+            number,
+        } => {
+            push_address(line, addr)?;
+            line.extend_from_slice(b",")?;
+            push_protocol(line, proto)?;
+            line.extend_from_slice(b":")?;
+            push_decimal(line, u64::from(number))
+        }
+    }
+}
+
+fn push_address(line: &mut Vec<u8>, addr: Ipv4) -> Result<(), Memory>
+    ensures { OnOk result (line.new.items ≡ line.old.items ++ address_text addr) }
+{
+    let number = u64::from(addr.0);
+    push_decimal(line, number / 0x100_0000)?;
+    line.extend_from_slice(b".")?;
+    push_decimal(line, number / 0x1_0000 % 256)?;
+    line.extend_from_slice(b".")?;
+    push_decimal(line, number / 0x100 % 256)?;
+    line.extend_from_slice(b".")?;
+    push_decimal(line, number % 256)
+}
+
+fn push_protocol(line: &mut Vec<u8>, proto: Proto) -> Result<(), Memory>
+    ensures { OnOk result (line.new.items ≡ line.old.items ++ protocol_text proto) }
+{
+    match proto.0 {
+        6 => line.extend_from_slice(b"tcp")?,
+        17 => line.extend_from_slice(b"udp")?,
+        132 => line.extend_from_slice(b"sctp")?,
+        number => push_decimal(line, u64::from(number))?,
+    }
+    Ok(())
+}
+
+/// The type of a set, by its name.
+pub fn type_name(name: &SetName) -> &'static [u8]
+    ensures { result.now ≡ type_text name.now }
+{
+    match name.kind() {
+        SetKind::Nets => b"hash:net",
+        SetKind::Ports => b"hash:ip,port",
+    }
+}

@@ -1,0 +1,79 @@
+//! Numbers and plain answers as text.
+ghost use Rattle.std.specs.Prelude.{◌≡◌, ◌++◌, ◌∷◌, OnOk, IfOk, decimal};
+ghost use Rattle.fx_print.specs.Texts.{detail_of, refusal_line, flushed_line, usage_line};
+
+use fx_json::Refusal;
+use fx_base::{Memory, Text};
+use itoa::Buffer;
+use std::alloc::Global;
+
+pub fn push_decimal(line: &mut Vec<u8>, number: u64) -> Result<(), Memory>
+    ensures { OnOk result (line.new.items ≡ line.old.items ++ decimal number) }
+{
+    let mut buffer = Buffer::new();
+    line.extend_from_slice(buffer.format(number).as_bytes())?;
+    Ok(())
+}
+
+/// The line of a refused line, whose number is from 1.
+pub fn refusal_text(alloc: Global, line: u64, refusal: &Refusal) -> Result<Text, Memory>
+    ensures { IfOk result (λ text. text ≡ refusal_line line refusal.now) }
+{
+    let mut bytes = Vec::from_slice(alloc, b"refused ")?;
+    push_decimal(&mut bytes, line)?;
+    bytes.extend_from_slice(b" ")?;
+    push_decimal(&mut bytes, refusal.number())?;
+    bytes.extend_from_slice(b" ")?;
+    bytes.extend_from_slice(refusal.name())?;
+    push_detail(&mut bytes, refusal)?;
+    bytes.extend_from_slice(b"\n")?;
+    Ok(Text::from_vec(bytes))
+}
+
+fn push_detail(line: &mut Vec<u8>, refusal: &Refusal) -> Result<(), Memory>
+    ensures { OnOk result (line.new.items ≡ line.old.items ++ detail_of refusal.now) }
+{
+    match refusal {
+        Refusal::BadJson | Refusal::BadLine => Ok(()),
+        Refusal::MissingField { path }
+        | Refusal::BadField { path }
+        | Refusal::Unsupported { path } => push_word(line, path.bytes()),
+    }
+}
+
+/// Two pieces, one behind the other.
+pub fn push_both(line: &mut Vec<u8>, first: &[u8], second: &[u8]) -> Result<(), Memory>
+    ensures { OnOk result (line.new.items ≡ line.old.items ++ (first.now ++ second.now)) }
+{
+    line.extend_from_slice(first)?;
+    line.extend_from_slice(second)?;
+    Ok(())
+}
+
+/// A space and a word.
+pub fn push_word(line: &mut Vec<u8>, word: &[u8]) -> Result<(), Memory>
+    ensures { OnOk result (line.new.items ≡ line.old.items ++ (32 ∷ word.now)) }
+{
+    line.extend_from_slice(b" ")?;
+    line.extend_from_slice(word)?;
+    Ok(())
+}
+
+/// The line at a flush's end.
+pub fn flushed_text(alloc: Global, count: u64) -> Result<Text, Memory>
+    ensures { IfOk result (λ text. text ≡ flushed_line count) }
+{
+    let mut bytes = Vec::from_slice(alloc, b"flushed ")?;
+    push_decimal(&mut bytes, count)?;
+    bytes.extend_from_slice(b"\n")?;
+    Ok(Text::from_vec(bytes))
+}
+
+pub fn usage_text(alloc: Global) -> Result<Text, Memory>
+    ensures { IfOk result (λ text. text ≡ usage_line) }
+{
+    Text::new(
+        alloc,
+        b"usage: felix-replay --node NAME [--soak SEED --count N]\n",
+    )
+}
