@@ -6,3 +6,4 @@ pub mod ViewClosed
 pub mod Apart
 pub mod NextCases
 pub mod Nearer
+pub mod StepClosed
