@@ -7,3 +7,4 @@ pub mod Apart
 pub mod NextCases
 pub mod Nearer
 pub mod StepClosed
+pub mod Flushes
