@@ -8,3 +8,5 @@ pub mod Giving
 pub mod Compose
 pub mod Found
 pub mod ExtendedKeys
+pub mod Taken
+pub mod Counting

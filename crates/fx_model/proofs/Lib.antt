@@ -3,3 +3,9 @@ pub mod Serving
 pub mod FormedLemmas
 pub mod Writable
 pub mod Leading
+pub mod ViewClosed
+pub mod Apart
+pub mod NextCases
+pub mod Nearer
+pub mod StepClosed
+pub mod Flushes

@@ -9,6 +9,7 @@ pub mod Tables
 pub mod Closed
 pub mod Writing
 pub mod Messages
+pub mod Flushing
 pub mod Told
 pub mod Ranks
 pub mod Machine
