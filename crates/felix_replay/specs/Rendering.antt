@@ -1,8 +1,13 @@
 -- How directions and owners of rules are told.
-use Rattle.std.specs.Prelude.{ℕ, Bool, true, false}
+use Rattle.std.specs.Prelude.{ℕ, List, [], ◌∷◌, ◌++◌, Bool, true, false}
 use Rattle.fx_model.specs.Directions.{Direction, Ingress, Egress}
+use Rattle.fx_model.specs.declared.view.ViewTier.{ViewTier}
+use Rattle.fx_model.specs.declared.chain.Match.TheVariants as match
+use Rattle.fx_model.specs.declared.chain.Target.TheVariants as target
 use Rattle.fx_model.specs.declared.chain.Reason.{Reason}
 use Rattle.fx_model.specs.declared.chain.Reason.TheVariants as reason
+use Rattle.fx_model.specs.declared.chain.ChainRule.{ChainRule}
+use Rattle.fx_model.specs.Tables.{plain, told, set_mark, clear_mark, is_set, is_clear, accept_mark, pass_mark, policy_chain, policy_jumps, profile_chain, endpoint_chain, end_of}
 use Rattle.felix_replay.specs.declared.rules.Owner.{Owner}
 use Rattle.felix_replay.specs.declared.rules.Owner.TheVariants.{Policy, Profile}
 
@@ -14,3 +19,24 @@ direction_of false = Egress
 abbrev pub reason_at : Owner → ℕ → Reason
 reason_at (Policy id) place = reason.Policy id.now place
 reason_at (Profile name) place = reason.Profile name.now place
+
+-- ---- the parts of an endpoint's chain
+
+abbrev pub policy_jump : Direction → List ℕ → List ChainRule
+policy_jump d key = plain (is_clear pass_mark ∷ []) (target.Jump (policy_chain d key)) ∷ plain (is_set accept_mark ∷ []) target.Return ∷ []
+
+abbrev pub one_tier : Direction → ViewTier → List ChainRule
+one_tier d t = plain [] (clear_mark pass_mark) ∷ (policy_jumps d t.policies ++ told (is_clear pass_mark ∷ []) target.Drop (reason.EndOfTier t.name) ∷ [])
+
+abbrev pub profile_jump : Direction → List ℕ → List ChainRule
+profile_jump d key = plain [] (target.Jump (profile_chain d key)) ∷ plain (is_set accept_mark ∷ []) target.Return ∷ []
+
+abbrev pub state_rules : List ChainRule
+state_rules =
+    told (match.State true ∷ []) target.Accept reason.Established
+    ∷ told (match.State false ∷ []) target.Drop reason.Invalid
+    ∷ plain [] (clear_mark accept_mark)
+    ∷ []
+
+abbrev pub dispatch_goto : Direction → List ℕ → ChainRule
+dispatch_goto d iface = plain (match.Iface (end_of d) iface false ∷ []) (target.Goto (endpoint_chain d iface))

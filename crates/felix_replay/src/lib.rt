@@ -3,3 +3,4 @@
 
 mod chains;
 mod rules;
+mod words;

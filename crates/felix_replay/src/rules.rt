@@ -10,6 +10,7 @@ use fx_model::{
 use std::alloc::Global;
 
 pub const ACCEPT: u32 = 0x10000;
+
 pub const PASS: u32 = 0x20000;
 
 /// Whose rules are rendered.
