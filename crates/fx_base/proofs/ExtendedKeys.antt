@@ -47,10 +47,10 @@ module _ {X : Type 0} where
   at_extended P m [] before h q x e = before q x e
   at_extended P m (f ∷ fs) before h q x e =
       at_extended P (maps.insert m f.0 f.1) fs (λ k v is.
-          elim (at_insert m f.0 f.1 k v is) as (λ _. P k v) [
-            | inl here ↦ subst (λ (j : List ℕ). P j v) (sym here.0) (subst (P f.0) here.1 h.0)
-            | inr there ↦ before k v there
-          ]) h.1 q x e
+      elim (at_insert m f.0 f.1 k v is) as (λ _. P k v) [
+        | inl here ↦ subst (λ (j : List ℕ). P j v) (sym here.0) (subst (P f.0) here.1 h.0)
+        | inr there ↦ before k v there
+      ]) h.1 q x e
 
 -- each key of es gives its entries, and among them one by the name that it gives
 module _ {X Y : Type 0} (f : List ℕ × X → List (List ℕ × Y)) (name : List ℕ → List ℕ) (gives : (m : Named Y) (e : List ℕ × X) → maps.contains_key (extended m (f e)) (name e.0) ≡ true) where
@@ -60,5 +60,5 @@ module _ {X Y : Type 0} (f : List ℕ × X → List (List ℕ × Y)) (name : Lis
       let split = extended-append m (f e) (flat_map f es) in
       ap (λ n. maps.contains_key n (name k)) split
       ∙ among_cases (λ q. maps.contains_key (extended (extended m (f e)) (flat_map f es)) (name q) ≡ true) k e.0 (map (λ e. e.0) es) h
-          (there_extended (extended m (f e)) (flat_map f es) (name e.0) (gives m e))
-          (λ later. there_by_name (extended m (f e)) es k later)
+      (there_extended (extended m (f e)) (flat_map f es) (name e.0) (gives m e))
+      (λ later. there_by_name (extended m (f e)) es k later)

@@ -1,12 +1,11 @@
 -- A map with keys of bytes, but at one key as another map is there.
-use Rattle.std.proofs.Common.{◌≡◌, inl, inr, ◌⊎◌, ℕ, Bool, true, false, cond, List, Option, Some, None, is_some, refl, sym, ap, ◌∙◌, subst}
-use Rattle.std.specs.declared.cmp.Ordering.{Ordering}
+use Rattle.std.proofs.Common.{◌≡◌, ℕ, Bool, true, false, cond, List, Option, Some, None, refl, sym, ap, ◌∙◌, subst}
 use Rattle.std.specs.declared.cmp.Ordering.TheVariants.{Less, Equal, Greater}
 use Rattle.std.specs.Ordering.{nat_cmp, is_eq, eq_by_cmp}
 use Rattle.std.specs.Cmp.Lexicographic.{slice_cmp}
 use Rattle.std.specs.FinMap as map
 use Rattle.fx_base.specs.Extended.{put_or_removed, taken_from}
-use Rattle.fx_base.proofs.AtKey.{get_insert, get_remove, get_remove_same, same_by_get, insert_same_bytes}
+use Rattle.fx_base.proofs.AtKey.{get_insert, get_remove, same_by_get, insert_same_bytes}
 use Rattle.fx_base.proofs.KeyCases.{bytes_exact}
 
 module _ {X : Type 0} where
@@ -35,8 +34,8 @@ module _ {X : Type 0} where
   pub put_back : (m : map.FinMap (slice_cmp nat_cmp) X) (k : List ℕ) (x : X) → map.get m k ≡ Some x → map.insert (map.remove m k) k x ≡ m
   put_back m k x is =
       same_by_get (map.insert (map.remove m k) k x) (map.insert m k x) (λ q.
-          get_insert (map.remove m k) k x q
-          ∙ ap (cond (eq_by_cmp (slice_cmp nat_cmp) q k) (Some x)) (get_remove m k q)
-          ∙ hidden (eq_by_cmp (slice_cmp nat_cmp) q k) (Some x) None (map.get m q)
-          ∙ sym (get_insert m k x q))
+      get_insert (map.remove m k) k x q
+      ∙ ap (cond (eq_by_cmp (slice_cmp nat_cmp) q k) (Some x)) (get_remove m k q)
+      ∙ hidden (eq_by_cmp (slice_cmp nat_cmp) q k) (Some x) None (map.get m q)
+      ∙ sym (get_insert m k x q))
       ∙ insert_same_bytes m k x is

@@ -1,6 +1,6 @@
 -- Two maps with keys of bytes: when none of their entries differ, and how they come nearer by one key.
-use Rattle.std.proofs.Common.{◌≡◌, ℕ, ◌+◌, Bool, true, false, cond, not, ◌&&◌, List, [], ◌∷◌, Option, Some, None, is_some, refl, sym, ap, ◌∙◌, subst, arith}
-use Rattle.std.specs.List.{AllByRecursion, find, count_by}
+use Rattle.std.proofs.Common.{◌≡◌, ℕ, ◌+◌, Bool, true, false, cond, not, ◌&&◌, List, Option, Some, None, is_some, refl, sym, ap, ◌∙◌, arith}
+use Rattle.std.specs.List.{find, count_by}
 use Rattle.std.specs.Option.{option_eq}
 use Rattle.std.specs.Ordering.{nat_cmp, eq_by_cmp}
 use Rattle.std.specs.Cmp.{eq_by_cmp_equiv}
@@ -112,18 +112,18 @@ module _ {X : Type 0} (eq : X → X → Bool) where
       let none : list.find (slice_cmp nat_cmp) k rest ≡ None = sym (maps.get-entries (maps.remove n k) k) ∙ get_remove_same n k in
       let split : maps.entries n ≡ list.put (slice_cmp nat_cmp) k x rest = ap maps.entries (sym (put_back n k x is)) ∙ maps.entries-insert nat_list_cmp_total (maps.remove n k) k x in
       let after : count_by (is_changed eq m') (maps.entries n) ≡ 0 + count_by (is_changed eq m') rest =
-          ap (count_by (is_changed eq m')) split ∙ count-put (slice_cmp nat_cmp) (is_changed eq m') k x rest none
-          ∙ ap (λ o. cond (not (option_eq eq o (Some x))) 1 0 + count_by (is_changed eq m') rest) (get_insert_same m k x)
-          ∙ ap (λ b. cond (not b) 1 0 + count_by (is_changed eq m') rest) (itself x) in
+      ap (count_by (is_changed eq m')) split ∙ count-put (slice_cmp nat_cmp) (is_changed eq m') k x rest none
+      ∙ ap (λ o. cond (not (option_eq eq o (Some x))) 1 0 + count_by (is_changed eq m') rest) (get_insert_same m k x)
+      ∙ ap (λ b. cond (not b) 1 0 + count_by (is_changed eq m') rest) (itself x) in
       let before : count_by (is_changed eq m) (maps.entries n) ≡ 1 + count_by (is_changed eq m) rest =
-          ap (count_by (is_changed eq m)) split ∙ count-put (slice_cmp nat_cmp) (is_changed eq m) k x rest none
-          ∙ ap (λ b. cond (not b) 1 0 + count_by (is_changed eq m) rest) differs in
+      ap (count_by (is_changed eq m)) split ∙ count-put (slice_cmp nat_cmp) (is_changed eq m) k x rest none
+      ∙ ap (λ b. cond (not b) 1 0 + count_by (is_changed eq m) rest) differs in
       let alike : count_by (is_changed eq m') rest ≡ count_by (is_changed eq m) rest =
-          count_alike (slice_cmp nat_cmp) (is_changed eq m') (is_changed eq m) k
-          (away m m' k (λ q other. get_insert m k x q ∙ ap (λ b. cond b (Some x) (maps.get m q)) other)) rest none in
+      count_alike (slice_cmp nat_cmp) (is_changed eq m') (is_changed eq m) k
+      (away m m' k (λ q other. get_insert m k x q ∙ ap (λ b. cond b (Some x) (maps.get m q)) other)) rest none in
       let gone : count_by (is_absent n) (maps.entries m') ≡ count_by (is_absent n) (maps.entries m) =
-          ap (count_by (is_absent n)) (maps.entries-insert nat_list_cmp_total m k x)
-          ∙ count-put_failing (slice_cmp nat_cmp) (λ q. not (maps.contains_key n q)) k x (maps.entries m) (ap (λ o. not (is_some o)) is) in
+      ap (count_by (is_absent n)) (maps.entries-insert nat_list_cmp_total m k x)
+      ∙ count-put_failing (slice_cmp nat_cmp) (λ q. not (maps.contains_key n q)) k x (maps.entries m) (ap (λ o. not (is_some o)) is) in
       nearer_put _ _ _ _ _ _ 0 after before alike gone
 
   pub apart_gone : (m n : Named X) (k : List ℕ) (y : X) → maps.get n k ≡ None → maps.get m k ≡ Some y → apart eq (maps.remove m k) n + 1 ≡ apart eq m n
@@ -133,11 +133,11 @@ module _ {X : Type 0} (eq : X → X → Bool) where
       let fresh : list.find (slice_cmp nat_cmp) k (maps.entries m') ≡ None = sym (maps.get-entries m' k) ∙ get_remove_same m k in
       let split : maps.entries m ≡ list.put (slice_cmp nat_cmp) k y (maps.entries m') = ap maps.entries (sym (put_back m k y there)) ∙ maps.entries-insert nat_list_cmp_total m' k y in
       let alike : count_by (is_changed eq m') (maps.entries n) ≡ count_by (is_changed eq m) (maps.entries n) =
-          count_alike (slice_cmp nat_cmp) (is_changed eq m') (is_changed eq m) k
-          (away m m' k (λ q other. get_remove m k q ∙ ap (λ b. cond b None (maps.get m q)) other)) (maps.entries n) none in
+      count_alike (slice_cmp nat_cmp) (is_changed eq m') (is_changed eq m) k
+      (away m m' k (λ q other. get_remove m k q ∙ ap (λ b. cond b None (maps.get m q)) other)) (maps.entries n) none in
       let before : count_by (is_absent n) (maps.entries m) ≡ 1 + count_by (is_absent n) (maps.entries m') =
-          ap (count_by (is_absent n)) split ∙ count-put (slice_cmp nat_cmp) (is_absent n) k y (maps.entries m') fresh
-          ∙ ap (λ o. cond (not (is_some o)) 1 0 + count_by (is_absent n) (maps.entries m')) is in
+      ap (count_by (is_absent n)) split ∙ count-put (slice_cmp nat_cmp) (is_absent n) k y (maps.entries m') fresh
+      ∙ ap (λ o. cond (not (is_some o)) 1 0 + count_by (is_absent n) (maps.entries m')) is in
       nearer_gone _ _ _ _ alike before
 
   -- a key that differs is taken over, and then one fewer differs

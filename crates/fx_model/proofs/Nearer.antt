@@ -1,5 +1,5 @@
 -- Where there is no next message the views are one, and each message leaves one difference fewer.
-use Rattle.std.proofs.Common.{◌≡◌, ℕ, ◌+◌, true, List, Option, Some, None, option_map, refl, sym, ap, ◌∙◌, subst, arith}
+use Rattle.std.proofs.Common.{◌≡◌, ℕ, ◌+◌, true, List, Option, Some, None, option_map, ap, ◌∙◌, arith}
 use Rattle.fx_base.specs.Same.{same_set}
 use Rattle.fx_model.specs.declared.view.View.{View}
 use Rattle.fx_model.specs.declared.view.ViewPolicy.{ViewPolicy}
@@ -15,7 +15,7 @@ use Rattle.fx_model.specs.contracts.member.MemberSetPartialEq.TheImpl as members
 use Rattle.fx_model.specs.contracts.member.MemberSetEq.TheImpl.Laws as members_laws
 use Rattle.fx_model.specs.SameMember.{same_member}
 use Rattle.fx_model.specs.SameViews.{same_policy, same_profile, same_endpoint}
-use Rattle.fx_model.specs.Messages.{Members, Change, set_added, set_changed, PolicyPut, ProfilePut, EndpointPut, EndpointGone, ProfileGone, PolicyGone, SetGone, first_absent, first_changed, first_other, or_else, next_put, next_gone, next_message, step_at, apart, differences}
+use Rattle.fx_model.specs.Messages.{Members, Change, set_added, set_changed, PolicyPut, ProfilePut, EndpointPut, EndpointGone, ProfileGone, PolicyGone, SetGone, or_else, next_put, next_gone, next_message, step_at, differences}
 use Rattle.fx_model.proofs.Apart.{none_changed, none_other, same_maps, unchanged, not_other, not_absent, apart-taken, changed_differs, absent_differs, other_differs, gone_differs}
 use Rattle.fx_model.proofs.NextCases.{or_none, no_put, none_gone, Cases, by_cases}
 

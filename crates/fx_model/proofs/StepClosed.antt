@@ -1,5 +1,5 @@
 -- Each message keeps the sent view closed: what is named is put before what names it, and goes after it.
-use Rattle.std.proofs.Common.{◌≡◌, ℕ, Bool, true, false, not, List, [], ◌∷◌, Option, Some, None, is_some, refl, sym, ap, ◌∙◌, subst}
+use Rattle.std.proofs.Common.{◌≡◌, ℕ, true, not, List, [], ◌∷◌, Some, None, is_some, refl, sym, ap, ◌∙◌}
 use Rattle.std.specs.FinMap as maps
 use Rattle.fx_base.specs.Extended.{taken_from}
 use Rattle.fx_base.proofs.Taken.{taken_cases}
@@ -86,8 +86,8 @@ module _ (s w : View) (closed : IsClosedView s) (aim : IsClosedView w) where
       record {
         endpoints = λ iface e. taken_cases (λ o. o ≡ Some e → EndpointIsClosed r e) s.endpoints w.endpoints k iface
             (λ _ is. endpoint_kept w r
-                (there_by_get s.policies w.policies (none_changed policy_eq.eq-value.it same_policy s.policies w.policies policies))
-                (there_by_get s.profiles w.profiles (none_changed profile_eq.eq-value.it same_profile s.profiles w.profiles profiles)) e (aim.endpoints iface e is))
+            (there_by_get s.policies w.policies (none_changed policy_eq.eq-value.it same_policy s.policies w.policies policies))
+            (there_by_get s.profiles w.profiles (none_changed profile_eq.eq-value.it same_profile s.profiles w.profiles profiles)) e (aim.endpoints iface e is))
             (λ is. endpoint_kept s r (λ q h. h) (λ q h. h) e (closed.endpoints iface e is));
       }
 

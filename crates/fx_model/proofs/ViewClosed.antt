@@ -1,5 +1,5 @@
 -- The view of any resources is closed: each profile that an endpoint lists is put in.
-use Rattle.std.proofs.Common.{◌≡◌, ℕ, true, List, [], ◌∷◌, ◌++◌, map, Some, None, refl, sym, ap, ◌∙◌, subst}
+use Rattle.std.proofs.Common.{◌≡◌, ℕ, List, [], ◌∷◌, map, Some, None, sym, ◌∙◌, subst}
 use Rattle.std.specs.List.{AllByRecursion, flat_map}
 use Rattle.std.specs.FinMap as maps
 use Rattle.fx_base.specs.Extended.{extended}
@@ -38,7 +38,7 @@ module _ (R : Resources) where
       let first = extended m (map (profile_entry R) x.1.profiles) in
       let split = sym (profiles_both R m x.1.profiles (flat_map all xs)) in
       subst (λ (n : Named ViewProfile). AllByRecursion (λ (y : ItemKey × Endpoint). AreThere n (map profile_key y.1.profiles)) (x ∷ xs)) split
-        (there_later first (map (profile_entry R) (flat_map all xs)) (map profile_key x.1.profiles) (names_there m x.1.profiles), listed_there first xs)
+      (there_later first (map (profile_entry R) (flat_map all xs)) (map profile_key x.1.profiles) (names_there m x.1.profiles), listed_there first xs)
 
 endpoint_closed : (v : View) (key : ItemKey) (e : Endpoint) → AreThere v.profiles (map profile_key e.profiles) → EndpointIsClosed v (view_endpoint key e)
 endpoint_closed v (key.Endpoint ns name) e h = record { ingress = tt; egress = tt; profiles = h }

@@ -1,4 +1,4 @@
--- Where messages lead, told one after another.
+-- Where the messages of Felix's event sequencer lead, told one after another.
 use Rattle.std.specs.Prelude.{List, [], ◌∷◌}
 use Rattle.fx_model.specs.declared.view.View.{View}
 use Rattle.fx_model.specs.Messages.{Change, step_at}

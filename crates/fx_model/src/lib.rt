@@ -1,6 +1,8 @@
 //! What resources, views, messages, chains and packets are, and what one makes of another.
 #![tactic(auto, using(fx_base::proofs::AtKey::reads))]
 
+pub mod laws;
+
 pub use chain::{ChainRule, End, Match, Reason, Tag, Target};
 pub use ids::{ItemKey, Key, PolicyId};
 pub use item_map::ItemMap;
