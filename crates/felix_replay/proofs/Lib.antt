@@ -1,1 +1,2 @@
 pub mod WholeChain
+pub mod Writing

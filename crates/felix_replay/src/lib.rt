@@ -2,5 +2,6 @@
 #![tactic(auto, using(fx_base::proofs::AtKey::reads))]
 
 mod chains;
+mod driver;
 mod rules;
 mod words;

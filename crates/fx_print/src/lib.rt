@@ -10,4 +10,6 @@ mod members;
 mod messages;
 mod packets;
 mod tables;
+#[cfg(test)]
+mod tests;
 mod texts;

@@ -1,5 +1,5 @@
 use super::*;
-use fx_model::{Item, ItemKey, Key};
+use fx_model::Item;
 use std::test::Fail;
 
 // What a line is told as.
@@ -262,28 +262,6 @@ fn endpoints_are_read_in_their_form(rt: HostRuntime) -> Result<(), Fail> {
             want,
             "{members}"
         );
-    }
-    Ok(())
-}
-
-#[test]
-fn an_endpoint_keeps_what_was_put(rt: HostRuntime) -> Result<(), Fail> {
-    let alloc = rt.alloc();
-    let line =
-        b"{\"put\":{\"apiVersion\":\"projectcalico.org/v3\",\"kind\":\"WorkloadEndpoint\",\"metadata\":{\"name\":\"w1\",\"namespace\":\"a\"},\"spec\":{\"node\":\"n1\",\"interfaceName\":\"cali1\",\"profiles\":[\"open\",\"shut\"]}}}";
-    let answer = read_command(alloc, line)?;
-    assert_eq!(rt; told(&answer), "endpoint");
-    let Ok(Command::Update(Update::Put { key, item })) = answer else {
-        return Ok(());
-    };
-    if let Item::Endpoint(endpoint) = item {
-        assert_eq!(rt; endpoint.node.bytes(), b"n1".as_slice());
-        assert_eq!(rt; endpoint.iface.bytes(), b"cali1".as_slice());
-        assert_eq!(rt; endpoint.profiles.as_slice().len(), 2);
-    }
-    if let Key::Item(ItemKey::Endpoint { ns, name }) = key {
-        assert_eq!(rt; ns.bytes(), b"a".as_slice());
-        assert_eq!(rt; name.bytes(), b"w1".as_slice());
     }
     Ok(())
 }
