@@ -1,2 +1,3 @@
 pub mod WholeChain
 pub mod Writing
+pub mod Runs

@@ -1,2 +1,6 @@
 pub mod Rendering
 pub mod Words
+pub mod Run
+pub mod Output
+pub mod Stops
+pub mod Writing

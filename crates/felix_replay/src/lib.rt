@@ -4,4 +4,6 @@
 mod chains;
 mod driver;
 mod rules;
+mod sending;
+mod stop;
 mod words;

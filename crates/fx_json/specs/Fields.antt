@@ -1,9 +1,9 @@
 -- The members of a JSON object, as `serde_json` reads one. A member whose value is null counts as absent, as in Kubernetes' API
 -- conventions, and an absent object is empty.
-use Rattle.std.specs.Prelude.{◌+◌, ℕ, List, [], ◌∷◌, length, Bool, true, false, ◌&&◌, ◌||◌, ◌==◌, if◌then◌else◌, Option, Some, None, is_some, is_none, option_and_then, codes}
+use Rattle.std.specs.Prelude.{◌+◌, ℕ, List, [], ◌∷◌, Bool, true, false, ◌&&◌, ◌==◌, if◌then◌else◌, Option, Some, None, is_some, is_none, option_and_then}
 use Rattle.std.specs.Str.{bytes_eq}
 use Rattle.serde_json.specs.Data.{Data, null, boolean, number, string, array, object, Items, no_items, item, Members, no_members, member}
-use Rattle.serde_json.specs.Find.{get, as_null, as_bool, as_str, as_array, as_object}
+use Rattle.serde_json.specs.Find.{get, as_null, as_str, as_array, as_object}
 
 -- what comes next, where there is something
 abbrev pub and_then : {A B : Type 0} → Option A → (A → Option B) → Option B

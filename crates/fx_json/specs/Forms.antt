@@ -1,6 +1,6 @@
 -- The forms of names, interfaces and addresses. From Calico's resource reference (`projectcalico.org/v3`), Kubernetes' names of
 -- objects, and the textual form of IPv4 addresses of RFC 6943, section 3.1.1.
-use Rattle.std.specs.Prelude.{◌+◌, ◌-◌, ◌*◌, ℕ, List, [], ◌∷◌, length, take, drop, Bool, true, false, ◌&&◌, ◌||◌, ◌==◌, nat_eq, nat_le, nat_lt, not, slice_index, if◌then◌else◌, Option, Some, None, option_map, position, codes}
+use Rattle.std.specs.Prelude.{◌+◌, ◌-◌, ◌*◌, ℕ, List, [], ◌∷◌, length, take, drop, Bool, false, ◌&&◌, ◌||◌, ◌==◌, nat_eq, nat_le, not, slice_index, if◌then◌else◌, Option, Some, None, option_map, position, codes}
 use Rattle.std.specs.List.{list_all, starts_with, ends_with}
 use Rattle.std.specs.Char.{is_ascii_digit, is_ascii_lowercase, is_ascii_uppercase}
 

@@ -1,6 +1,6 @@
 -- The resource that a put holds, field by field in the order of Calico's resource reference (`projectcalico.org/v3`): a Profile with
 -- plain rules, or a WorkloadEndpoint. Members that aren't named here are ignored, and every other value is no put that is read.
-use Rattle.std.specs.Prelude.{ℕ, List, [], ◌∷◌, Bool, true, false, ◌&&◌, ◌||◌, is_some, if◌then◌else◌, Option, Some, None, codes}
+use Rattle.std.specs.Prelude.{ℕ, List, Bool, true, false, ◌||◌, is_some, if◌then◌else◌, Option, Some, None, codes}
 use Rattle.serde_json.specs.Data.{Data, Items, Members}
 use Rattle.serde_json.specs.Find.{as_str, as_object}
 use Rattle.fx_model.specs.declared.ids.ItemKey.{ItemKey}

@@ -15,9 +15,13 @@ fn told(answer: &Result<Command, Refusal>) -> &'static str {
         },
         Err(Refusal::BadJson) => "bad json",
         Err(Refusal::BadLine) => "bad line",
-        Err(Refusal::Unsupported(Member::Put)) => "put",
-        Err(Refusal::Unsupported(Member::Delete)) => "delete",
-        Err(Refusal::Unsupported(Member::Packet)) => "packet",
+        Err(Refusal::Unsupported { path }) => match path.bytes() {
+            b"put" => "put",
+            b"delete" => "delete",
+            b"packet" => "packet",
+            _ => "another path",
+        },
+        Err(Refusal::MissingField { .. } | Refusal::BadField { .. }) => "a field",
     }
 }
 

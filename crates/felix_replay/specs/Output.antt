@@ -1,0 +1,120 @@
+-- The output of a replay: what each line writes, and what stands between two lines. The rules that it follows are told in the
+-- repository's README.
+use Rattle.std.specs.Prelude.{ℕ, ◌+◌, ◌-◌, ◌^◌, min, List, [], ◌∷◌, ◌++◌, map, length, Bool, true, false, ◌&&◌, not, Option, Some, None, Result, Ok, Err, codes, if◌then◌else◌}
+use Rattle.std.specs.List.{concat, list_any}
+use Rattle.std.specs.FinMap as maps
+use Rattle.fx_model.specs.contracts.ids.ItemKeyPartialEq.TheImpl as item_eq
+use Rattle.fx_model.specs.declared.ids.Key.TheVariants as key
+use Rattle.fx_model.specs.declared.resources.Item.TheVariants as item
+use Rattle.fx_model.specs.declared.resources.Update.{Update}
+use Rattle.fx_model.specs.declared.resources.Update.TheVariants as update
+use Rattle.fx_model.specs.declared.resources.Resources.{Resources}
+use Rattle.fx_model.specs.declared.view.View.{View}
+use Rattle.fx_model.specs.Resources.{after, is_local}
+use Rattle.fx_model.specs.Views.{view_of, empty_view}
+use Rattle.fx_model.specs.Tables.{tables_of}
+use Rattle.fx_model.specs.Messages.{Change, flush}
+use Rattle.fx_json.specs.declared.refusal.Refusal.{Refusal}
+use Rattle.fx_json.specs.declared.refusal.Refusal.TheVariants.{Unsupported}
+use Rattle.fx_lines.specs.declared.commands.Command.{Command}
+use Rattle.fx_lines.specs.declared.commands.Command.TheVariants as command
+use Rattle.fx_lines.specs.Lines.{lines_of}
+use Rattle.fx_lines.specs.Commands.{command_of}
+use Rattle.fx_print.specs.Texts.{refusal_line, flushed_line}
+use Rattle.fx_print.specs.MessageTexts.{message_line}
+use Rattle.fx_print.specs.TableTexts.{table_lines}
+use Rattle.felix_replay.specs.Run.{state_after, written}
+
+-- what stands between two lines: the resources, the view that was sent, how many lines there were and whether one was refused
+pub record State : Type 0 where
+  pub resources : Resources
+  pub sent : View
+  pub lines : ℕ
+  pub refused : Bool
+
+-- before the first line of the node of this name
+abbrev pub start : List ℕ → State
+start node = record {
+    resources = record { node = node; in_sync = false; endpoints = maps.empty; profiles = maps.empty };
+    sent = empty_view;
+    lines = 0;
+    refused = false;
+  }
+
+-- ---- what a line says of the resources
+
+-- a put of a local endpoint beside another one; one local endpoint can be there
+abbrev pub is_second_local : Resources → Update → Bool
+is_second_local R update.InSync = false
+is_second_local R (update.Put (key.Item k) (item.Endpoint e)) = is_local R e && list_any (λ x. is_local R x.1 && not (item_eq.eq-value.it x.0 k)) (maps.entries R.endpoints)
+is_second_local R (update.Put (key.Item k) (item.Profile p)) = false
+is_second_local R (update.Put (key.Profile name) x) = false
+
+abbrev pub update_answer : Resources → Update → Result Command Refusal
+update_answer R u = if is_second_local R u then Err (Unsupported (codes "put")) else Ok (command.Update u)
+
+abbrev pub checked : Resources → Result Command Refusal → Result Command Refusal
+checked R (Ok command.Blank) = Ok command.Blank
+checked R (Ok command.Tables) = Ok command.Tables
+checked R (Ok command.Flush) = Ok command.Flush
+checked R (Ok (command.Update u)) = update_answer R u
+checked R (Err r) = Err r
+
+-- the command or the refusal of a line
+abbrev pub answer_of : State → List ℕ → Result Command Refusal
+answer_of s line = checked s.resources (command_of line)
+
+-- ---- what a line does
+
+abbrev pub accepted : State → Command → State
+accepted s command.Blank = s
+accepted s command.Tables = s
+accepted s command.Flush = record s { sent = view_of s.resources }
+accepted s (command.Update u) = record s { resources = after s.resources u }
+
+-- a refused line changes nothing but the numbers
+abbrev pub step : State → Result Command Refusal → State
+step s (Ok c) = accepted (record s { lines = s.lines + 1 }) c
+step s (Err r) = record s { lines = s.lines + 1; refused = true }
+
+abbrev pub next : State → List ℕ → State
+next s line = step s (answer_of s line)
+
+-- ---- what a line writes
+
+-- the line of a message, where there is one
+abbrev pub first_text : Option Change → List ℕ
+first_text None = []
+first_text (Some c) = message_line c
+
+-- the messages from one view to another
+abbrev pub messages_text : View → View → List ℕ
+messages_text sent wanted = concat (map message_line (flush sent wanted))
+
+-- how many there are, as far as 64 bits tell
+abbrev pub told_count : View → View → ℕ
+told_count sent wanted = min (length (flush sent wanted)) (2 ^ 64 - 1)
+
+abbrev pub flush_text : View → View → List ℕ
+flush_text sent wanted = messages_text sent wanted ++ flushed_line (told_count sent wanted)
+
+abbrev pub command_text : State → Command → List ℕ
+command_text s command.Blank = []
+command_text s command.Tables = concat (table_lines (tables_of s.sent))
+command_text s command.Flush = flush_text s.sent (view_of s.resources)
+command_text s (command.Update u) = []
+
+abbrev pub answer_text : State → Result Command Refusal → List ℕ
+answer_text s (Ok c) = command_text s c
+answer_text s (Err r) = refusal_line (s.lines + 1) r
+
+abbrev pub text : State → List ℕ → List ℕ
+text s line = answer_text s (answer_of s line)
+
+-- ---- the whole output
+
+abbrev pub output : List ℕ → List ℕ → List ℕ
+output node bytes = written next text (start node) (lines_of bytes)
+
+abbrev pub is_refused : List ℕ → List ℕ → Bool
+is_refused node bytes = (state_after next (start node) (lines_of bytes)).refused
