@@ -1,4 +1,6 @@
 pub mod Keyed
+pub mod MemSink
+pub mod MemSource
 pub mod Padded
 pub mod Same
 pub mod Set

@@ -25,6 +25,7 @@ mod chain_map;
 mod chain_name;
 mod counts;
 mod exact;
+mod failing;
 mod memory;
 mod memory_sink;
 mod memory_source;
