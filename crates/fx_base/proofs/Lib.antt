@@ -3,3 +3,5 @@ pub mod AtKey
 pub mod PaddedLemmas
 pub mod Giving
 pub mod Compose
+pub mod Decimals
+pub mod NumberLemmas

@@ -1,3 +1,4 @@
+pub mod Forms
 pub mod Keyed
 pub mod MemSink
 pub mod MemSource

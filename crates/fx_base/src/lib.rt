@@ -32,6 +32,7 @@ mod memory_source;
 mod name_key;
 mod name_map;
 mod net;
+mod number;
 mod seq;
 mod set_map;
 mod set_name;
