@@ -57,7 +57,7 @@ after_high n (c ∷ ys) h = rw (ten (length ys)) (high_step n (digit_value c) (1
 pub front_bounds : (y v : ℕ) (e : List ℕ) → y < 2 ^ 64 → v < 2 ^ 64 → decimal v ++ e ≡ decimal y → (v * 10 ^ length e ≤ y) × (y + 1 ≤ (v + 1) * 10 ^ length e)
 front_bounds y v e hy hv p =
     let one : y ≡ digits_value_after 10 v e =
-        sym (decimal_is_IsNumeral y hy).1 ∙ ap (digits_value 10) (sym p) ∙ after-append 0 (decimal v) e ∙ ap (λ (n : ℕ). digits_value_after 10 n e) (decimal_is_IsNumeral v hv).1 in
+    sym (decimal_is_IsNumeral y hy).1 ∙ ap (digits_value 10) (sym p) ∙ after-append 0 (decimal v) e ∙ ap (λ (n : ℕ). digits_value_after 10 n e) (decimal_is_IsNumeral v hv).1 in
     let digits : AllDigits 10 e = AllDigits-back (decimal v) e (subst (AllDigits 10) (sym p) (decimal_is_IsNumeral y hy).0.1) in
     let low : v * 10 ^ length e ≤ digits_value_after 10 v e = after_low v e in
     let high : digits_value_after 10 v e + 1 ≤ (v + 1) * 10 ^ length e = after_high v e digits in
@@ -82,9 +82,9 @@ pub zero_alone : (y : ℕ) (e : List ℕ) → y < 2 ^ 64 → decimal 0 ++ e ≡ 
 zero_alone y e fits p =
     elim (cases_lt 0 y) [
       | inl pos ↦
-        let first : 48 < get_or (decimal y) 0 0 = first_decimal y pos fits in
-        let is : get_or (decimal 0 ++ e) 0 0 ≡ 48 = ap (λ (l : List ℕ). get_or (l ++ e) 0 0) (decimal_digit 0 (omega arith)) in
-        absurd (omega (arith, is, ap (λ (l : List ℕ). get_or l 0 0) p))
+          let first : 48 < get_or (decimal y) 0 0 = first_decimal y pos fits in
+          let is : get_or (decimal 0 ++ e) 0 0 ≡ 48 = ap (λ (l : List ℕ). get_or (l ++ e) 0 0) (decimal_digit 0 (omega arith)) in
+          absurd (omega (arith, is, ap (λ (l : List ℕ). get_or l 0 0) p))
       | inr none ↦ omega arith
     ]
 
@@ -119,11 +119,11 @@ begins_none low high v j fits small below past b =
     elim (cases_lt k j) [
       | inl less ↦ absurd (omega (arith, below k less, n.least, range.1))
       | inr more ↦
-        let up : 10 ^ j ≤ 10 ^ (k - j + j) = ten_up j (k - j) in
-        let same : k - j + j ≡ k = omega arith in
-        let power : 10 ^ j ≤ 10 ^ k = subst (λ (i : ℕ). 10 ^ j ≤ 10 ^ i) same up in
-        let times : v * 10 ^ j ≤ v * 10 ^ k = mul-le-mul_left v power in
-        absurd (omega (arith, n.most, range.0))
+          let up : 10 ^ j ≤ 10 ^ (k - j + j) = ten_up j (k - j) in
+          let same : k - j + j ≡ k = omega arith in
+          let power : 10 ^ j ≤ 10 ^ k = subst (λ (i : ℕ). 10 ^ j ≤ 10 ^ i) same up in
+          let times : v * 10 ^ j ≤ v * 10 ^ k = mul-le-mul_left v power in
+          absurd (omega (arith, n.most, range.0))
     ]
 
 -- the least and the greatest number with the digits of one and some more, after no fewer were enough to reach a bound
@@ -146,13 +146,13 @@ ten_times m k = ap (λ (n : ℕ). m * n) (ten k ∙ swap (10 ^ k)) ∙ sym (mul_
 
 pub tried_more : (low value least greatest : ℕ) → greatest < low → Tried low value least greatest → Tried low value (least * 10) (greatest * 10 + 9)
 tried_more low value least greatest less t = record {
-    more = suc t.more;
-    is_least = ap (λ (n : ℕ). n * 10) t.is_least ∙ sym (ten_times value t.more);
-    is_greatest = omega (arith, t.is_greatest, ten_times (value + 1) t.more);
-    pos = omega (arith, t.pos);
-    near = omega (arith, t.near);
-    below = λ i h. elim (cases_lt i t.more) [ | inl before ↦ t.below i before | inr last ↦ let e : t.more ≡ i = omega arith in subst (λ (n : ℕ). (value + 1) * 10 ^ n ≤ low) e (omega (arith, t.is_greatest)) ]
-  }
+  more = suc t.more;
+  is_least = ap (λ (n : ℕ). n * 10) t.is_least ∙ sym (ten_times value t.more);
+  is_greatest = omega (arith, t.is_greatest, ten_times (value + 1) t.more);
+  pos = omega (arith, t.pos);
+  near = omega (arith, t.near);
+  below = λ i h. elim (cases_lt i t.more) [ inl before ↦ t.below i before | inr last ↦ let e : t.more ≡ i = omega arith in subst (λ (n : ℕ). (value + 1) * 10 ^ n ≤ low) e (omega (arith, t.is_greatest)) ];
+}
 
 pub tried_reaches : (low high value least greatest : ℕ) → low ≤ high → high < 2 ^ 16 → 0 < value → least ≤ high → low ≤ greatest → Tried low value least greatest → Begins (IsNumber low high) (decimal value)
 tried_reaches low high value least greatest range fits pos a b t = begins_at low high value t.more range fits pos (omega (arith, t.is_least)) (omega (arith, t.is_greatest))
@@ -176,7 +176,7 @@ not_digit low high c d fits other b =
     let small : y < 2 ^ 64 = omega (arith, n.most) in
     let long : length d < length (decimal y) = omega (arith, ap length n.digits, length-append (d ++ c ∷ []) b.0, length-append d (c ∷ [])) in
     let there : get_or (decimal y) (length d) 0 ≡ c =
-        ap (λ (l : List ℕ). get_or l (length d) 0) (sym n.digits ∙ append_assoc d (c ∷ []) b.0) ∙ at_seam d c b.0 in
+    ap (λ (l : List ℕ). get_or l (length d) 0) (sym n.digits ∙ append_assoc d (c ∷ []) b.0) ∙ at_seam d c b.0 in
     other (subst (IsInRange 48 57) there (digit_at (decimal y) (length d) (decimal_is_IsNumeral y small).0.1 long))
   where
     at_seam : (d : List ℕ) (c : ℕ) (r : List ℕ) → get_or (d ++ (c ∷ r)) (length d) 0 ≡ c

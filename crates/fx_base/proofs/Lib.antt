@@ -5,3 +5,6 @@ pub mod Giving
 pub mod Compose
 pub mod Decimals
 pub mod NumberLemmas
+pub mod FormLemmas
+pub mod PortLemmas
+pub mod AddressLemmas

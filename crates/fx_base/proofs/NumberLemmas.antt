@@ -15,13 +15,13 @@ begins_front Form text n m less b =
 -- a text goes as far as its next byte leads out of the form
 pub goes_here : {A : Type 0} (Form : List ℕ → A → Type 0) (text : List ℕ) (at : ℕ) → at < length text → Begins Form (take at text) → ¬ Begins Form (take (at + 1) text) → GoesTo Form text at
 goes_here Form text at inside b out = record {
-    within = omega arith;
-    begins = b;
-    furthest = λ n less g. elim (cases_lt at n) [
-      | inl past ↦ absurd (out (begins_front Form text (at + 1) n (omega arith) g))
-      | inr before ↦ before
-    ];
-  }
+  within = omega arith;
+  begins = b;
+  furthest = λ n less g. elim (cases_lt at n) [
+    | inl past ↦ absurd (out (begins_front Form text (at + 1) n (omega arith) g))
+    | inr before ↦ before
+  ];
+}
 
 -- or to its end
 pub goes_through : {A : Type 0} (Form : List ℕ → A → Type 0) (text : List ℕ) (at : ℕ) → at ≡ length text → Begins Form (take at text) → GoesTo Form text at

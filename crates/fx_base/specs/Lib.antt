@@ -1,8 +1,10 @@
+pub mod Addresses
 pub mod Forms
 pub mod Keyed
 pub mod MemSink
 pub mod MemSource
 pub mod Padded
+pub mod PortTexts
 pub mod Same
 pub mod Set
 pub mod SetName

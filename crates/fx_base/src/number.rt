@@ -1,7 +1,7 @@
 //! Decimal numbers at the front of a text.
-ghost use Rattle.std.specs.Prelude.{◌≡◌, ◌↔◌, ◌≤◌, ◌<◌, ◌^◌, ◌∷◌, ◌++◌, [], IsTrue, IfOk, IfErr, IfSome, IfNone, take};
+ghost use Rattle.std.specs.Prelude.{◌≡◌, ◌↔◌, ◌≤◌, ◌<◌, ◌^◌, ◌∷◌, ◌++◌, [], IsTrue, IfOk, IfErr, IfSome, IfNone, take, length};
 ghost use Rattle.std.specs.Fmt.{decimal};
-ghost use Rattle.fx_base.specs.Forms.{Begins, GoesTo, IsIn, IsNumber, digits_of};
+ghost use Rattle.fx_base.specs.Forms.{Begins, GoesTo, IsIn, IsNumber, IsOptional, Reads, digits_of};
 
 /// Whether some number of the range begins with the digits of this one.
 fn begins_one(value: u32, low: u32, high: u32) -> bool
@@ -85,5 +85,39 @@ fn ended(read: Option<u32>, at: usize, low: u32) -> Result<(u32, usize), usize>
     match read {
         Some(value) if low <= value => Ok((value, at)),
         _ => Err(at),
+    }
+}
+
+/// A text that is a number of the range.
+fn whole_number(text: &[u8], low: u32, high: u32) -> Result<u32, usize>
+    requires range { (low ≤ high) × (high < 2 ^ 16) }
+    ensures { Reads (IsNumber low high) text.now result }
+{
+    match number(text, low, high) {
+        Ok((_, at)) if at < text.len() => Err(at),
+        Ok((value, _)) => Ok(value),
+        Err(at) => Err(at),
+    }
+}
+
+/// Nothing, which stands for `absent`, or the mark and a number of the range.
+pub(crate) fn optional(
+    text: &[u8],
+    absent: u32,
+    mark: u8,
+    low: u32,
+    high: u32,
+) -> Result<u32, usize>
+    requires range { (low ≤ high) × (high < 2 ^ 16) }
+    requires fits { length text.now < 2 ^ 32 }
+    ensures { Reads (IsOptional absent mark low high) text.now result }
+{
+    match text {
+        [] => Ok(absent),
+        [first, rest @ ..] if *first == mark => match whole_number(rest, low, high) {
+            Ok(value) => Ok(value),
+            Err(at) => Err(at + 1),
+        },
+        _ => Err(0),
     }
 }

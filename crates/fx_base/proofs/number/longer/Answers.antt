@@ -26,7 +26,7 @@ one_more : (read : Option ℕ) (value last c : ℕ) → read ≡ Some value → 
 one_more read value last c e h is pos small = ap (λ (n : ℕ). decimal (value * 10 + n)) is ∙ next_digit value c h pos small ∙ ap (λ (r : Option ℕ). digits_of r ++ c ∷ []) (sym e)
 
 not_range : (c : ℕ) → IsNotAsciiDigit c → ¬ IsInRange 48 57 c
-not_range c out h = elim out [ | inl low ↦ absurd (omega arith) | inr high ↦ absurd (omega arith) ]
+not_range c out h = elim out [ inl low ↦ absurd (omega arith) | inr high ↦ absurd (omega arith) ]
 
 pub returns-then-not-is_ascii_digit-clause-none : goal.returns-then-not-is_ascii_digit-clause-none
 returns-then-not-is_ascii_digit-clause-none c =
