@@ -8,3 +8,4 @@ pub mod NumberLemmas
 pub mod FormLemmas
 pub mod PortLemmas
 pub mod AddressLemmas
+pub mod ProtocolLemmas

@@ -5,6 +5,7 @@ pub mod MemSink
 pub mod MemSource
 pub mod Padded
 pub mod PortTexts
+pub mod Protocols
 pub mod Same
 pub mod Set
 pub mod SetName

@@ -37,6 +37,7 @@ mod net_bits;
 mod net_text;
 mod number;
 mod port_text;
+mod protocol_text;
 mod seq;
 mod set_map;
 mod set_name;
