@@ -7,6 +7,7 @@ pub mod Padded
 pub mod PortTexts
 pub mod Protocols
 pub mod Same
+pub mod SameNet
 pub mod Set
 pub mod SetName
 pub mod Streams

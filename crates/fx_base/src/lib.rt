@@ -34,6 +34,7 @@ mod name_key;
 mod name_map;
 mod net;
 mod net_bits;
+mod net_exact;
 mod net_text;
 mod number;
 mod port_text;

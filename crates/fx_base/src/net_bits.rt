@@ -1,7 +1,6 @@
 //! The bits of a net, RFC 4632: those that its addresses share, and those behind them.
 ghost use Rattle.std.specs.Prelude.{◌≡◌, ◌↔◌, ◌≤◌, ◌-◌, ◌*◌, ◌/◌, ◌^◌, IsTrue, IsSome, IfSome};
 
-use crate::exact::Exact;
 use crate::net::{Ipv4, Net};
 
 /// How many addresses a net of this length has.
