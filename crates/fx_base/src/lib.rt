@@ -43,5 +43,7 @@ mod seq;
 mod set_map;
 mod set_name;
 mod streams;
+#[cfg(test)]
+mod tests;
 mod text;
 mod text_map;
