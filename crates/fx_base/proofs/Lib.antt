@@ -9,3 +9,4 @@ pub mod FormLemmas
 pub mod PortLemmas
 pub mod AddressLemmas
 pub mod ProtocolLemmas
+pub mod ValueLemmas

@@ -57,7 +57,7 @@ abbrev pub is_new : List ℕ → List (List ℕ × ℕ) → Bool
 is_new name [] = true
 is_new name (entry ∷ table) = not (pointwise nat_eq name entry.0) && is_new name table
 
-no_other : (name : List ℕ) (table : List (List ℕ × ℕ)) → is_new name table ≡ true → (text : List ℕ) (value : ℕ) → str_to_ascii_lowercase text ≡ name → IsNamedIn table text value → ⊥
+pub no_other : (name : List ℕ) (table : List (List ℕ × ℕ)) → is_new name table ≡ true → (text : List ℕ) (value : ℕ) → str_to_ascii_lowercase text ≡ name → IsNamedIn table text value → ⊥
 no_other name [] new text value e h = h
 no_other name (entry ∷ table) new text value e h =
     let both = both_pass (not (pointwise nat_eq name entry.0)) (is_new name table) new in

@@ -11,3 +11,4 @@ pub mod SameNet
 pub mod Set
 pub mod SetName
 pub mod Streams
+pub mod TextValues
