@@ -59,7 +59,7 @@ number_computes low high small = record {
       let e : digits_value 10 text ≡ v = ap (digits_value 10) h.digits ∙ (decimal_is_IsNumeral v fits).1 in
       picked _ (Some (digits_value 10 text)) None (all_three _ _ _ (equal_texts text _ (h.digits ∙ ap decimal (sym e))) (is_least low _ (omega (arith, e, h.least))) (is_least _ high (omega (arith, e, h.most)))) ∙ ap Some e;
   from = λ text v e.
-      let c = chosen _ (Some (digits_value 10 text)) v e in
+      let c : ((pointwise nat_eq text (decimal (digits_value 10 text)) && (nat_le low (digits_value 10 text) && nat_le (digits_value 10 text) high)) ≡ true) × (Some (digits_value 10 text) ≡ Some v) = chosen _ (Some (digits_value 10 text)) v e in
       let same : digits_value 10 text ≡ v = cc (c.1) in
       let p = both_pass _ _ c.0 in
       let q = both_pass _ _ p.1 in

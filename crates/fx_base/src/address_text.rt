@@ -1,6 +1,7 @@
 //! Reading addresses and nets.
-ghost use Rattle.std.specs.Prelude.{◌≡◌, ◌<◌, ◌≤◌, ◌^◌, ◌*◌, ◌+◌, IfOk, IfErr, IsTrue, length};
+ghost use Rattle.std.specs.Prelude.{◌≡◌, ◌<◌, ◌≤◌, ◌^◌, ◌*◌, ◌+◌, IfOk, IfErr, OnErr, IsTrue, length};
 ghost use Rattle.fx_base.specs.Forms.{Means, Leaves, Reads};
+ghost use Rattle.fx_base.specs.TextValues.{address_of};
 ghost use Rattle.fx_base.specs.Addresses.{IsAddress, Behind, Dotted};
 
 use crate::memory::BadText;
@@ -13,6 +14,8 @@ impl Ipv4 {
         requires { length text.now < 2 ^ 32 }
         ensures ok { IfOk result (λ address. Means IsAddress text.now address.0) }
         ensures bad { IfErr result (λ bad. Leaves IsAddress text.now bad.at) }
+        ensures value { IfOk result (λ address. address_of text.now ≡ Some address.0) }
+        ensures none { OnErr result (address_of text.now ≡ None) }
     {
         match dotted(text, 0, 3, false) {
             Ok((address, _)) => Ok(Ipv4(address)),

@@ -1,5 +1,5 @@
 //! Reading nets.
-ghost use Rattle.std.specs.Prelude.{◌≡◌, ◌<◌, ◌^◌, IfOk, IfErr, Contains, MatchBool, length};
+ghost use Rattle.std.specs.Prelude.{◌≡◌, ◌<◌, ◌^◌, IfOk, IfErr, OnErr, Contains, MatchBool, length};
 ghost use Rattle.fx_base.specs.Forms.{Leaves};
 
 use crate::address_text::dotted;
@@ -8,12 +8,14 @@ use crate::net::{Net, NetText};
 
 impl Net {
     ghost use Rattle.fx_base.specs.Addresses.{IsNet, IsReadAs};
+    ghost use Rattle.fx_base.specs.TextValues.{net_of};
 
     /// Reads an IPv4 net, whose host bits are dropped. A text with `:` is one of IPv6, and isn't read further.
     pub fn read(text: &[u8]) -> Result<NetText, BadText>
         requires { length text.now < 2 ^ 32 }
         ensures ok { IfOk result (IsReadAs text.now) }
         ensures bad { IfErr result (λ bad. (¬ Contains text.now 58) × Leaves IsNet text.now bad.at) }
+        ensures none { OnErr result (net_of text.now ≡ None) }
     {
         if has_colon(text) {
             return Ok(NetText::V6);

@@ -1,6 +1,7 @@
 //! Reading ports.
-ghost use Rattle.std.specs.Prelude.{◌≡◌, ◌<◌, ◌^◌, IfOk, IfErr, length};
+ghost use Rattle.std.specs.Prelude.{◌≡◌, ◌<◌, ◌^◌, IfOk, IfErr, OnErr, length};
 ghost use Rattle.fx_base.specs.Forms.{Means, Leaves, Reads};
+ghost use Rattle.fx_base.specs.TextValues.{ports_of};
 ghost use Rattle.fx_base.specs.PortTexts.{IsPortRange};
 
 use crate::memory::BadText;
@@ -13,6 +14,8 @@ impl PortRange {
         requires { length text.now < 2 ^ 32 }
         ensures ok { IfOk result (λ ports. Means IsPortRange text.now (ports.low, ports.high)) }
         ensures bad { IfErr result (λ bad. Leaves IsPortRange text.now bad.at) }
+        ensures value { IfOk result (λ ports. ports_of text.now ≡ Some (ports.low, ports.high)) }
+        ensures none { OnErr result (ports_of text.now ≡ None) }
     {
         match ends(text) {
             Ok((low, high)) => Ok(PortRange {

@@ -1,8 +1,9 @@
 //! Reading the names of protocols.
-ghost use Rattle.std.specs.Prelude.{◌≡◌, ◌≢◌, ◌<◌, ◌≤◌, ◌^◌, IfOk, IfErr, length, take, slice_index};
+ghost use Rattle.std.specs.Prelude.{◌≡◌, ◌≢◌, ◌<◌, ◌≤◌, ◌^◌, IfOk, IfErr, OnErr, length, take, slice_index};
 ghost use Rattle.std.specs.Str.{str_to_ascii_lowercase};
 ghost use Rattle.std.specs.Char.{to_ascii_lowercase};
 ghost use Rattle.fx_base.specs.Forms.{Means, Leaves, Reads};
+ghost use Rattle.fx_base.specs.TextValues.{protocol_of};
 ghost use Rattle.fx_base.specs.Protocols.{IsNamed, IsProtocol, farther};
 
 use crate::memory::BadText;
@@ -14,6 +15,8 @@ impl Proto {
         requires { length text.now < 2 ^ 32 }
         ensures ok { IfOk result (λ protocol. Means IsProtocol text.now protocol.0) }
         ensures bad { IfErr result (λ bad. Leaves IsProtocol text.now bad.at) }
+        ensures value { IfOk result (λ protocol. protocol_of text.now ≡ Some protocol.0) }
+        ensures none { OnErr result (protocol_of text.now ≡ None) }
     {
         match protocol(text) {
             Ok(number) => Ok(Proto(number)),

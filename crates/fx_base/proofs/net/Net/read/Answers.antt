@@ -1,4 +1,7 @@
 use Rattle.std.proofs.Common.{true}
+use Rattle.fx_base.specs.Addresses.{IsNet}
+use Rattle.fx_base.specs.TextValues.{net_of}
+use Rattle.fx_base.proofs.ValueLemmas.{net_computes, leaves_computed}
 use Rattle.fx_base.specs.Addresses.{Dotted, IsCidr}
 use Rattle.fx_base.proofs.FormLemmas.{means_alike, leaves_alike}
 use Rattle.fx_base.proofs.AddressLemmas.{cidr_alike, net_means, net_leaves}
@@ -10,3 +13,6 @@ returns-in-Ok-clause-ok c =
 
 pub returns-in-Err-clause-bad : goal.returns-in-Err-clause-bad
 returns-in-Err-clause-bad c = (c.if-has_colon.ensures, net_leaves c.args.text.now c.in-Err.at (leaves_alike (Dotted true 0 3) IsCidr (λ v. v) (λ v. v) cidr_alike c.args.text.now c.in-Err.at c.in-Err.ensures))
+
+pub returns-in-Err-clause-none : goal.returns-in-Err-clause-none
+returns-in-Err-clause-none c = leaves_computed IsNet net_of net_computes c.args.text.now _ (returns-in-Err-clause-bad c).1
