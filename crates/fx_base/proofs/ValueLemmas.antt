@@ -1,5 +1,5 @@
 -- The computed readings of texts are those of the forms.
-use Rattle.std.proofs.Common.{◌≡◌, ◌<◌, ◌≤◌, ◌+◌, ◌*◌, ◌^◌, ℕ, zero, suc, Bool, true, false, ◌&&◌, List, [], ◌∷◌, ◌++◌, length, take, drop, get_or, Option, Some, None, Result, Ok, Err, IfOk, OnErr, refl, sym, ap, subst, ◌∙◌, arith, inl, inr, nat_eq, take-append-drop, eq-eqb, cond, lit<}
+use Rattle.std.proofs.Common.{◌≡◌, ◌<◌, ◌≤◌, ◌+◌, ◌*◌, ◌^◌, ℕ, zero, suc, Bool, true, false, ◌&&◌, List, [], ◌∷◌, ◌++◌, length, take, drop, Option, Some, None, refl, sym, ap, subst, ◌∙◌, arith, inl, inr, nat_eq, take-append-drop, eq-eqb, cond, lit<}
 use Rattle.std.specs.Prelude.{nat_le, ◌==◌, option_and_then, if◌then◌else◌}
 use Rattle.std.specs.Fmt.{decimal}
 use Rattle.std.specs.List.{prefix_len}
@@ -14,7 +14,7 @@ use Rattle.std.proofs.lemmas.List.{take_at, drop_at}
 use Rattle.std.proofs.lemmas.Slice.Eq.{slice_eq-Decides}
 use Rattle.std.proofs.lemmas.Str.Parse.{digit_from_value}
 use Rattle.fx_base.specs.Same.{both_pass, same_bytes, same_numbers}
-use Rattle.fx_base.specs.Forms.{Means, Leaves, Reads, IsNumber, IsOptional, NumberThen}
+use Rattle.fx_base.specs.Forms.{Means, Leaves, IsNumber, IsOptional, NumberThen}
 use Rattle.fx_base.specs.Addresses.{Behind, Dotted, IsAddress, IsNet, net_address}
 use Rattle.fx_base.specs.PortTexts.{UpperEnd, IsPortRange}
 use Rattle.fx_base.specs.Protocols.{IsNamedIn, IsProtocol, protocols}
@@ -61,8 +61,8 @@ number_computes low high small = record {
   from = λ text v e.
       let c : ((pointwise nat_eq text (decimal (digits_value 10 text)) && (nat_le low (digits_value 10 text) && nat_le (digits_value 10 text) high)) ≡ true) × (Some (digits_value 10 text) ≡ Some v) = chosen _ (Some (digits_value 10 text)) v e in
       let same : digits_value 10 text ≡ v = cc (c.1) in
-      let p = both_pass _ _ c.0 in
-      let q = both_pass _ _ p.1 in
+      let p : (pointwise nat_eq text (decimal (digits_value 10 text)) ≡ true) × ((nat_le low (digits_value 10 text) && nat_le (digits_value 10 text) high) ≡ true) = both_pass _ _ c.0 in
+      let q : (nat_le low (digits_value 10 text) ≡ true) × (nat_le (digits_value 10 text) high ≡ true) = both_pass _ _ p.1 in
       record { digits = same_bytes text _ p.0 ∙ ap decimal same; least = omega (arith, same, at_least low (digits_value 10 text) q.0); most = omega (arith, same, at_least (digits_value 10 text) high q.1) };
 }
 

@@ -1,11 +1,13 @@
 -- What the texts of a form are read as, computed from the text. The forms themselves are relations: see `Forms`.
-use Rattle.std.specs.Prelude.{ℕ, zero, suc, Bool, true, false, ◌==◌, ◌&&◌, nat_eq, nat_le, if◌then◌else◌, List, [], ◌∷◌, take, drop, Option, Some, None, option_and_then, ◌+◌, ◌*◌}
+use Rattle.std.specs.Prelude.{◌≡◌, ℕ, zero, suc, Bool, true, false, ◌==◌, ◌&&◌, nat_eq, nat_le, if◌then◌else◌, List, [], ◌∷◌, take, drop, Option, Some, None, option_and_then, ◌+◌, ◌*◌}
 use Rattle.std.specs.Fmt.{decimal}
 use Rattle.std.specs.List.{prefix_len}
 use Rattle.std.specs.Str.{str_to_ascii_lowercase}
 use Rattle.std.specs.Str.Parse.{digits_value}
 use Rattle.std.specs.Cmp.Lexicographic.{pointwise}
 use Rattle.fx_base.specs.Addresses.{net_address}
+use Rattle.fx_base.specs.declared.net.NetText.{NetText}
+use Rattle.fx_base.specs.declared.net.NetText.TheVariants.{V4, V6}
 use Rattle.fx_base.specs.Protocols.{protocols}
 
 abbrev pub is_digit : ℕ → Bool
@@ -52,6 +54,11 @@ address_of text = option_and_then (λ v. Some v.0) (dotted_of false 0 3 text)
 -- an IPv4 net's address without its host bits, and its length
 abbrev pub net_of : List ℕ → Option (ℕ × ℕ)
 net_of text = option_and_then (λ v. Some (net_address v.0 v.1, v.1)) (dotted_of true 0 3 text)
+
+-- an answer of an IPv4 net is the computed one
+abbrev pub IsNetValue : List ℕ → NetText → Type 0
+IsNetValue text V6 = Unit {0}
+IsNetValue text (V4 net) = net_of text ≡ Some (net.addr.0, net.len)
 
 -- ---- protocols
 abbrev pub named_of : List (List ℕ × ℕ) → List ℕ → Option ℕ

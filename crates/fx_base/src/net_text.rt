@@ -8,13 +8,14 @@ use crate::net::{Net, NetText};
 
 impl Net {
     ghost use Rattle.fx_base.specs.Addresses.{IsNet, IsReadAs};
-    ghost use Rattle.fx_base.specs.TextValues.{net_of};
+    ghost use Rattle.fx_base.specs.TextValues.{net_of, IsNetValue};
 
     /// Reads an IPv4 net, whose host bits are dropped. A text with `:` is one of IPv6, and isn't read further.
     pub fn read(text: &[u8]) -> Result<NetText, BadText>
         requires { length text.now < 2 ^ 32 }
         ensures ok { IfOk result (IsReadAs text.now) }
         ensures bad { IfErr result (λ bad. (¬ Contains text.now 58) × Leaves IsNet text.now bad.at) }
+        ensures value { IfOk result (IsNetValue text.now) }
         ensures none { OnErr result (net_of text.now ≡ None) }
     {
         if has_colon(text) {

@@ -1,7 +1,7 @@
 use Rattle.std.proofs.Common.{true}
 use Rattle.fx_base.specs.Addresses.{IsNet}
 use Rattle.fx_base.specs.TextValues.{net_of}
-use Rattle.fx_base.proofs.ValueLemmas.{net_computes, leaves_computed}
+use Rattle.fx_base.proofs.ValueLemmas.{net_computes, means_computed, leaves_computed}
 use Rattle.fx_base.specs.Addresses.{Dotted, IsCidr}
 use Rattle.fx_base.proofs.FormLemmas.{means_alike, leaves_alike}
 use Rattle.fx_base.proofs.AddressLemmas.{cidr_alike, net_means, net_leaves}
@@ -16,3 +16,6 @@ returns-in-Err-clause-bad c = (c.if-has_colon.ensures, net_leaves c.args.text.no
 
 pub returns-in-Err-clause-none : goal.returns-in-Err-clause-none
 returns-in-Err-clause-none c = leaves_computed IsNet net_of net_computes c.args.text.now _ (returns-in-Err-clause-bad c).1
+
+pub returns-in-Ok-clause-value : goal.returns-in-Ok-clause-value
+returns-in-Ok-clause-value c = means_computed IsNet net_of net_computes c.args.text.now _ (returns-in-Ok-clause-ok c).1
