@@ -10,3 +10,10 @@ pub mod Found
 pub mod ExtendedKeys
 pub mod Taken
 pub mod Counting
+pub mod Decimals
+pub mod NumberLemmas
+pub mod FormLemmas
+pub mod PortLemmas
+pub mod AddressLemmas
+pub mod ProtocolLemmas
+pub mod ValueLemmas

@@ -1,7 +1,15 @@
 pub mod Extended
+pub mod Addresses
+pub mod Forms
 pub mod Keyed
+pub mod MemSink
+pub mod MemSource
 pub mod Padded
+pub mod PortTexts
+pub mod Protocols
 pub mod Same
+pub mod SameNet
 pub mod Set
 pub mod SetName
 pub mod Streams
+pub mod TextValues

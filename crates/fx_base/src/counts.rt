@@ -22,7 +22,8 @@ impl Model for CountSink {
 
 impl CountSink {
     pub fn new() -> CountSink
-        ensures { result ≡ 0 }
+        ensures empty { result ≡ 0 }
+        ensures faultless { ⟦<CountSink as Sink>⟧.faults result ≡ 0 }
     {
         CountSink { taken: 0 }
     }

@@ -3,6 +3,7 @@ ghost use Rattle.std.specs.Prelude.{◌≡◌, ◌↔◌, ◌⊎◌, ◌-◌, mi
 ghost use Rattle.std.specs.Io.KnownBytes.{Appends};
 ghost use Rattle.fx_base.specs.Streams.{HasCause, AppendsFront};
 
+use crate::failing::is_next_listed;
 use crate::memory::Memory;
 use crate::streams::{Failed, Sink};
 use std::alloc::Global;
@@ -20,8 +21,13 @@ pub struct MemSink {
 }
 
 impl MemSink {
+    ghost use Rattle.fx_base.specs.MemSink.{held_bytes, room_of, call_count, failing_puts};
+
     pub fn new(alloc: Global, room: u32, failing: Vec<u64>) -> Result<MemSink, Memory>
-        ensures { IfOk result (λ s. ⟦<MemSink as Sink>⟧.held s ≡ Some []) }
+        ensures held { IfOk result (λ s. ⟦<MemSink as Sink>⟧.held s ≡ Some []) }
+        ensures faultless { IfOk result (λ s. ⟦<MemSink as Sink>⟧.faults s ≡ 0) }
+        ensures failing { IfOk result (λ s. (failing_puts s ≡ failing.items) × (call_count s ≡ 0)) }
+        ensures room { IfOk result (λ s. (held_bytes s ≡ []) × (room_of s ≡ room)) }
     {
         Ok(MemSink {
             held: Vec::with_capacity(alloc, room as usize)?,
@@ -33,35 +39,35 @@ impl MemSink {
     }
 
     pub fn held(&self) -> &[u8]
-        ensures { ⟦<MemSink as Sink>⟧.held self.now ≡ Some result.now }
+        ensures told { ⟦<MemSink as Sink>⟧.held self.now ≡ Some result.now }
+        ensures bytes { result.now ≡ held_bytes self.now }
     {
         self.held.as_slice()
     }
 }
 
 impl Sink for MemSink {
-    ghost held = { λ s. Some s.held.items };
+    ghost use Rattle.fx_base.specs.MemSink.{held_bytes, room_of, fault_count, call_count, failing_puts};
 
-    ghost faults = { λ s. s.faults };
+    ghost held = { λ s. Some (held_bytes s) };
+
+    ghost faults = { fault_count };
 
     fn put(&mut self, bytes: &[u8]) -> Result<(), Failed>
-        ensures ok { OnOk result (Appends (Some self.old.held.items) (Some self.new.held.items) bytes.now) }
-        ensures err { OnErr result (AppendsFront (Some self.old.held.items) (Some self.new.held.items) bytes.now) }
-        ensures cause { HasCause (self.old.faults) (self.new.faults) result }
+        ensures ok { OnOk result (Appends (Some (held_bytes self.old)) (Some (held_bytes self.new)) bytes.now) }
+        ensures err { OnErr result (AppendsFront (Some (held_bytes self.old)) (Some (held_bytes self.new)) bytes.now) }
+        ensures cause { HasCause (fault_count self.old) (fault_count self.new) result }
 
         // Exactly the calls that are listed and those that don't fit fail, and they append nothing.
-        ensures listed { IsErr result ↔ (Contains self.old.failing.items self.new.calls ⊎ (self.old.room < vec_len self.old.held + length bytes.now)) }
-        ensures nothing { OnErr result (self.new.held.items ≡ self.old.held.items) }
-        ensures calls { self.new.calls ≡ min (self.old.calls + 1) (2 ^ 64 - 1) }
-        ensures same { (self.new.failing.items ≡ self.old.failing.items) × (self.new.room ≡ self.old.room) }
+        ensures listed { IsErr result ↔ (Contains (failing_puts self.old) (call_count self.old + 1) ⊎ (room_of self.old < length (held_bytes self.old) + length bytes.now)) }
+        ensures nothing { OnErr result (held_bytes self.new ≡ held_bytes self.old) }
+        ensures calls { call_count self.new ≡ min (call_count self.old + 1) (2 ^ 64 - 1) }
+        ensures same { (failing_puts self.new ≡ failing_puts self.old) × (room_of self.new ≡ room_of self.old) }
     {
+        let is_listed = is_next_listed(&self.failing, self.calls);
         self.calls = self.calls.saturating_add(1);
         let left = self.room as usize - self.held.len();
-        if self.failing.contains(&self.calls) {
-            self.faults = self.faults.saturating_add(1);
-            return Err(Failed);
-        }
-        if left < bytes.len() {
+        if is_listed || left < bytes.len() {
             self.faults = self.faults.saturating_add(1);
             return Err(Failed);
         }

@@ -1,8 +1,9 @@
 //! Sources over bytes in memory.
-ghost use Rattle.std.specs.Prelude.{true, false, ◌≡◌, ◌↔◌, ◌-◌, min, ◌<◌, ◌≤◌, ◌+◌, ◌^◌, ℕ, List, [], length, drop, Bool, Option, Some, IfOk, OnOk, OnErr, IsErr, Contains, vec_len};
+ghost use Rattle.std.specs.Prelude.{true, false, ◌≡◌, ◌↔◌, ◌-◌, min, ◌<◌, ◌≤◌, ◌+◌, ◌^◌, ℕ, List, [], length, drop, Bool, Option, Some, IfOk, OnOk, OnErr, IsTrue, IsOk, IsErr, Contains, vec_len};
 ghost use Rattle.std.proofs.lemmas.List.{drop_all};
 ghost use Rattle.fx_base.specs.Streams.{HasCause, ReadsSome, ReadsNone};
 
+use crate::failing::is_next_listed;
 use crate::streams::{Failed, Source};
 
 /// Gives at most `piece` bytes a call, and never fails.
@@ -22,6 +23,7 @@ impl SureSource {
         requires { 0 < piece }
         ensures left { ⟦<SureSource as Source>⟧.left result ≡ Some bytes.items }
         ensures fresh { (⟦<SureSource as Source>⟧.given result ≡ 0) × (⟦<SureSource as Source>⟧.ended result ≡ false) }
+        ensures faultless { ⟦<SureSource as Source>⟧.faults result ≡ 0 }
     {
         SureSource {
             bytes,
@@ -33,15 +35,24 @@ impl SureSource {
 }
 
 impl Source for SureSource {
-    ghost left = { λ s. Some (drop s.at s.bytes.items) };
+    ghost use Rattle.fx_base.specs.MemSource.{sure_bytes_left, sure_given, sure_at_end};
 
-    ghost given = { λ s. s.at };
+    ghost left = { λ s. Some (sure_bytes_left s) };
 
-    ghost ended = { λ s. s.ended };
+    ghost given = { sure_given };
+
+    ghost ended = { sure_at_end };
 
     ghost faults = { λ s. 0 };
 
-    fn read(&mut self, buf: &mut [u8]) -> Result<usize, Failed> {
+    fn read(&mut self, buf: &mut [u8]) -> Result<usize, Failed>
+        requires room { 0 < length buf.old }
+        requires fits { sure_given self.old + length buf.old < 2 ^ 64 }
+        ensures ok { IfOk result (λ n. ReadsSome (Some (sure_bytes_left self.old)) (Some (sure_bytes_left self.new)) (sure_given self.old) (sure_given self.new) (sure_at_end self.new) buf.new n) }
+        ensures err { OnErr result (ReadsNone (Some (sure_bytes_left self.old)) (Some (sure_bytes_left self.new)) (sure_given self.old) (sure_given self.new) (sure_at_end self.old) (sure_at_end self.new)) }
+        ensures cause { HasCause 0 0 result }
+        ensures always { IsOk result }
+    {
         let n = (self.bytes.len() - self.at)
             .min(buf.len())
             .min(self.piece as usize);
@@ -65,11 +76,14 @@ pub struct MemSource {
 }
 
 impl MemSource {
+    ghost use Rattle.fx_base.specs.MemSource.{call_count, failing_calls};
+
     pub fn new(bytes: Vec<u8>, piece: u32, failing: Vec<u64>) -> MemSource
         requires { 0 < piece }
         ensures left { ⟦<MemSource as Source>⟧.left result ≡ Some bytes.items }
         ensures fresh { (⟦<MemSource as Source>⟧.given result ≡ 0) × (⟦<MemSource as Source>⟧.ended result ≡ false) }
-        ensures failing { (result.failing.items ≡ failing.items) × (result.calls ≡ 0) }
+        ensures faultless { ⟦<MemSource as Source>⟧.faults result ≡ 0 }
+        ensures failing { (failing_calls result ≡ failing.items) × (call_count result ≡ 0) }
     {
         MemSource {
             inner: SureSource::new(bytes, piece),
@@ -81,28 +95,31 @@ impl MemSource {
 }
 
 impl Source for MemSource {
-    ghost left = { λ s. Some (drop s.inner.at s.inner.bytes.items) };
+    ghost use Rattle.fx_base.specs.MemSource.{bytes_left, bytes_given, is_at_end, fault_count, call_count, failing_calls};
 
-    ghost given = { λ s. s.inner.at };
+    ghost left = { λ s. Some (bytes_left s) };
 
-    ghost ended = { λ s. s.inner.ended };
+    ghost given = { bytes_given };
 
-    ghost faults = { λ s. s.faults };
+    ghost ended = { is_at_end };
+
+    ghost faults = { fault_count };
 
     fn read(&mut self, buf: &mut [u8]) -> Result<usize, Failed>
         requires room { 0 < length buf.old }
-        requires fits { self.old.inner.at + length buf.old < 2 ^ 64 }
-        ensures ok { IfOk result (λ n. ReadsSome (Some (drop self.old.inner.at self.old.inner.bytes.items)) (Some (drop self.new.inner.at self.new.inner.bytes.items)) (self.old.inner.at) (self.new.inner.at) (self.new.inner.ended) buf.new n) }
-        ensures err { OnErr result (ReadsNone (Some (drop self.old.inner.at self.old.inner.bytes.items)) (Some (drop self.new.inner.at self.new.inner.bytes.items)) (self.old.inner.at) (self.new.inner.at) (self.old.inner.ended) (self.new.inner.ended)) }
-        ensures cause { HasCause (self.old.faults) (self.new.faults) result }
+        requires fits { bytes_given self.old + length buf.old < 2 ^ 64 }
+        ensures ok { IfOk result (λ n. ReadsSome (Some (bytes_left self.old)) (Some (bytes_left self.new)) (bytes_given self.old) (bytes_given self.new) (is_at_end self.new) buf.new n) }
+        ensures err { OnErr result (ReadsNone (Some (bytes_left self.old)) (Some (bytes_left self.new)) (bytes_given self.old) (bytes_given self.new) (is_at_end self.old) (is_at_end self.new)) }
+        ensures cause { HasCause (fault_count self.old) (fault_count self.new) result }
 
         // Exactly the calls that are listed fail.
-        ensures listed { IsErr result ↔ Contains self.old.failing.items self.new.calls }
-        ensures calls { self.new.calls ≡ min (self.old.calls + 1) (2 ^ 64 - 1) }
-        ensures failing { self.new.failing.items ≡ self.old.failing.items }
+        ensures listed { IsErr result ↔ Contains (failing_calls self.old) (call_count self.old + 1) }
+        ensures calls { call_count self.new ≡ min (call_count self.old + 1) (2 ^ 64 - 1) }
+        ensures failing { failing_calls self.new ≡ failing_calls self.old }
     {
+        let is_listed = is_next_listed(&self.failing, self.calls);
         self.calls = self.calls.saturating_add(1);
-        if self.failing.contains(&self.calls) {
+        if is_listed {
             self.faults = self.faults.saturating_add(1);
             return Err(Failed);
         }

@@ -14,6 +14,13 @@ pub struct Net {
     ghost no_host_bits: { 2 ^ (32 - len) * (addr.0 / 2 ^ (32 - len)) ≡ addr.0 },
 }
 
+/// What a net's text is read as.
+#[derive(Clone, Copy, Debug, PartialEq, Eq)]
+pub enum NetText {
+    V4(Net),
+    V6,
+}
+
 /// Ports from `low` to `high`, both of them among it.
 #[derive(Clone, Copy, Debug, PartialEq, Eq, PartialOrd, Ord)]
 pub struct PortRange {

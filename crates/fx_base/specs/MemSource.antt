@@ -1,0 +1,36 @@
+-- What a source over bytes in memory shows of itself.
+use Rattle.std.specs.Prelude.{ℕ, Bool, List, drop}
+use Rattle.fx_base.specs.declared.memory_source.SureSource.{SureSource}
+use Rattle.fx_base.specs.declared.memory_source.MemSource.{MemSource}
+
+-- ---- of a source that never fails
+abbrev pub sure_bytes_left : SureSource → List ℕ
+sure_bytes_left s = drop s.at s.bytes.items
+
+abbrev pub sure_given : SureSource → ℕ
+sure_given s = s.at
+
+abbrev pub sure_at_end : SureSource → Bool
+sure_at_end s = s.ended
+
+-- ---- of a source whose failures are listed
+abbrev pub bytes_left : MemSource → List ℕ
+bytes_left s = sure_bytes_left s.inner
+
+abbrev pub bytes_given : MemSource → ℕ
+bytes_given s = sure_given s.inner
+
+abbrev pub is_at_end : MemSource → Bool
+is_at_end s = sure_at_end s.inner
+
+-- how often it has failed
+abbrev pub fault_count : MemSource → ℕ
+fault_count s = s.faults
+
+-- how often it was called, to 2^64 - 1 at most
+abbrev pub call_count : MemSource → ℕ
+call_count s = s.calls
+
+-- the numbers of the calls that fail, from 1
+abbrev pub failing_calls : MemSource → List ℕ
+failing_calls s = s.failing.items
