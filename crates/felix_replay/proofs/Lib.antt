@@ -1,3 +1,5 @@
 pub mod WholeChain
 pub mod Writing
 pub mod Runs
+pub mod SendingLemmas
+pub mod Writings

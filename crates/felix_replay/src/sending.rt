@@ -45,8 +45,8 @@ fn send_next<K: Sink>(
     };
     let line = message_text(alloc, &message)?;
     let place = place_of(&message)?;
-    put_one(&line, sink)?;
     take_at(sent, wanted, place)?;
+    put_one(&line, sink)?;
     Ok(true)
 }
 

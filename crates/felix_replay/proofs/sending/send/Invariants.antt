@@ -1,0 +1,17 @@
+use Rattle.std.proofs.Common.{◌≡◌, ◌+◌, ◌-◌, ◌^◌, ◌≤◌, ◌++◌, min, length, List, ℕ}
+use Rattle.std.specs.Io.KnownBytes.{Appends}
+use Rattle.fx_model.specs.Messages.{flush, differences}
+use Rattle.felix_replay.specs.Output.{messages_text, told_count}
+use Rattle.felix_replay.proofs.sending.send.Given as goal
+
+-- what was written and what is left to write are all messages
+abbrev pub invariant-loop-count : goal.invariant-loop-count
+invariant-loop-count g l = record {
+  output : (piece : List ℕ) × Appends (g.K.Sink.held l.fn.sink) (g.K.Sink.held l.sink) piece × (piece ++ messages_text l.sent l.wanted ≡ messages_text l.fn.sent l.wanted);
+  count : min (l.count + length (flush l.sent l.wanted)) (2 ^ 64 - 1) ≡ told_count l.fn.sent l.wanted;
+  fits : l.count ≤ 2 ^ 64 - 1;
+  later : g.K.Sink.faults l.fn.sink ≤ g.K.Sink.faults l.sink;
+}
+
+abbrev pub decreases-loop-count : goal.decreases-loop-count
+decreases-loop-count g l = differences l.sent l.wanted
