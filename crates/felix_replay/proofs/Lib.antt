@@ -3,3 +3,5 @@ pub mod Writing
 pub mod Runs
 pub mod SendingLemmas
 pub mod Writings
+pub mod Replay
+pub mod EmptyView

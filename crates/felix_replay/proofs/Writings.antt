@@ -1,11 +1,11 @@
 -- Calls that write, one after another.
-use Rattle.std.proofs.Common.{◌≡◌, ◌<◌, ◌≤◌, ◌+◌, ℕ, List, [], ◌∷◌, ◌++◌, length, get_or, take, drop, Option, Err, sym, ◌∙◌, ap, arith, take-append-drop}
+use Rattle.std.proofs.Common.{◌≡◌, ◌<◌, ◌≤◌, ◌+◌, ℕ, List, [], ◌∷◌, ◌++◌, length, get_or, take, drop, Option, Result, Ok, Err, sym, ◌∙◌, ap, arith, take-append-drop}
 use Rattle.std.specs.List.{concat}
 use Rattle.std.proofs.lemmas.List.{drop_more, take_more, append-nil}
 use Rattle.std.proofs.lemmas.List.Folds.{concat-append}
 use Rattle.std.specs.Io.KnownBytes.{Appends}
 use Rattle.fx_base.specs.Streams.{AppendsFront}
-use Rattle.fx_base.proofs.Compose.{AppendsFront-none, AppendsFront-all, AppendsFront-after, AppendsFront-longer}
+use Rattle.fx_base.proofs.Compose.{AppendsFront-none, AppendsFront-all, AppendsFront-after, AppendsFront-longer, Appends-more}
 use Rattle.felix_replay.specs.declared.stop.Stop.{Stop}
 use Rattle.felix_replay.specs.declared.stop.Stop.TheVariants as stop
 use Rattle.felix_replay.specs.Writing.{IsOutStop, Writes}
@@ -48,3 +48,25 @@ pub concat-split : (lines : List (List ℕ)) (i : ℕ) (line : List ℕ) → i <
 concat-split lines i line small is =
     ap concat (sym (take-append-drop i lines) ∙ ap (λ (l : List (List ℕ)). take i lines ++ l) (drop_more lines i line small ∙ ap (λ (x : List ℕ). x ∷ drop (i + 1) lines) (sym is)))
     ∙ concat-append (take i lines) (line ∷ drop (i + 1) lines)
+
+-- ---- a text in two parts
+
+module _ {T : Type 0} where
+  -- a call for the first part stopped
+  pub Writes-front : (held now : Option (List ℕ)) (before after : ℕ) (first rest : List ℕ) (s : Stop) → AppendsFront held now first → before ≤ after → IsOutStop before after s → Writes {T = T} held now before after (first ++ rest) (Err s)
+  Writes-front held now before after first rest s front le cause = record { whole = tt; front = AppendsFront-longer held now first rest front; later = le; cause = cause }
+
+  -- the first part was written whole, and then the second was or wasn't
+  pub Writes-then : (held mid now : Option (List ℕ)) (before between after : ℕ) (first second : List ℕ) (r : Result T Stop) → Appends held mid first → before ≤ between → Writes mid now between after second r → Writes held now before after (first ++ second) r
+  Writes-then held mid now before between after first second (Ok x) wrote le then = record {
+    whole = Appends-more held mid now first second wrote then.whole;
+    front = tt;
+    later = omega (arith, then.later);
+    cause = tt;
+  }
+  Writes-then held mid now before between after first second (Err s) wrote le then = record {
+    whole = tt;
+    front = AppendsFront-after held mid now first second wrote then.front;
+    later = omega (arith, then.later);
+    cause = cause_wider before between after s le then.cause;
+  }

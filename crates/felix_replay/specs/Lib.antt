@@ -4,3 +4,5 @@ pub mod Run
 pub mod Output
 pub mod Stops
 pub mod Writing
+pub mod Engine
+pub mod Top

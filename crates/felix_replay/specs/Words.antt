@@ -1,5 +1,5 @@
 -- The words of the command line, as POSIX utilities take an option with its argument: `--node` and a name.
-use Rattle.std.specs.Prelude.{ℕ, List, [], ◌∷◌, Bool, ◌&&◌, ◌==◌, not, slice_index, if◌then◌else◌, Option, Some, None, codes}
+use Rattle.std.specs.Prelude.{ℕ, List, [], ◌∷◌, Bool, ◌&&◌, ◌==◌, not, slice_index, if◌then◌else◌, Option, Some, None, unwrap_or, codes}
 use Rattle.std.specs.Str.{bytes_eq}
 use Rattle.fx_json.specs.Forms.{is_name}
 
@@ -13,3 +13,7 @@ node_of [] = None
 node_of (option ∷ []) = None
 node_of (option ∷ name ∷ []) = if bytes_eq option (codes "--node") && is_node_name name then Some name else None
 node_of (option ∷ name ∷ other ∷ words) = None
+
+-- the node's name, or none where the words are not in the grammar
+abbrev pub name_of : List (List ℕ) → List ℕ
+name_of words = unwrap_or (node_of words) []

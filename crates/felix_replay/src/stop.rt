@@ -5,6 +5,7 @@ ghost use Rattle.felix_replay.specs.declared.stop.Stop.TheVariants.{Memory, Writ
 
 use fx_base::{Failed, Memory};
 use fx_lines::LineFault;
+use std::alloc::AllocError;
 
 #[derive(Clone, Copy, Debug, PartialEq, Eq)]
 pub enum Stop {
@@ -12,6 +13,14 @@ pub enum Stop {
     WriteFault,
     Memory,
     InputTooLong,
+}
+
+impl From<AllocError> for Stop {
+    ghost from_gives = { λ _ e. e ≡ Memory };
+
+    fn from(_: AllocError) -> Self {
+        Stop::Memory
+    }
 }
 
 impl From<Memory> for Stop {

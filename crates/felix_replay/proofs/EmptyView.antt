@@ -1,0 +1,27 @@
+-- The empty view names nothing.
+use Rattle.std.proofs.Common.{◌≡◌, ℕ, List, true, None, Some, sym, ◌∙◌, ap, refl}
+use Rattle.std.specs.List.{list_all}
+use Rattle.std.specs.Ordering.{nat_cmp}
+use Rattle.std.specs.Cmp.Lexicographic.{slice_cmp}
+use Rattle.std.specs.FinMap as maps
+use Rattle.fx_base.proofs.AtKey.{get_empty}
+use Rattle.fx_base.proofs.Entries.{entries-empty}
+use Rattle.fx_model.specs.declared.view.ViewEndpoint.{ViewEndpoint}
+use Rattle.fx_model.specs.Closed.{IsClosedView}
+use Rattle.fx_model.specs.Formed.{are_formed, is_formed_view}
+use Rattle.fx_model.specs.Views.{empty_view}
+use Rattle.fx_model.specs.contracts.ids.ItemKeyOrd.TheImpl as item_cmp
+use Rattle.felix_replay.specs.Output.{start}
+
+nothing_there : {A : Type 0} (e : ViewEndpoint) → None ≡ Some e → A
+nothing_there e is = cc
+
+pub empty_view-closed : IsClosedView empty_view
+empty_view-closed = record { endpoints = λ iface e is. nothing_there e (sym (get_empty iface) ∙ is) }
+
+pub empty_view-formed : is_formed_view empty_view ≡ true
+empty_view-formed = rw (entries-empty (slice_cmp nat_cmp), entries-empty (slice_cmp nat_cmp)) refl
+
+-- and so are the resources at the start
+pub start-formed : (node : List ℕ) → are_formed (start node).resources ≡ true
+start-formed node = rw (entries-empty item_cmp.cmp-value.it, entries-empty (slice_cmp nat_cmp)) refl

@@ -1,0 +1,17 @@
+use Rattle.std.proofs.Common.{◌≡◌, true, sym, ◌∙◌, ap}
+use Rattle.fx_model.specs.declared.view.View.{View}
+use Rattle.fx_model.specs.Formed.{is_formed_view, are_formed}
+use Rattle.felix_replay.proofs.EmptyView.{empty_view-closed, empty_view-formed, start-formed}
+use Rattle.felix_replay.proofs.engine.Engine.new.Goals as goal
+
+pub tables_of-requires-clause-closed : goal.tables_of-requires-clause-closed
+tables_of-requires-clause-closed c = rw c.new-sent.ensures empty_view-closed
+
+pub tables_of-requires-clause-formed : goal.tables_of-requires-clause-formed
+tables_of-requires-clause-formed c = ap is_formed_view c.new-sent.ensures ∙ empty_view-formed
+
+pub returns-clause-kept : goal.returns-clause-kept
+returns-clause-kept c = record {
+  formed = ap are_formed c.new.ensures ∙ start-formed c.args.node;
+  rendered = c.in_ok-tables.ensures;
+}

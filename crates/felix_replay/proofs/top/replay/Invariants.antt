@@ -1,0 +1,25 @@
+use Rattle.std.proofs.Common.{◌≡◌, ◌+◌, ◌-◌, ◌^◌, ◌≤◌, List, ℕ, length}
+use Rattle.std.specs.Io.KnownBytes.{Appends}
+use Rattle.fx_lines.specs.Reading.{HasRead}
+use Rattle.fx_lines.specs.Held.{rest_of}
+use Rattle.felix_replay.specs.Run.{state_after, written}
+use Rattle.felix_replay.specs.Output.{start, next, text}
+use Rattle.felix_replay.specs.Engine.{state_of, IsKept}
+use Rattle.felix_replay.proofs.top.replay.Given as goal
+
+abbrev pub invariant-loop-engine : goal.invariant-loop-engine
+invariant-loop-engine g l = record {
+  ran : (lines : List (List ℕ))
+      × HasRead (g.S.Source.left l.fn.source) (g.S.Source.left l.source) (g.S.Source.given l.fn.source) (g.S.Source.given l.source) (rest_of l.reader) l.reader.ended lines
+      × Appends (g.K.Sink.held l.fn.sink) (g.K.Sink.held l.sink) (written next text (start l.node) lines)
+      × (state_of l.engine ≡ state_after next (start l.node) lines);
+  given : g.S.Source.given l.source ≡ l.reader.taken;
+  ended : g.S.Source.ended l.source ≡ l.reader.ended;
+  source_later : g.S.Source.faults l.fn.source ≤ g.S.Source.faults l.source;
+  sink_later : g.K.Sink.faults l.fn.sink ≤ g.K.Sink.faults l.sink;
+  kept : IsKept l.engine;
+  few : l.engine.lines + length (rest_of l.reader) ≤ l.reader.taken;
+}
+
+abbrev pub decreases-loop-engine : goal.decreases-loop-engine
+decreases-loop-engine g l = 2 ^ 32 + length (rest_of l.reader) - l.reader.taken

@@ -1,0 +1,114 @@
+//! The top call: from the bytes of a source to the bytes of a sink.
+ghost use Rattle.std.specs.Prelude.{List, ℕ, ◌++◌, Some, ◌≡◌, ◌⊎◌, ◌+◌, ◌^◌, ◌<◌, ◌≤◌, IfOk, OnOk, OnErr, IsErrOf, IsSome, None, false, true};
+ghost use Rattle.std.specs.Io.KnownBytes.{Appends, Keeps};
+ghost use Rattle.fx_base.specs.Streams.{Rose, AppendsFront};
+ghost use Rattle.felix_replay.specs.Words.{node_of, name_of};
+ghost use Rattle.fx_print.specs.Texts.{usage_line};
+ghost use Rattle.felix_replay.specs.Top.{Ran, Stopped, IsStop, HasRun, output_status};
+ghost use Rattle.felix_replay.specs.Output.{output};
+
+use crate::engine::Engine;
+use crate::stop::Stop;
+use crate::words::node_word;
+use fx_base::{Sink, Source, Text};
+use fx_lines::LineReader;
+use std::alloc::Global;
+
+#[derive(Clone, Copy, Debug, PartialEq, Eq)]
+pub enum Status {
+    Done,
+    Refused,
+    Usage,
+    ReadFault,
+    WriteFault,
+    Memory,
+    InputTooLong,
+}
+
+/// Reads the source to its end, and writes what the lines say to the sink.
+pub fn felix_replay<S: Source, K: Sink>(
+    alloc: Global,
+    words: &[Text],
+    source: &mut S,
+    sink: &mut K,
+) -> Status
+    requires fresh { S.given source.old ≡ 0 }
+    requires unended { S.ended source.old ≡ false }
+
+    // The input was read to its end, and the output is the definition's.
+    ensures done { result ≡ Status.Done → IsSome (node_of words.now)
+        × Ran (name_of words.now) (S.left source.old) (S.left source.new) (S.given source.old) (S.given source.new) (S.ended source.new) (K.held sink.old) (K.held sink.new) false }
+    ensures refused { result ≡ Status.Refused → IsSome (node_of words.now)
+        × Ran (name_of words.now) (S.left source.old) (S.left source.new) (S.given source.old) (S.given source.new) (S.ended source.new) (K.held sink.old) (K.held sink.new) true }
+
+    // The same where the source tells what is left and the sink what it holds.
+    ensures told { (input : List ℕ) (held : List ℕ) → S.left source.old ≡ Some input → K.held sink.old ≡ Some held → HasRun result
+        → (K.held sink.new ≡ Some (held ++ output (name_of words.now) input)) × (result ≡ output_status (name_of words.now) input) }
+
+    // Without a fault it is never anything else but want of memory.
+    ensures complete { IsSome (node_of words.now) → ¬ Rose (S.faults source.old) (S.faults source.new) → ¬ Rose (K.faults sink.old) (K.faults sink.new)
+        → S.given source.new < 2 ^ 32 → HasRun result ⊎ (result ≡ Status.Memory) }
+
+    // The words aren't in the grammar.
+    ensures usage { result ≡ Status.Usage → (node_of words.now ≡ None)
+        × Appends (K.held sink.old) (K.held sink.new) usage_line }
+    ensures only_usage { node_of words.now ≡ None → (result ≡ Status.Usage) ⊎ (result ≡ Status.WriteFault) }
+
+    // What a run that ended early has written is a front of the output.
+    ensures stopped { IsSome (node_of words.now) → IsStop result
+        → Stopped (name_of words.now) (S.left source.old) (S.left source.new) (S.given source.old) (S.given source.new) (S.ended source.new) (K.held sink.old) (K.held sink.new) }
+    ensures no_usage { node_of words.now ≡ None → AppendsFront (K.held sink.old) (K.held sink.new) usage_line }
+
+    // Each other end has its cause.
+    ensures read_fault { result ≡ Status.ReadFault → Rose (S.faults source.old) (S.faults source.new) }
+    ensures write_fault { result ≡ Status.WriteFault → Rose (K.faults sink.old) (K.faults sink.new) }
+    ensures too_long { result ≡ Status.InputTooLong → (S.given source.new ≡ 2 ^ 32) × (S.ended source.new ≡ false) }
+{
+    let Some(node) = node_word(words) else {
+        return tell_usage(sink);
+    };
+    match replay(alloc, node, source, sink) {
+        Ok(false) => Status::Done,
+        Ok(true) => Status::Refused,
+        Err(Stop::ReadFault) => Status::ReadFault,
+        Err(Stop::WriteFault) => Status::WriteFault,
+        Err(Stop::Memory) => Status::Memory,
+        Err(Stop::InputTooLong) => Status::InputTooLong,
+    }
+}
+
+fn tell_usage<K: Sink>(sink: &mut K) -> Status
+    ensures told { result ≡ Status.Usage → Appends (K.held sink.old) (K.held sink.new) usage_line }
+    ensures only { (result ≡ Status.Usage) ⊎ (result ≡ Status.WriteFault) }
+    ensures front { AppendsFront (K.held sink.old) (K.held sink.new) usage_line }
+    ensures cause { result ≡ Status.WriteFault → Rose (K.faults sink.old) (K.faults sink.new) }
+{
+    match sink.put(b"usage: felix-replay --node NAME [--soak SEED --count N]\n") {
+        Ok(()) => Status::Usage,
+        Err(_) => Status::WriteFault,
+    }
+}
+
+// Answers each line, and tells whether one was refused.
+fn replay<S: Source, K: Sink>(
+    alloc: Global,
+    node: &Text,
+    source: &mut S,
+    sink: &mut K,
+) -> Result<bool, Stop>
+    requires fresh { S.given source.old ≡ 0 }
+    requires unended { S.ended source.old ≡ false }
+    ensures ran { IfOk result (Ran node.now (S.left source.old) (S.left source.new) (S.given source.old) (S.given source.new) (S.ended source.new) (K.held sink.old) (K.held sink.new)) }
+    ensures stopped { OnErr result (Stopped node.now (S.left source.old) (S.left source.new) (S.given source.old) (S.given source.new) (S.ended source.new) (K.held sink.old) (K.held sink.new)) }
+    ensures read_fault { IsErrOf result Stop.ReadFault → Rose (S.faults source.old) (S.faults source.new) }
+    ensures write_fault { IsErrOf result Stop.WriteFault → Rose (K.faults sink.old) (K.faults sink.new) }
+    ensures too_long { IsErrOf result Stop.InputTooLong → (S.given source.new ≡ 2 ^ 32) × (S.ended source.new ≡ false) }
+    ensures short { OnOk result (S.given source.new < 2 ^ 32) }
+{
+    let mut reader = LineReader::new(alloc);
+    let mut engine = Engine::new(alloc, node.clone()?)?;
+    while reader.advance(source)? {
+        engine.answer(reader.line(), sink)?;
+    }
+    Ok(engine.refused)
+}
