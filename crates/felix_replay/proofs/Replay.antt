@@ -1,7 +1,7 @@
 -- One line more in a replay.
 use Rattle.std.proofs.Common.{◌≡◌, ℕ, List, [], ◌∷◌, ◌++◌, Option, sym, ◌∙◌, ap, subst}
 use Rattle.std.specs.Io.KnownBytes.{Appends}
-use Rattle.std.proofs.Common.{Bool, true, refl}
+use Rattle.std.proofs.Common.{Bool, true, refl, Result, Ok, Err, ◌+◌}
 use Rattle.fx_lines.specs.Lines.{lines_of, answerable}
 use Rattle.std.proofs.lemmas.List.{append-nil}
 use Rattle.fx_base.specs.Streams.{Gives, AppendsFront}
@@ -10,7 +10,10 @@ use Rattle.fx_lines.specs.Reading.{HasRead}
 use Rattle.fx_lines.proofs.Cuts.{answerable-lines, nothing_given}
 use Rattle.felix_replay.specs.Top.{Stopped}
 use Rattle.felix_replay.specs.Run.{state_after, written}
-use Rattle.felix_replay.specs.Output.{State, start, next, text, output}
+use Rattle.fx_json.specs.declared.refusal.Refusal.{Refusal}
+use Rattle.fx_lines.specs.declared.commands.Command.{Command}
+use Rattle.fx_lines.specs.declared.commands.Command.TheVariants as command
+use Rattle.felix_replay.specs.Output.{State, start, next, step, text, output}
 use Rattle.felix_replay.proofs.Runs.{state_after-push, written-push, written-append}
 
 module _ (node : List ℕ) (lines : List (List ℕ)) (line bytes : List ℕ) (s : State) (is : s ≡ state_after next (start node) lines) (same : bytes ≡ line) where
@@ -60,3 +63,11 @@ stopped_within node left_before left_now given_before given_now held ended ended
       output = front_of node (answerable ended_now (was.taken ++ [])) (lines ++ line ∷ []) more.0 out_before out_now more.1
           (subst (AppendsFront out_before out_now) e (AppendsFront-after out_before out out_now (written next text (start node) lines) (text s bytes) wrote stop));
     }
+
+-- each line is counted
+pub step-lines : (s : State) (a : Result Command Refusal) → (step s a).lines ≡ s.lines + 1
+step-lines s (Ok command.Blank) = refl
+step-lines s (Ok command.Tables) = refl
+step-lines s (Ok command.Flush) = refl
+step-lines s (Ok (command.Update u)) = refl
+step-lines s (Err r) = refl
