@@ -1,0 +1,2 @@
+//! The way of one packet through the tables.
+#![tactic(auto)]
