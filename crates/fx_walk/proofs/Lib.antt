@@ -5,3 +5,5 @@ pub mod Paths
 pub mod Rules
 pub mod Lookups
 pub mod Families
+pub mod Sides
+pub mod FirstPackets
