@@ -7,3 +7,4 @@ pub mod Lookups
 pub mod Families
 pub mod Sides
 pub mod FirstPackets
+pub mod Wanted

@@ -11,15 +11,15 @@ use Rattle.std.specs.FinMap.{FinMap, find, is_sorted, entries, entries_sorted, g
 use Rattle.std.specs.FinMap.Entries.{below_all}
 use Rattle.fx_base.specs.Extended.{extended, collected}
 
-first : (a b : Bool) → T (a && b) → T a
+pub first : (a b : Bool) → T (a && b) → T a
 first true b h = tt
 first false b h = h
 
-second : (a b : Bool) → T (a && b) → T b
+pub second : (a b : Bool) → T (a && b) → T b
 second true b h = h
 second false b h = absurd h
 
-not_equal : (r : Ordering) → T (is_lt r) → is_eq r ≡ false
+pub not_equal : (r : Ordering) → T (is_lt r) → is_eq r ≡ false
 not_equal Less h = refl
 not_equal Equal h = absurd h
 not_equal Greater h = absurd h
