@@ -83,6 +83,12 @@ pub record IsServable (R : Resources) : Type 0 where
   pub on_workloads : (k : ItemKey) (e : Endpoint) → maps.get R.endpoints k ≡ Some e → is_served R e ≡ true → is_workload e.iface ≡ true
   pub apart : (k l : ItemKey) (e f : Endpoint) → maps.get R.endpoints k ≡ Some e → maps.get R.endpoints l ≡ Some f → is_served R e ≡ true → is_served R f ≡ true → e.iface ≡ f.iface → k ≡ l
 
+-- the tables of servable resources give each first packet the policy reference's verdict and reasons
+abbrev pub PolicyIsKept : Type 0
+PolicyIsKept =
+    (R : Resources) (a : Packet) → IsServable R → a.state ≡ New
+    → let answer = packet_verdict R a in Decides (tables_of (view_of R)) a answer.verdict answer.egress answer.ingress
+
 -- for all resources of which these are the tables, this is the policy reference's answer to a packet in state NEW
 abbrev pub IsPolicyAnswer : Tables → Packet → Verdict → Option Reason → Option Reason → Type 0
 IsPolicyAnswer tables a v egress ingress =

@@ -8,3 +8,5 @@ pub mod Families
 pub mod Sides
 pub mod FirstPackets
 pub mod Wanted
+pub mod Ranking
+pub mod Agree
