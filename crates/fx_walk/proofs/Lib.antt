@@ -10,3 +10,4 @@ pub mod FirstPackets
 pub mod Wanted
 pub mod Ranking
 pub mod Agree
+pub mod Whole

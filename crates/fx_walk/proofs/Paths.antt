@@ -1,18 +1,14 @@
 -- A walk only adds to its path, and what is written of a path that breaks off is its beginning.
 use Rattle.std.proofs.Common.{◌≡◌, ℕ, zero, suc, Bool, true, false, List, [], ◌∷◌, ◌++◌, if◌then◌else◌, refl, sym, ap, ◌∙◌, append_assoc}
 use Rattle.std.proofs.lemmas.List.{append-nil}
-use Rattle.fx_model.specs.declared.packet.Packet.{Packet}
-use Rattle.fx_model.specs.declared.packet.Verdict.{Verdict}
-use Rattle.fx_model.specs.declared.packet.Verdict.TheVariants.{Allow, Deny}
 use Rattle.fx_model.specs.declared.chain.Target.{Target}
 use Rattle.fx_model.specs.declared.chain.Target.TheVariants as target
 use Rattle.fx_model.specs.declared.chain.ChainRule.{ChainRule}
-use Rattle.fx_model.specs.Tables.{ChainName, Chains, Tables, forward}
-use Rattle.fx_model.specs.Ranks.{IsRanked}
-use Rattle.fx_model.specs.Machine.{Test, Trace, hops_and_reasons, is_shown, holds, hold_all, rules_in, nothing_noted, Run, at_rule, CutsRun}
+use Rattle.fx_model.specs.Tables.{ChainName, Chains}
+use Rattle.fx_model.specs.Machine.{Test, Trace, hops_and_reasons, is_shown, hold_all, rules_in}
 use Rattle.fx_model.specs.Walk.{Onward, Ended, Accepted, Dropped, Left, Through, onward, obeyed, after_jump, after_goto, over_rule, over_rules, over_chain}
 use Rattle.fx_walk.specs.Stops.{hops_in, IsCut}
-use Rattle.fx_walk.proofs.Walks.{rule_hit, rule_miss, walked-run, one-end}
+use Rattle.fx_walk.proofs.Walks.{rule_hit, rule_miss}
 
 abbrev pub Extends : List (ChainName × ℕ) → List (ChainName × ℕ) → Type 0
 Extends xs ys = (rest : List (ChainName × ℕ)) × (ys ≡ xs ++ rest)
@@ -119,28 +115,3 @@ cut_jump before cut x h = record { more = h.more; grown = h.grown; rest = h.rest
 
 pub cut_goto : (before cut : List (ChainName × ℕ)) (x : Ended Trace) → IsCut before cut x → IsCut before cut (after_goto x)
 cut_goto before cut x h = record { more = h.more; grown = h.grown; rest = h.rest; whole = goto_hops x ∙ h.whole }
-
--- ---- the whole run
-
-module _ (tables : Tables) (a : Packet) (ranked : IsRanked tables.chains) (before : List (ChainName × ℕ)) where
-  abbrev start : Trace
-  start = record { hops = before; reasons = nothing_noted }
-
-  abbrev the_run : Verdict → Trace → Type 0
-  the_run v t = Run Trace hops_and_reasons (holds a) tables.chains (at_rule forward 0 [] 0 start) v t
-
-  -- the end that a walk of the first chain has
-  the_end : (e : Ended Trace) → over_chain hops_and_reasons (holds a) tables.chains 5 forward 0 start ≡ e → (v : Verdict) (t : Trace) → the_run v t → t.hops ≡ hops_in e
-  the_end e is v t run = by_end e is
-    where
-      ends : (w : Verdict) (u : Trace) → the_run w u → t.hops ≡ u.hops
-      ends w u other = ap (λ (x : Trace). x.hops) (one-end hops_and_reasons (holds a) tables.chains run other).1
-
-      by_end : (e : Ended Trace) → over_chain hops_and_reasons (holds a) tables.chains 5 forward 0 start ≡ e → t.hops ≡ hops_in e
-      by_end (Accepted s) is = ends Allow s (walked-run hops_and_reasons (holds a) tables.chains ranked 0 start Allow s (rw is (refl, refl)))
-      by_end (Dropped s) is = ends Deny s (walked-run hops_and_reasons (holds a) tables.chains ranked 0 start Deny s (rw is (refl, refl)))
-      by_end (Left m s) is = ends Allow s (walked-run hops_and_reasons (holds a) tables.chains ranked 0 start Allow s (rw is (refl, refl)))
-      by_end (Through m s) is = ends Allow s (walked-run hops_and_reasons (holds a) tables.chains ranked 0 start Allow s (rw is (refl, refl)))
-
-  pub cuts_run : (cut : List (ChainName × ℕ)) → IsCut before cut (over_chain hops_and_reasons (holds a) tables.chains 5 forward 0 start) → CutsRun tables a before cut
-  cuts_run cut h = ((h.more, h.grown), λ after v egress ingress run. (h.rest, the_end _ refl v _ run.1 ∙ h.whole))

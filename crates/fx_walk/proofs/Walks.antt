@@ -11,7 +11,7 @@ use Rattle.fx_model.specs.declared.chain.ChainRule.{ChainRule}
 use Rattle.fx_model.specs.Tables.{ChainName, Chains, forward}
 use Rattle.fx_model.specs.Ranks.{LeadsBelow, AllLeadBelow, IsRanked, rank_of}
 use Rattle.fx_model.specs.Machine.{Test, Notes, hold_all, marked, rules_found, rules_in, Place, Config, Next, Goes, Ends, at_rule, popped, acted, at_next, step, Run, ended, stepped}
-use Rattle.fx_model.specs.Walk.{Onward, Ended, Accepted, Dropped, Left, Through, onward, obeyed, over_rule, over_rules, over_chain, after_jump, after_goto}
+use Rattle.fx_model.specs.Walk.{Onward, Ended, Accepted, Dropped, Left, Through, verdict_of, noted_in, onward, obeyed, over_rule, over_rules, over_chain, after_jump, after_goto}
 
 -- what stands in a list from a place on
 pub get-at : {A : Type 0} (p : ℕ) (xs : List A) (x : A) (rest : List A) → drop p xs ≡ x ∷ rest → slice_get xs p ≡ Some x
@@ -87,6 +87,16 @@ chain-rules note a chains (suc n) c m s h =
 -- the same where the chain's rules are known
 pub chain-start : {S : Type 0} (note : Notes S) (a : Test) (chains : Chains) (n : ℕ) (c : ChainName) (m : ℕ) (s : S) (rs : List ChainRule) → (n ≡ 0 → ⊥) → rules_in chains c ≡ rs → over_chain note a chains n c m s ≡ over_rules note a (over_chain note a chains (n - 1)) c 1 rs m s
 chain-start note a chains n c m s rs h e = chain-rules note a chains n c m s h ∙ ap (λ x. over_rules note a (over_chain note a chains (n - 1)) c 1 x m s) e
+
+-- a chain that isn't there, or none at all
+pub chain-none : {S : Type 0} (note : Notes S) (a : Test) (chains : Chains) (n : ℕ) (c : ChainName) (m : ℕ) (s : S) → rules_in chains c ≡ [] → over_chain note a chains n c m s ≡ Through m s
+unfolding over_chain over_rules
+chain-none note a chains zero c m s h = refl
+chain-none note a chains (suc n) c m s h = ap (λ rs. over_rules note a (over_chain note a chains n) c 1 rs m s) h
+
+pub chain-zero : {S : Type 0} (note : Notes S) (a : Test) (chains : Chains) (n : ℕ) (c : ChainName) (m : ℕ) (s : S) → n ≡ 0 → over_chain note a chains n c m s ≡ Through m s
+unfolding over_chain
+chain-zero note a chains n c m s h = rw h refl
 
 -- the rules from place i on begin with the rule there
 pub walk-next : {S : Type 0} (note : Notes S) (a : Test) (call : ChainName → Onward S) (c : ChainName) (i : ℕ) (rules : List ChainRule) (r : ChainRule) (m : ℕ) (s : S) → i < length rules → r ≡ get_or rules i r → over_rules note a call c (i + 1) (drop i rules) m s ≡ onward (over_rule note a call c (i + 1) r m s) (over_rules note a call c (i + 1 + 1) (drop (i + 1) rules))
@@ -190,6 +200,16 @@ module _ {S : Type 0} (note : Notes S) (a : Test) (chains : Chains) where
   -- the whole run, from the walk of the first chain
   pub walked-run : IsRanked chains → (m : ℕ) (s : S) (v : Verdict) (t : S) → Means note a chains (over_chain note a chains 5 forward m s) [] v t → Run S note a chains (at_rule forward 0 [] m s) v t
   walked-run ranked m s v t l = let low : rank_of forward < 5 = lit< tt in chain-run ranked 5 forward low m s [] v t l
+
+  own-meaning : (e : Ended S) → Means note a chains e [] (verdict_of e) (noted_in e)
+  own-meaning (Accepted s) = (refl, refl)
+  own-meaning (Dropped s) = (refl, refl)
+  own-meaning (Left m s) = (refl, refl)
+  own-meaning (Through m s) = (refl, refl)
+
+  -- the run ends as the walk of the first chain does
+  pub ended-run : IsRanked chains → (s : S) → Run S note a chains (at_rule forward 0 [] 0 s) (verdict_of (over_chain note a chains 5 forward 0 s)) (noted_in (over_chain note a chains 5 forward 0 s))
+  ended-run ranked s = walked-run ranked 0 s _ _ (own-meaning (over_chain note a chains 5 forward 0 s))
 
 -- a run has one end
 module _ {S : Type 0} (note : Notes S) (a : Test) (chains : Chains) where

@@ -1,2 +1,12 @@
-//! The way of one packet through the tables.
+//! The way of one packet through the tables: its path, its verdict and the rules that decided.
 #![tactic(auto)]
+
+pub use laws::{policy_is_kept, run_has_one_end, tables_agree};
+pub use outcome::{Hop, Outcome};
+pub use walk::decide;
+
+mod laws;
+mod matches;
+mod notes;
+mod outcome;
+mod walk;
