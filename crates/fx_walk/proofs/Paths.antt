@@ -1,5 +1,6 @@
 -- A walk only adds to its path, and what is written of a path that breaks off is its beginning.
-use Rattle.std.proofs.Common.{◌≡◌, ℕ, zero, suc, Bool, true, false, List, [], ◌∷◌, ◌++◌, if◌then◌else◌, refl, sym, ap, ◌∙◌, append_assoc}
+use Rattle.std.proofs.Common.{◌≡◌, ℕ, zero, suc, Bool, true, false, List, [], ◌∷◌, ◌++◌, if◌then◌else◌, refl, sym, ap, ◌∙◌, append_assoc, subst}
+use Rattle.std.specs.Prelude.{Result, Ok, Err, IfOk, OnErr}
 use Rattle.std.proofs.lemmas.List.{append-nil}
 use Rattle.fx_model.specs.declared.chain.Target.{Target}
 use Rattle.fx_model.specs.declared.chain.Target.TheVariants as target
@@ -79,10 +80,10 @@ module _ (test : Test) where
 
 
   -- a rule at which the walk broke off, before anything of it was written
-  pub cut_before : (chains : Chains) (n : ℕ) (c : ChainName) (p : ℕ) (r : ChainRule) (m : ℕ) (t : Trace) → IsCut t.hops t.hops (over_rule hops_and_reasons test (over_chain hops_and_reasons test chains n) c p r m t)
-  cut_before chains n c p r m t =
+  pub cut_before : (chains : Chains) (n : ℕ) (c : ChainName) (p : ℕ) (r : ChainRule) (m : ℕ) (t : Trace) (cut : List (ChainName × ℕ)) → cut ≡ t.hops → IsCut t.hops cut (over_rule hops_and_reasons test (over_chain hops_and_reasons test chains n) c p r m t)
+  cut_before chains n c p r m t cut e =
       let x = rule_grows (over_chain hops_and_reasons test chains n) (chain_grows chains n) c p r m t in
-      record { more = []; grown = sym (append-nil t.hops); rest = x.0; whole = x.1 }
+      record { more = []; grown = e ∙ sym (append-nil t.hops); rest = x.0; whole = x.1 ∙ ap (λ l. l ++ x.0) (sym e) }
 
   -- a walk that broke off within a rule, where other rules follow
   pub cut_within : (chains : Chains) (n : ℕ) (c : ChainName) (p : ℕ) (rs : List ChainRule) (x whole : Ended Trace) (first before cut : List (ChainName × ℕ)) → Extends first before → whole ≡ onward x (over_rules hops_and_reasons test (over_chain hops_and_reasons test chains n) c p rs) → IsCut before cut x → IsCut first cut whole
@@ -115,3 +116,22 @@ cut_jump before cut x h = record { more = h.more; grown = h.grown; rest = h.rest
 
 pub cut_goto : (before cut : List (ChainName × ℕ)) (x : Ended Trace) → IsCut before cut x → IsCut before cut (after_goto x)
 cut_goto before cut x h = record { more = h.more; grown = h.grown; rest = h.rest; whole = goto_hops x ∙ h.whole }
+
+-- a walk that broke off behind a rule that matched
+pub cut_hit : (test : Test) (call : ChainName → Onward Trace) (c : ChainName) (p : ℕ) (r : ChainRule) (m : ℕ) (t u : Trace) (cut : List (ChainName × ℕ)) → hold_all test m r.matches ≡ true → u ≡ hops_and_reasons c p r t → IsCut u.hops cut (obeyed call r.target m u) → IsCut t.hops cut (over_rule hops_and_reasons test call c p r m t)
+cut_hit test call c p r m t u cut holds is h =
+    let from = note_extends c p r t in
+    let at : IsCut (hops_and_reasons c p r t).hops cut (obeyed call r.target m (hops_and_reasons c p r t)) = subst (λ (x : Trace). IsCut x.hops cut (obeyed call r.target m x)) is h in
+    subst (λ e. IsCut t.hops cut e) (sym (rule_hit hops_and_reasons test call c p r m t holds)) (cut_noted t.hops (hops_and_reasons c p r t).hops cut _ from at)
+
+pub on_err : {A E : Type 0} (r : Result A E) (P : Type 0) → P → OnErr r P
+on_err (Ok x) P h = tt
+on_err (Err e) P h = h
+
+pub if_ok_then : {A E : Type 0} (r : Result A E) (P Q : A → Type 0) → ((x : A) → P x → Q x) → IfOk r P → IfOk r Q
+if_ok_then (Ok x) P Q f h = f x h
+if_ok_then (Err e) P Q f h = tt
+
+pub on_err_then : {A E : Type 0} (r : Result A E) (P Q : Type 0) → (P → Q) → OnErr r P → OnErr r Q
+on_err_then (Ok x) P Q f h = tt
+on_err_then (Err e) P Q f h = f h

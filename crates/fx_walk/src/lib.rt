@@ -3,10 +3,12 @@
 
 pub use laws::{policy_is_kept, run_has_one_end, tables_agree};
 pub use outcome::{Hop, Outcome};
+pub use path::trace;
 pub use walk::decide;
 
 mod laws;
 mod matches;
 mod notes;
 mod outcome;
+mod path;
 mod walk;
