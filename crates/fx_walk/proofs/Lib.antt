@@ -11,3 +11,4 @@ pub mod Wanted
 pub mod Ranking
 pub mod Agree
 pub mod Whole
+mod KnownPaths
