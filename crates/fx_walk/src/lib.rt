@@ -1,5 +1,5 @@
 //! The way of one packet through the tables: its path, its verdict and the rules that decided.
-#![tactic(auto)]
+#![tactic(auto, using(fx_base::proofs::AtKey::reads))]
 
 pub use laws::{policy_is_kept, run_has_one_end, tables_agree};
 pub use outcome::{Hop, Outcome};
@@ -12,3 +12,6 @@ mod notes;
 mod outcome;
 mod path;
 mod walk;
+
+#[cfg(test)]
+mod tests;
