@@ -1,17 +1,15 @@
 -- One run, and what the policy reference says.
 use Rattle.std.proofs.Common.{◌≡◌, ℕ, List, [], Option, refl, sym, ap, subst, ◌∙◌}
-use Rattle.fx_model.specs.declared.packet.State.TheVariants.{New}
 use Rattle.fx_model.specs.declared.packet.Packet.{Packet}
 use Rattle.fx_model.specs.declared.packet.Verdict.{Verdict}
 use Rattle.fx_model.specs.declared.chain.Reason.{Reason}
-use Rattle.fx_model.specs.declared.resources.Resources.{Resources}
 use Rattle.fx_model.specs.Views.{view_of}
 use Rattle.fx_model.specs.Tables.{ChainName, Tables, forward, tables_of}
 use Rattle.fx_model.specs.Ranks.{IsRanked}
 use Rattle.fx_model.specs.Machine.{holds, Reasons, Trace, nothing_noted, last_reason, hops_and_reasons, Run, at_rule, Decides, Traces, RunHasOneEnd}
 use Rattle.fx_model.specs.Walk.{Ended, Accepted, Dropped, Left, Through, verdict_of, noted_in, over_chain}
-use Rattle.fx_model.specs.Policy.{Outcome, packet_verdict}
-use Rattle.fx_model.specs.ViewPolicy.{view_verdict, TablesAgree, IsServable, IsPolicyAnswer, PolicyIsKept}
+use Rattle.fx_model.specs.Policy.{Outcome}
+use Rattle.fx_model.specs.ViewPolicy.{TablesAgree, IsPolicyAnswer, PolicyIsKept}
 use Rattle.fx_walk.proofs.Walks.{ended-run, one-end}
 use Rattle.fx_walk.proofs.Seen.{seen_by, traced_reasons}
 use Rattle.fx_walk.proofs.Families.{tables_render}
@@ -54,9 +52,11 @@ traced_decides tables a ranked before after v e i run =
     let end = one-end {S = Trace} hops_and_reasons (holds a) tables.chains run.1 (ended-run hops_and_reasons (holds a) tables.chains ranked start) in
     let same : seen_by (λ (t : Trace). t.reasons) traced ≡ plain = traced_reasons (holds a) tables.chains 5 forward 0 start in
     let w : verdict_of plain ≡ v = ap verdict_of (sym same) ∙ verdict-seen (λ (t : Trace). t.reasons) traced ∙ sym end.0 in
-    let n : noted_in plain ≡ record { side = run.0; egress = e; ingress = i } = ap noted_in (sym same) ∙ noted-seen (λ (t : Trace). t.reasons) traced ∙ ap (λ (t : Trace). t.reasons) (sym end.1) in
-    (run.0, subst (λ u. Run Reasons last_reason (holds a) tables.chains (at_rule forward 0 [] 0 nothing_noted) u (record { side = run.0; egress = e; ingress = i })) w
-    (subst (λ r. Run Reasons last_reason (holds a) tables.chains (at_rule forward 0 [] 0 nothing_noted) (verdict_of plain) r) n (ended-run last_reason (holds a) tables.chains ranked nothing_noted)))
+    let n : noted_in plain ≡ record { side = run.0; egress = e; ingress = i } = ap noted_in (sym same) ∙ noted-seen (λ (t : Trace). t.reasons) traced ∙ ap (λ (t : Trace). t.reasons) (sym end.1) in (
+      run.0,
+      subst (λ u. Run Reasons last_reason (holds a) tables.chains (at_rule forward 0 [] 0 nothing_noted) u (record { side = run.0; egress = e; ingress = i })) w
+          (subst (λ r. Run Reasons last_reason (holds a) tables.chains (at_rule forward 0 [] 0 nothing_noted) (verdict_of plain) r) n (ended-run last_reason (holds a) tables.chains ranked nothing_noted)),
+    )
 
 -- what is decided on a first packet is what the policy reference says
 pub is_policy_answer : (tables : Tables) (a : Packet) (v : Verdict) (e i : Option Reason) → Decides tables a v e i → IsPolicyAnswer tables a v e i

@@ -1,14 +1,11 @@
 -- The tables of a view have each chain under its name.
-use Rattle.std.proofs.Common.{◌≡◌, ℕ, Bool, true, false, cond, List, [], ◌∷◌, ◌++◌, Option, Some, None, refl, sym, ap, ◌∙◌}
+use Rattle.std.proofs.Common.{◌≡◌, ℕ, Bool, true, false, cond, List, [], ◌∷◌, ◌++◌, Option, Some, None, refl, ap, ◌∙◌}
 use Rattle.std.specs.List.{flat_map}
 use Rattle.std.specs.Ordering.{nat_cmp, eq_by_cmp}
 use Rattle.std.specs.Cmp.Lexicographic.{slice_cmp, nat_list_cmp_total}
 use Rattle.std.specs.FinMap as maps
-use Rattle.fx_base.specs.Extended.{collected}
 use Rattle.fx_model.specs.declared.chain.ChainRule.{ChainRule}
 use Rattle.fx_model.specs.declared.view.View.{View}
-use Rattle.fx_model.specs.declared.view.ViewPolicy.{ViewPolicy}
-use Rattle.fx_model.specs.declared.view.ViewProfile.{ViewProfile}
 use Rattle.fx_model.specs.declared.view.ViewEndpoint.{ViewEndpoint}
 use Rattle.fx_model.specs.Directions.{Direction, Ingress, Egress}
 use Rattle.fx_model.specs.Tables.{ChainName, Chains, forward, forward_rules, root_of, dispatch_rules, endpoint_chain, endpoint_rules, endpoint_chains, policy_chain, policy_rules, policy_chains, profile_chain, profile_rules, profile_chains, dispatch_chains, chains_of, tables_of}

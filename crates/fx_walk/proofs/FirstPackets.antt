@@ -15,12 +15,12 @@ use Rattle.fx_model.specs.Directions.{Direction, Ingress, Egress}
 use Rattle.fx_model.specs.Tables.{Tables, forward, forward_rules, plain, end_of, root_of}
 use Rattle.fx_model.specs.Ranks.{IsRanked}
 use Rattle.fx_model.specs.Machine.{holds, marked, iface_at, Reasons, nothing_noted, with_reason, last_reason, Decides}
-use Rattle.fx_model.specs.Walk.{Onward, Ended, Dropped, Left, Through, onward, after_jump, over_rules}
+use Rattle.fx_model.specs.Walk.{Onward, Ended, Dropped, onward, after_jump, over_rules}
 use Rattle.fx_model.specs.Policy.{Decision, Outcome, unknown_or_free, is_workload, side_verdict, with_ingress, both_sides}
-use Rattle.fx_model.specs.ViewPolicy.{view_endpoint_verdict, view_verdict_at, view_verdict, IsOnWorkloads}
+use Rattle.fx_model.specs.ViewPolicy.{view_verdict_at, view_verdict, IsOnWorkloads}
 use Rattle.fx_walk.proofs.Walks.{walk_hit, walk_miss, walk-end, Means, walked-run}
-use Rattle.fx_walk.proofs.Families.{Renders, tables_render}
-use Rattle.fx_walk.proofs.Sides.{Concludes, ConcludesAs, call, called, workload_met, root_decision, root_ends}
+use Rattle.fx_walk.proofs.Families.{Renders}
+use Rattle.fx_walk.proofs.Sides.{Concludes, call, called, workload_met, root_decision, root_ends}
 
 module _ (a : Packet) (v : View) (tables : Tables) (given : Renders v tables.chains) where
   -- the rules of the first chain from here on

@@ -20,11 +20,10 @@ use Rattle.fx_model.specs.declared.resources.Action.TheVariants.{Allow}
 use Rattle.fx_model.specs.declared.resources.Endpoint.{Endpoint}
 use Rattle.fx_model.specs.declared.resources.Profile.{Profile}
 use Rattle.fx_model.specs.declared.resources.Resources.{Resources}
-use Rattle.fx_model.specs.declared.view.ViewProfile.{ViewProfile}
 use Rattle.fx_model.specs.declared.view.ViewEndpoint.{ViewEndpoint}
-use Rattle.fx_model.specs.Directions.{Direction, Ingress, Egress}
+use Rattle.fx_model.specs.Directions.{Ingress, Egress}
 use Rattle.fx_model.specs.Resources.{is_served, served_endpoints}
-use Rattle.fx_model.specs.Views.{view_of, view_profile, view_endpoint, endpoint_entry, profile_entry, active_profiles}
+use Rattle.fx_model.specs.Views.{view_of, view_profile, view_endpoint, endpoint_entry, profile_entry}
 use Rattle.fx_model.specs.Tables.{ChainName, Chains, forward, forward_rules, root_of, dispatch_rules, dispatch_chains, policy_chains, profile_chains, endpoint_chains, chains_of, tables_of}
 use Rattle.fx_model.specs.Machine.{Test, Notes, Trace, holds, hops_and_reasons, last_reason, nothing_noted, rules_found, rules_in}
 use Rattle.fx_model.specs.Walk.{Onward, Ended, Accepted, Dropped, Through, over_rule, over_rules, over_chain}

@@ -1,12 +1,10 @@
 -- What maps that were collected from entries have at a key.
-use Rattle.std.proofs.Common.{◌≡◌, ℕ, Bool, true, false, cond, ◌&&◌, List, [], ◌∷◌, ◌++◌, Option, Some, None, refl, sym, ap, ◌∙◌, subst}
+use Rattle.std.proofs.Common.{◌≡◌, Bool, true, false, cond, ◌&&◌, List, [], ◌∷◌, ◌++◌, Option, Some, None, refl, sym, ap, ◌∙◌, subst}
 use Rattle.std.specs.Prelude.{T}
-use Rattle.std.specs.List.{flat_map}
 use Rattle.std.specs.declared.cmp.Ordering.{Ordering}
 use Rattle.std.specs.declared.cmp.Ordering.TheVariants.{Less, Equal, Greater}
-use Rattle.std.specs.Ordering.{nat_cmp, eq_by_cmp, is_eq, is_lt}
+use Rattle.std.specs.Ordering.{eq_by_cmp, is_eq, is_lt}
 use Rattle.std.specs.Cmp.{IsTotalOrder}
-use Rattle.std.specs.Cmp.Lexicographic.{slice_cmp, nat_list_cmp_total}
 use Rattle.std.specs.FinMap.{FinMap, find, is_sorted, entries, entries_sorted, get, get-entries, get-insert, get-empty, insert}
 use Rattle.std.specs.FinMap.Entries.{below_all}
 use Rattle.fx_base.specs.Extended.{extended, collected}

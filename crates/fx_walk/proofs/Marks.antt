@@ -39,7 +39,7 @@ is_one a m j e = eq-eqb _ _ (and_pow m j ∙ rw e (omega arith))
 
 pub is_not_one : (a : Packet) (m j : ℕ) → bit_at m j ≡ 0 → holds a m (match.Mark (2 ^ j) (2 ^ j)) ≡ false
 unfolding holds
-is_not_one a m j e = ne_eqb _ _ (λ q. let z : bit_and m (2 ^ j) ≡ 0 = and_pow m j ∙ rw e (omega arith) in let p : zero < 2 ^ j = pow_pos j in absurd (omega arith))
+is_not_one a m j e = ne_eqb _ _ (λ (q : bit_and m (2 ^ j) ≡ 2 ^ j). let z : bit_and m (2 ^ j) ≡ 0 = and_pow m j ∙ rw e (omega arith) in let p : zero < 2 ^ j = pow_pos j in absurd (omega arith))
 
 pub is_zero : (a : Packet) (m j : ℕ) → bit_at m j ≡ 0 → holds a m (match.Mark 0 (2 ^ j)) ≡ true
 unfolding holds
@@ -47,4 +47,4 @@ is_zero a m j e = eq-eqb _ _ (and_pow m j ∙ rw e (omega arith))
 
 pub is_not_zero : (a : Packet) (m j : ℕ) → bit_at m j ≡ 1 → holds a m (match.Mark 0 (2 ^ j)) ≡ false
 unfolding holds
-is_not_zero a m j e = ne_eqb _ _ (λ q. let z : bit_and m (2 ^ j) ≡ 2 ^ j = and_pow m j ∙ rw e (omega arith) in let p : zero < 2 ^ j = pow_pos j in absurd (omega arith))
+is_not_zero a m j e = ne_eqb _ _ (λ (q : bit_and m (2 ^ j) ≡ 0). let z : bit_and m (2 ^ j) ≡ 2 ^ j = and_pow m j ∙ rw e (omega arith) in let p : zero < 2 ^ j = pow_pos j in absurd (omega arith))

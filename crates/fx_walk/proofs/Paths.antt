@@ -78,7 +78,6 @@ module _ (test : Test) where
   chain_grows chains zero c m t = extends_same t.hops
   chain_grows chains (suc n) c m t = rules_grow (over_chain hops_and_reasons test chains n) (chain_grows chains n) c 1 (rules_in chains c) m t
 
-
   -- a rule at which the walk broke off, before anything of it was written
   pub cut_before : (chains : Chains) (n : ℕ) (c : ChainName) (p : ℕ) (r : ChainRule) (m : ℕ) (t : Trace) (cut : List (ChainName × ℕ)) → cut ≡ t.hops → IsCut t.hops cut (over_rule hops_and_reasons test (over_chain hops_and_reasons test chains n) c p r m t)
   cut_before chains n c p r m t cut e =

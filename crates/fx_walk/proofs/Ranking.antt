@@ -19,7 +19,7 @@ use Rattle.fx_model.specs.declared.view.ViewPolicy.{ViewPolicy}
 use Rattle.fx_model.specs.declared.view.ViewProfile.{ViewProfile}
 use Rattle.fx_model.specs.declared.view.ViewEndpoint.{ViewEndpoint}
 use Rattle.fx_model.specs.Directions.{Direction, Ingress, Egress}
-use Rattle.fx_model.specs.Tables.{ChainName, forward_rules, root_of, main_rules, rendered_rule, rendered_rules, policy_chains, policy_rules, policy_side, policy_jumps, profile_chains, profile_rules, profile_side, profile_jumps, present_or_missing, tier_rules, tiers_side, endpoint_chains, endpoint_rules, dispatch_rules, dispatch_chains, chains_of, tables_of}
+use Rattle.fx_model.specs.Tables.{ChainName, main_rules, rendered_rule, rendered_rules, policy_chains, policy_jumps, profile_chains, profile_rules, profile_side, profile_jumps, present_or_missing, tier_rules, tiers_side, endpoint_chains, endpoint_rules, dispatch_rules, dispatch_chains, chains_of, tables_of}
 use Rattle.fx_model.specs.Ranks.{AllLeadBelow, IsRanked, rank_of}
 use Rattle.fx_walk.proofs.Lookups.{last_at, get-collected}
 

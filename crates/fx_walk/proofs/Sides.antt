@@ -1,7 +1,7 @@
 -- The machine's run over the chains of a view has the view's verdict and reasons.
-use Rattle.std.proofs.Common.{◌≡◌, ℕ, suc, Bool, true, false, ◌||◌, cond, nat_eq, List, [], ◌∷◌, ◌++◌, map, Option, Some, None, is_some, refl, sym, ap, ◌∙◌, subst, arith, lit<, codes}
+use Rattle.std.proofs.Common.{◌≡◌, ℕ, suc, Bool, true, false, ◌||◌, List, [], ◌∷◌, ◌++◌, map, Option, Some, None, is_some, refl, sym, ap, ◌∙◌, subst, arith, lit<, codes}
 use Rattle.std.specs.Int.{bit_at}
-use Rattle.std.specs.List.{starts_with, list_any, flat_map}
+use Rattle.std.specs.List.{list_any, flat_map}
 use Rattle.std.specs.Str.{bytes_eq}
 use Rattle.std.specs.Ordering.{nat_cmp, eq_by_cmp}
 use Rattle.std.specs.Cmp.Lexicographic.{slice_cmp, texts_ties}
@@ -27,15 +27,14 @@ use Rattle.fx_model.specs.declared.view.ViewPolicy.{ViewPolicy}
 use Rattle.fx_model.specs.declared.view.ViewProfile.{ViewProfile}
 use Rattle.fx_model.specs.declared.view.ViewEndpoint.{ViewEndpoint}
 use Rattle.fx_model.specs.Directions.{Direction, Ingress, Egress}
-use Rattle.fx_model.specs.Tables.{ChainName, Chains, Tables, forward, forward_rules, plain, told, clear_mark, is_set, is_clear, accept_mark, pass_mark, policy_chain, policy_rules, policy_jumps, policy_side, profile_chain, profile_rules, profile_jumps, profile_side, present_or_missing, rendered_rules, tier_rules, tiers_side, endpoint_chain, endpoint_rules, end_of, root_of, dispatch_rules}
-use Rattle.fx_model.specs.Ranks.{IsRanked}
-use Rattle.fx_model.specs.Machine.{holds, hold_all, marked, iface_at, state_in, rules_in, Reasons, nothing_noted, with_reason, last_reason, Decides}
+use Rattle.fx_model.specs.Tables.{ChainName, Chains, forward, plain, told, is_set, is_clear, accept_mark, pass_mark, policy_chain, policy_rules, policy_jumps, policy_side, profile_chain, profile_rules, profile_jumps, profile_side, present_or_missing, rendered_rules, tier_rules, tiers_side, endpoint_chain, endpoint_rules, end_of, root_of, dispatch_rules}
+use Rattle.fx_model.specs.Machine.{holds, hold_all, marked, iface_at, state_in, rules_in, Reasons, with_reason, last_reason}
 use Rattle.fx_model.specs.Walk.{Onward, Ended, Accepted, Dropped, Left, Through, onward, after_jump, after_goto, over_rules, over_chain}
-use Rattle.fx_model.specs.Policy.{MetRule, Answer, Silent, Passed, Allowed, Denied, answer_of, first_answer, Decision, after_tier, tiers_verdict, Tier, Listed, Missing, There, or_rest, profile_verdict, profiles_verdict, unknown_or_free, is_workload, side_verdict, with_ingress, both_sides}
-use Rattle.fx_model.specs.ViewPolicy.{met_view_rules, view_rule_matches, rules_of_policy, view_tier, missing_or_there, listed_of, view_listed, view_endpoint_verdict, view_verdict_at, view_verdict, IsOnWorkloads}
-use Rattle.fx_walk.proofs.Walks.{walk_hit, walk_miss, walk-end, Means, walked-run}
+use Rattle.fx_model.specs.Policy.{MetRule, Answer, Silent, Passed, Allowed, Denied, answer_of, first_answer, Decision, after_tier, tiers_verdict, or_rest, profile_verdict, profiles_verdict, is_workload}
+use Rattle.fx_model.specs.ViewPolicy.{met_view_rules, view_rule_matches, rules_of_policy, view_tier, missing_or_there, listed_of, view_listed, view_endpoint_verdict}
+use Rattle.fx_walk.proofs.Walks.{walk_hit, walk-end}
 use Rattle.fx_walk.proofs.Marks.{clear_same, clear_other, is_zero, is_not_zero}
-use Rattle.fx_walk.proofs.Rules.{Keeps, EndsAs, only, noted_as, plain_hit, miss, told_drop, return_hit, return_miss, rules_end}
+use Rattle.fx_walk.proofs.Rules.{EndsAs, only, noted_as, plain_hit, miss, told_drop, return_hit, return_miss, rules_end}
 use Rattle.fx_walk.proofs.Families.{found, Renders}
 
 -- rules of profiles don't pass

@@ -1,6 +1,6 @@
 -- What the wanted view says of a first packet is what the resources say.
 use Rattle.std.proofs.Common.{◌≡◌, ℕ, suc, Bool, true, false, ◌||◌, cond, List, [], ◌∷◌, ◌++◌, map, Option, Some, None, refl, sym, ap, ◌∙◌, subst}
-use Rattle.std.specs.Prelude.{T, filter, ◌&&◌}
+use Rattle.std.specs.Prelude.{T, filter}
 use Rattle.std.specs.List.{list_any, flat_map}
 use Rattle.std.specs.Str.{bytes_eq}
 use Rattle.std.specs.declared.cmp.Ordering.{Ordering}
@@ -29,7 +29,7 @@ use Rattle.fx_model.specs.declared.view.ViewProfile.{ViewProfile}
 use Rattle.fx_model.specs.Directions.{Direction, Ingress, Egress}
 use Rattle.fx_model.specs.Resources.{is_served, served_endpoints}
 use Rattle.fx_model.specs.Views.{view_of, view_rule, profile_key, view_profile, profile_entry, view_endpoint, endpoint_entry, active_profiles}
-use Rattle.fx_model.specs.Policy.{There, met_rules, side_of, there_or_missing, listed_profile, profiles_verdict, endpoint_verdict, with_iface, endpoint_at, verdict_at, is_workload, side_verdict, both_sides, packet_verdict}
+use Rattle.fx_model.specs.Policy.{There, met_rules, there_or_missing, listed_profile, profiles_verdict, endpoint_verdict, with_iface, endpoint_at, verdict_at, is_workload, side_verdict, both_sides, packet_verdict}
 use Rattle.fx_model.specs.ViewPolicy.{met_view_rules, listed_of, view_listed, view_endpoint_verdict, view_verdict_at, view_verdict, IsOnWorkloads, IsServable}
 use Rattle.fx_walk.proofs.Lookups.{last_at, get-collected, first, second, not_equal}
 

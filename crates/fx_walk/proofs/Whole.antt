@@ -1,11 +1,11 @@
 -- The run of a packet, from the walk of the first chain.
-use Rattle.std.proofs.Common.{◌≡◌, ℕ, List, [], Option, refl, sym, ap, ◌∙◌, subst}
+use Rattle.std.proofs.Common.{◌≡◌, List, [], Option, refl, sym, ap, ◌∙◌, subst}
 use Rattle.fx_model.specs.declared.packet.Packet.{Packet}
 use Rattle.fx_model.specs.declared.packet.Verdict.{Verdict}
 use Rattle.fx_model.specs.declared.chain.Reason.{Reason}
 use Rattle.fx_model.specs.Tables.{ChainName, Tables, forward}
 use Rattle.fx_model.specs.Ranks.{IsRanked}
-use Rattle.fx_model.specs.Machine.{Notes, Test, Reasons, Trace, holds, last_reason, hops_and_reasons, nothing_noted, Run, at_rule, Decides, Traces, CutsRun}
+use Rattle.fx_model.specs.Machine.{Notes, Reasons, Trace, holds, last_reason, hops_and_reasons, nothing_noted, Run, at_rule, Decides, Traces, CutsRun}
 use Rattle.fx_model.specs.Walk.{Ended, verdict_of, noted_in, over_chain}
 use Rattle.fx_walk.specs.declared.outcome.Hop.{Hop}
 use Rattle.fx_walk.specs.declared.notes.Stop.{Stop}
@@ -44,10 +44,12 @@ module _ (tables : Tables) (a : Packet) (ranked : IsRanked tables.chains) (c : C
   from before = start nothing_noted before
 
   pub traces_run : (before after : List Hop) (e : Stop) → traced after e ≡ chain_trace tables a 5 c 0 (start first before) → (v : Verdict) (egress ingress : Option Reason) → v ≡ verdict_of (ended_of e) → egress ≡ (noted_in (ended_of e)).egress → ingress ≡ (noted_in (ended_of e)).ingress → Traces tables a (hops_of before) (hops_of after) v egress ingress
-  traces_run before after e walk v egress ingress ev ee ei =
-      ((noted_in (ended_of e)).side, rw (ev, ee, ei) (subst (λ w. Run Trace hops_and_reasons (holds a) tables.chains (at_rule forward 0 [] 0 (from before)) w (record { hops = hops_of after; reasons = noted_in (ended_of e) })) (same_verdict after e)
-      (subst (λ t. Run Trace hops_and_reasons (holds a) tables.chains (at_rule forward 0 [] 0 (from before)) (verdict_of (traced after e)) t) (same_notes after e)
-      (run_of hops_and_reasons tables a ranked c is (from before) (traced after e) (walk ∙ ap (λ s. chain_trace tables a 5 c 0 (start s before)) none)))))
+  traces_run before after e walk v egress ingress ev ee ei = (
+    (noted_in (ended_of e)).side,
+    rw (ev, ee, ei) (subst (λ w. Run Trace hops_and_reasons (holds a) tables.chains (at_rule forward 0 [] 0 (from before)) w (record { hops = hops_of after; reasons = noted_in (ended_of e) })) (same_verdict after e)
+        (subst (λ t. Run Trace hops_and_reasons (holds a) tables.chains (at_rule forward 0 [] 0 (from before)) (verdict_of (traced after e)) t) (same_notes after e)
+        (run_of hops_and_reasons tables a ranked c is (from before) (traced after e) (walk ∙ ap (λ s. chain_trace tables a 5 c 0 (start s before)) none)))),
+  )
 
   pub cuts_run : (before cut : List Hop) → IsCut (hops_of before) (hops_of cut) (chain_trace tables a 5 c 0 (start first before)) → CutsRun tables a (hops_of before) (hops_of cut)
   cuts_run before cut h = (

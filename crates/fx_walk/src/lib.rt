@@ -11,7 +11,6 @@ mod matches;
 mod notes;
 mod outcome;
 mod path;
-mod walk;
-
 #[cfg(test)]
 mod tests;
+mod walk;

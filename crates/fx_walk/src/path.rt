@@ -107,7 +107,17 @@ fn trace_rules<'a>(
     let mut mark = start;
     let mut seen = before;
     for (i, rule) in rules.iter().enumerate() {
-        match trace_rule(tables, packet, depth, chain, i as u64 + 1, rule, mark, seen, path)? {
+        match trace_rule(
+            tables,
+            packet,
+            depth,
+            chain,
+            i as u64 + 1,
+            rule,
+            mark,
+            seen,
+            path,
+        )? {
             Stop::Through(m, s) => {
                 mark = m;
                 seen = s;
@@ -139,7 +149,16 @@ fn trace_chain<'a>(
     if depth == 0 {
         return Ok(Stop::Through(mark, seen));
     }
-    trace_rules(tables, packet, depth - 1, chain, rules.as_slice(), mark, seen, path)
+    trace_rules(
+        tables,
+        packet,
+        depth - 1,
+        chain,
+        rules.as_slice(),
+        mark,
+        seen,
+        path,
+    )
 }
 
 /// As `decide`, and appends the packet's path: the rules that matched and that lead somewhere, end the packet's way or
@@ -155,6 +174,14 @@ pub fn trace<'a>(
     // On want of memory the path has grown by a prefix of the hops.
     ensures err { OnErr result (CutsRun tables.entry.now packet.now (hops_of path.old.items) (hops_of path.new.items)) }
 {
-    let stop = trace_chain(tables, packet, DEEPEST, first_chain(), 0, nothing_seen(), path)?;
+    let stop = trace_chain(
+        tables,
+        packet,
+        DEEPEST,
+        first_chain(),
+        0,
+        nothing_seen(),
+        path,
+    )?;
     Ok(outcome_of(stop))
 }

@@ -65,7 +65,11 @@ fn rule(matches: Seq<Match>, target: Target, tag: Tag) -> ChainRule
 fn write_endpoint(alloc: Global, tables: &mut Tables) -> Result<(), Memory>
     ensures { OnOk result (map.contains_key tables.new.chains endpoint_name ≡ true) }
 {
-    let accept = rule(established(alloc)?, Target::Accept, Tag::Why(Reason::Established));
+    let accept = rule(
+        established(alloc)?,
+        Target::Accept,
+        Tag::Why(Reason::Established),
+    );
     let set = Target::Mark {
         value: 0x30000,
         mask: 0x10000,
@@ -76,7 +80,11 @@ fn write_endpoint(alloc: Global, tables: &mut Tables) -> Result<(), Memory>
     };
     let allow = rule(Seq::new(alloc), set, Tag::Why(open));
     let back = rule(mark(alloc, 0x10000, 0x10000)?, Target::Return, Tag::Plain);
-    let drop = rule(Seq::new(alloc), Target::Drop, Tag::Why(Reason::NoProfileRule));
+    let drop = rule(
+        Seq::new(alloc),
+        Target::Drop,
+        Tag::Why(Reason::NoProfileRule),
+    );
     let rules = vec![in alloc; accept, allow, back, drop]?;
     tables.write_chain(endpoint(), Seq::from_vec(rules))?;
     Ok(())
@@ -87,8 +95,16 @@ fn write_root(alloc: Global, tables: &mut Tables) -> Result<(), Memory>
     requires { map.contains_key tables.old.chains endpoint_name ≡ true }
     ensures { OnOk result (map.contains_key tables.new.chains (root_of Egress) ≡ true) }
 {
-    let known = rule(from(alloc, b"cali1", false)?, Target::Goto(endpoint()), Tag::Plain);
-    let unknown = rule(Seq::new(alloc), Target::Drop, Tag::Why(Reason::UnknownInterface));
+    let known = rule(
+        from(alloc, b"cali1", false)?,
+        Target::Goto(endpoint()),
+        Tag::Plain,
+    );
+    let unknown = rule(
+        Seq::new(alloc),
+        Target::Drop,
+        Tag::Why(Reason::UnknownInterface),
+    );
     tables.write_chain(root(), Seq::from_vec(vec![in alloc; known, unknown]?))?;
     Ok(())
 }
@@ -103,7 +119,11 @@ fn write_first(alloc: Global, tables: &mut Tables) -> Result<(), Memory>
         mask: 0xf0000,
     };
     let begin = rule(Seq::new(alloc), clear, Tag::Plain);
-    let jump = rule(from(alloc, b"cali", true)?, Target::Jump(root()), Tag::Plain);
+    let jump = rule(
+        from(alloc, b"cali", true)?,
+        Target::Jump(root()),
+        Tag::Plain,
+    );
     let never = rule(mark(alloc, 0x20000, 0x30000)?, Target::Drop, Tag::Plain);
     tables.write_chain(first(), Seq::from_vec(vec![in alloc; begin, jump, never]?))?;
     Ok(())
@@ -146,10 +166,8 @@ fn reason_text(reason: Option<&Reason>) -> &'static str {
 
 fn is_path(path: &[Hop], wanted: &[(&str, u64)]) -> bool {
     path.len() == wanted.len()
-        && path
-            .iter()
-            .zip(wanted)
-            .all(|(hop, want)| hop.chain.bytes() == want.0.as_bytes() && hop.place == want.1)
+        && path.iter().zip(wanted).all(|(hop, want)| hop.chain.bytes() == want.0.as_bytes()
+            && hop.place == want.1)
 }
 
 #[test]
@@ -162,14 +180,22 @@ fn decides_and_traces(rt: HostRuntime) -> Result<(), Fail> {
             State::New,
             Verdict::Allow,
             "profile",
-            &[("cali-FORWARD", 2), ("cali-from-wl-dispatch", 1), ("cali-fw-cali1", 2)],
+            &[
+                ("cali-FORWARD", 2),
+                ("cali-from-wl-dispatch", 1),
+                ("cali-fw-cali1", 2),
+            ],
         ),
         (
             b"cali1",
             State::Related,
             Verdict::Allow,
             "established",
-            &[("cali-FORWARD", 2), ("cali-from-wl-dispatch", 1), ("cali-fw-cali1", 1)],
+            &[
+                ("cali-FORWARD", 2),
+                ("cali-from-wl-dispatch", 1),
+                ("cali-fw-cali1", 1),
+            ],
         ),
         (
             b"cali9",

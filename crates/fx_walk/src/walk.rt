@@ -113,7 +113,15 @@ fn walk_chain<'a>(
     if depth == 0 {
         return Stop::Through(mark, seen);
     }
-    walk_rules(tables, packet, depth - 1, chain, rules.as_slice(), mark, seen)
+    walk_rules(
+        tables,
+        packet,
+        depth - 1,
+        chain,
+        rules.as_slice(),
+        mark,
+        seen,
+    )
 }
 
 /// What the run of a packet gives. It takes no memory.
