@@ -117,10 +117,10 @@ pub cut_goto : (before cut : List (ChainName × ℕ)) (x : Ended Trace) → IsCu
 cut_goto before cut x h = record { more = h.more; grown = h.grown; rest = h.rest; whole = goto_hops x ∙ h.whole }
 
 -- a walk that broke off behind a rule that matched
-pub cut_hit : (test : Test) (call : ChainName → Onward Trace) (c : ChainName) (p : ℕ) (r : ChainRule) (m : ℕ) (t u : Trace) (cut : List (ChainName × ℕ)) → hold_all test m r.matches ≡ true → u ≡ hops_and_reasons c p r t → IsCut u.hops cut (obeyed call r.target m u) → IsCut t.hops cut (over_rule hops_and_reasons test call c p r m t)
-cut_hit test call c p r m t u cut holds is h =
+pub cut_hit : (test : Test) (call : ChainName → Onward Trace) (c : ChainName) (p : ℕ) (r : ChainRule) (m k : ℕ) (t u : Trace) (cut : List (ChainName × ℕ)) → hold_all test m r.matches ≡ true → k ≡ m → u ≡ hops_and_reasons c p r t → IsCut u.hops cut (obeyed call r.target k u) → IsCut t.hops cut (over_rule hops_and_reasons test call c p r m t)
+cut_hit test call c p r m k t u cut holds same is h =
     let from = note_extends c p r t in
-    let at : IsCut (hops_and_reasons c p r t).hops cut (obeyed call r.target m (hops_and_reasons c p r t)) = subst (λ (x : Trace). IsCut x.hops cut (obeyed call r.target m x)) is h in
+    let at : IsCut (hops_and_reasons c p r t).hops cut (obeyed call r.target m (hops_and_reasons c p r t)) = subst (λ (x : Trace). IsCut x.hops cut (obeyed call r.target m x)) is (subst (λ (n : ℕ). IsCut u.hops cut (obeyed call r.target n u)) same h) in
     subst (λ e. IsCut t.hops cut e) (sym (rule_hit hops_and_reasons test call c p r m t holds)) (cut_noted t.hops (hops_and_reasons c p r t).hops cut _ from at)
 
 pub on_err : {A E : Type 0} (r : Result A E) (P : Type 0) → P → OnErr r P

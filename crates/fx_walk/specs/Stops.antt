@@ -23,8 +23,8 @@ reasons_of s = record { side = direction_of s.side; egress = option_copied s.egr
 abbrev pub ended_of : Stop → Ended Reasons
 ended_of (stop.Accepted s) = Accepted (reasons_of s)
 ended_of (stop.Dropped s) = Dropped (reasons_of s)
-ended_of (stop.Left m s) = Left m (reasons_of s)
-ended_of (stop.Through m s) = Through m (reasons_of s)
+ended_of (stop.Left s) = Left s.mark (reasons_of s)
+ended_of (stop.Through s) = Through s.mark (reasons_of s)
 
 -- the walk of a chain for its reasons
 abbrev pub chain_walk : Tables → Packet → ℕ → ChainName → Onward Reasons
@@ -42,8 +42,8 @@ trace_of path s = record { hops = hops_of path; reasons = reasons_of s }
 abbrev pub traced : List Hop → Stop → Ended Trace
 traced path (stop.Accepted s) = Accepted (trace_of path s)
 traced path (stop.Dropped s) = Dropped (trace_of path s)
-traced path (stop.Left m s) = Left m (trace_of path s)
-traced path (stop.Through m s) = Through m (trace_of path s)
+traced path (stop.Left s) = Left s.mark (trace_of path s)
+traced path (stop.Through s) = Through s.mark (trace_of path s)
 
 -- the walk of a chain for its path and its reasons
 abbrev pub chain_trace : Tables → Packet → ℕ → ChainName → Onward Trace

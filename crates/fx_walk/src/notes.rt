@@ -7,7 +7,7 @@ ghost use Rattle.fx_model.specs.Walk.{noted_in, verdict_of};
 ghost use Rattle.fx_model.specs.Machine.{is_shown, last_reason, nothing_noted, side_at, with_reason, with_tag};
 ghost use Rattle.fx_walk.specs.Stops.{direction_of, ended_of, reasons_of};
 
-use crate::outcome::Outcome;
+use crate::outcome::{Hop, Outcome};
 use fx_base::ChainName;
 use fx_model::{ChainRule, Reason, Tag, Target, Verdict};
 
@@ -23,27 +23,30 @@ pub enum Side {
     Ingress,
 }
 
-/// The side that the walk is on, and the last reason on each.
+/// The packet's mark, the side that the walk is on, and the last reason on each.
 #[derive(Clone, Copy)]
 pub struct Seen<'a> {
+    pub mark: u32,
     pub side: Option<Side>,
     pub egress: Option<&'a Reason>,
     pub ingress: Option<&'a Reason>,
 }
 
-/// How the walk of a chain's rules ended, with the mark where it goes on: `Left` by RETURN, `Through` at their end.
+/// How the walk of a chain's rules ended: `Left` by RETURN, `Through` at their end.
 #[derive(Clone, Copy)]
 pub enum Stop<'a> {
     Accepted(Seen<'a>),
     Dropped(Seen<'a>),
-    Left(u32, Seen<'a>),
-    Through(u32, Seen<'a>),
+    Left(Seen<'a>),
+    Through(Seen<'a>),
 }
 
 pub fn nothing_seen<'a>() -> Seen<'a>
-    ensures { reasons_of result ≡ nothing_noted }
+    ensures mark { result.mark ≡ 0 }
+    ensures reasons { reasons_of result ≡ nothing_noted }
 {
     Seen {
+        mark: 0,
         side: None,
         egress: None,
         ingress: None,
@@ -59,8 +62,8 @@ pub fn outcome_of<'a>(stop: Stop<'a>) -> Outcome<'a>
     let (verdict, seen) = match stop {
         Stop::Dropped(s) => (Verdict::Deny, s),
         Stop::Accepted(s) => (Verdict::Allow, s),
-        Stop::Left(_, s) => (Verdict::Allow, s),
-        Stop::Through(_, s) => (Verdict::Allow, s),
+        Stop::Left(s) => (Verdict::Allow, s),
+        Stop::Through(s) => (Verdict::Allow, s),
     };
     Outcome {
         verdict,
@@ -93,25 +96,25 @@ fn side_of(place: u64) -> Option<Side>
 }
 
 fn reasoned<'a>(why: &'a Reason, seen: Seen<'a>) -> Seen<'a>
-    ensures { reasons_of result ≡ with_reason (direction_of seen.entry.side) why.entry.now (reasons_of seen.entry) }
+    ensures mark { result.mark ≡ seen.entry.mark }
+    ensures reasons { reasons_of result ≡ with_reason (direction_of seen.entry.side) why.entry.now (reasons_of seen.entry) }
 {
     match seen.side {
         None => seen,
         Some(Side::Egress) => Seen {
-            side: seen.side,
             egress: Some(why),
-            ingress: seen.ingress,
+            ..seen
         },
         Some(Side::Ingress) => Seen {
-            side: seen.side,
-            egress: seen.egress,
             ingress: Some(why),
+            ..seen
         },
     }
 }
 
 fn tagged<'a>(tag: &'a Tag, seen: Seen<'a>) -> Seen<'a>
-    ensures { reasons_of result ≡ with_tag tag.entry.now (reasons_of seen.entry) }
+    ensures mark { result.mark ≡ seen.entry.mark }
+    ensures reasons { reasons_of result ≡ with_tag tag.entry.now (reasons_of seen.entry) }
 {
     match tag {
         Tag::Plain => seen,
@@ -121,14 +124,14 @@ fn tagged<'a>(tag: &'a Tag, seen: Seen<'a>) -> Seen<'a>
 
 /// Notes the reason of a rule that matched, or the side that it begins.
 #[tactic(auto, unfolding(fx_model::specs::Machine::last_reason))]
-pub fn noted<'a>(chain: ChainName, place: u64, rule: &'a ChainRule, seen: Seen<'a>) -> Seen<'a>
-    ensures { reasons_of result ≡ last_reason chain place rule.entry.now (reasons_of seen.entry) }
+pub fn noted<'a>(hop: Hop, rule: &'a ChainRule, seen: Seen<'a>) -> Seen<'a>
+    ensures mark { result.mark ≡ seen.entry.mark }
+    ensures reasons { reasons_of result ≡ last_reason hop.chain hop.place rule.entry.now (reasons_of seen.entry) }
 {
-    if is_first(chain) {
+    if is_first(hop.chain) {
         Seen {
-            side: side_of(place),
-            egress: seen.egress,
-            ingress: seen.ingress,
+            side: side_of(hop.place),
+            ..seen
         }
     } else {
         tagged(&rule.tag, seen)

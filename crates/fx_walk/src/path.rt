@@ -19,19 +19,19 @@ use fx_tables::Tables;
 /// Notes a rule that matched, on the path too if it is shown.
 #[tactic(auto, unfolding(fx_model::specs::Machine::hops_and_reasons))]
 fn note_on_path<'a>(
-    chain: ChainName,
-    place: u64,
+    hop: &Hop,
     rule: &'a ChainRule,
     seen: Seen<'a>,
     path: &mut Vec<Hop>,
 ) -> Result<Seen<'a>, Memory>
-    ensures ok { IfOk result (λ s. trace_of path.new.items s ≡ hops_and_reasons chain place rule.entry.now (trace_of path.old.items seen.entry)) }
+    ensures mark { IfOk result (λ s. s.mark ≡ seen.entry.mark) }
+    ensures ok { IfOk result (λ s. trace_of path.new.items s ≡ hops_and_reasons hop.now.chain hop.now.place rule.entry.now (trace_of path.old.items seen.entry)) }
     ensures err { OnErr result (path.new.items ≡ path.old.items) }
 {
     if is_on_path(rule) {
-        path.push(Hop { chain, place })?;
+        path.push(*hop)?;
     }
-    Ok(noted(chain, place, rule, seen))
+    Ok(noted(*hop, rule, seen))
 }
 
 /// What a target does, where rules lead at most `depth` chains deeper.
@@ -41,26 +41,28 @@ fn follow<'a>(
     packet: &Packet,
     depth: u8,
     target: &Target,
-    mark: u32,
     seen: Seen<'a>,
     path: &mut Vec<Hop>,
 ) -> Result<Stop<'a>, Memory>
-    ensures ok { IfOk result (λ stop. traced path.new.items stop ≡ obeyed (chain_trace tables.entry.now packet.now depth) target.now mark (trace_of path.old.items seen.entry)) }
-    ensures err { OnErr result (IsCut (hops_of path.old.items) (hops_of path.new.items) (obeyed (chain_trace tables.entry.now packet.now depth) target.now mark (trace_of path.old.items seen.entry))) }
+    ensures ok { IfOk result (λ stop. traced path.new.items stop ≡ obeyed (chain_trace tables.entry.now packet.now depth) target.now seen.entry.mark (trace_of path.old.items seen.entry)) }
+    ensures err { OnErr result (IsCut (hops_of path.old.items) (hops_of path.new.items) (obeyed (chain_trace tables.entry.now packet.now depth) target.now seen.entry.mark (trace_of path.old.items seen.entry))) }
 {
     match target {
         Target::Accept => Ok(Stop::Accepted(seen)),
         Target::Drop => Ok(Stop::Dropped(seen)),
-        Target::Return => Ok(Stop::Left(mark, seen)),
-        Target::Jump(to) => match trace_chain(tables, packet, depth, *to, mark, seen, path)? {
-            Stop::Left(m, s) => Ok(Stop::Through(m, s)),
+        Target::Return => Ok(Stop::Left(seen)),
+        Target::Jump(to) => match trace_chain(tables, packet, depth, *to, seen, path)? {
+            Stop::Left(back) => Ok(Stop::Through(back)),
             other => Ok(other),
         },
-        Target::Goto(to) => match trace_chain(tables, packet, depth, *to, mark, seen, path)? {
-            Stop::Through(m, s) => Ok(Stop::Left(m, s)),
+        Target::Goto(to) => match trace_chain(tables, packet, depth, *to, seen, path)? {
+            Stop::Through(back) => Ok(Stop::Left(back)),
             other => Ok(other),
         },
-        Target::Mark { value, mask } => Ok(Stop::Through(with_mark(mark, *value, *mask), seen)),
+        Target::Mark { value, mask } => Ok(Stop::Through(Seen {
+            mark: with_mark(seen.mark, *value, *mask),
+            ..seen
+        })),
     }
 }
 
@@ -71,21 +73,19 @@ fn trace_rule<'a>(
     tables: &'a Tables,
     packet: &Packet,
     depth: u8,
-    chain: ChainName,
-    place: u64,
+    hop: Hop,
     rule: &'a ChainRule,
-    mark: u32,
     seen: Seen<'a>,
     path: &mut Vec<Hop>,
 ) -> Result<Stop<'a>, Memory>
-    ensures ok { IfOk result (λ stop. traced path.new.items stop ≡ over_rule hops_and_reasons (holds packet.now) (chain_trace tables.entry.now packet.now depth) chain place rule.entry.now mark (trace_of path.old.items seen.entry)) }
-    ensures err { OnErr result (IsCut (hops_of path.old.items) (hops_of path.new.items) (over_rule hops_and_reasons (holds packet.now) (chain_trace tables.entry.now packet.now depth) chain place rule.entry.now mark (trace_of path.old.items seen.entry))) }
+    ensures ok { IfOk result (λ stop. traced path.new.items stop ≡ over_rule hops_and_reasons (holds packet.now) (chain_trace tables.entry.now packet.now depth) hop.chain hop.place rule.entry.now seen.entry.mark (trace_of path.old.items seen.entry)) }
+    ensures err { OnErr result (IsCut (hops_of path.old.items) (hops_of path.new.items) (over_rule hops_and_reasons (holds packet.now) (chain_trace tables.entry.now packet.now depth) hop.chain hop.place rule.entry.now seen.entry.mark (trace_of path.old.items seen.entry))) }
 {
-    if all_hold(packet, mark, rule.matches.as_slice()) {
-        let now = note_on_path(chain, place, rule, seen, path)?;
-        follow(tables, packet, depth, &rule.target, mark, now, path)
+    if all_hold(packet, seen.mark, rule.matches.as_slice()) {
+        let now = note_on_path(&hop, rule, seen, path)?;
+        follow(tables, packet, depth, &rule.target, now, path)
     } else {
-        Ok(Stop::Through(mark, seen))
+        Ok(Stop::Through(seen))
     }
 }
 
@@ -97,35 +97,29 @@ fn trace_rules<'a>(
     depth: u8,
     chain: ChainName,
     rules: &'a [ChainRule],
-    start: u32,
     before: Seen<'a>,
     path: &mut Vec<Hop>,
 ) -> Result<Stop<'a>, Memory>
-    ensures ok { IfOk result (λ stop. traced path.new.items stop ≡ over_rules hops_and_reasons (holds packet.now) (chain_trace tables.entry.now packet.now depth) chain 1 rules.entry.now start (trace_of path.old.items before.entry)) }
-    ensures err { OnErr result (IsCut (hops_of path.old.items) (hops_of path.new.items) (over_rules hops_and_reasons (holds packet.now) (chain_trace tables.entry.now packet.now depth) chain 1 rules.entry.now start (trace_of path.old.items before.entry))) }
+    ensures ok { IfOk result (λ stop. traced path.new.items stop ≡ over_rules hops_and_reasons (holds packet.now) (chain_trace tables.entry.now packet.now depth) chain 1 rules.entry.now before.entry.mark (trace_of path.old.items before.entry)) }
+    ensures err { OnErr result (IsCut (hops_of path.old.items) (hops_of path.new.items) (over_rules hops_and_reasons (holds packet.now) (chain_trace tables.entry.now packet.now depth) chain 1 rules.entry.now before.entry.mark (trace_of path.old.items before.entry))) }
 {
-    let mut mark = start;
     let mut seen = before;
     for (i, rule) in rules.iter().enumerate() {
+        let place = i as u64 + 1;
         match trace_rule(
             tables,
             packet,
             depth,
-            chain,
-            i as u64 + 1,
+            Hop { chain, place },
             rule,
-            mark,
             seen,
             path,
         )? {
-            Stop::Through(m, s) => {
-                mark = m;
-                seen = s;
-            }
+            Stop::Through(after) => seen = after,
             other => return Ok(other),
         }
     }
-    Ok(Stop::Through(mark, seen))
+    Ok(Stop::Through(seen))
 }
 
 /// The walk of a chain, where rules lead at most `depth` chains deep.
@@ -135,19 +129,18 @@ fn trace_chain<'a>(
     packet: &Packet,
     depth: u8,
     chain: ChainName,
-    mark: u32,
     seen: Seen<'a>,
     path: &mut Vec<Hop>,
 ) -> Result<Stop<'a>, Memory>
-    ensures ok { IfOk result (λ stop. traced path.new.items stop ≡ chain_trace tables.entry.now packet.now depth chain mark (trace_of path.old.items seen.entry)) }
-    ensures err { OnErr result (IsCut (hops_of path.old.items) (hops_of path.new.items) (chain_trace tables.entry.now packet.now depth chain mark (trace_of path.old.items seen.entry))) }
+    ensures ok { IfOk result (λ stop. traced path.new.items stop ≡ chain_trace tables.entry.now packet.now depth chain seen.entry.mark (trace_of path.old.items seen.entry)) }
+    ensures err { OnErr result (IsCut (hops_of path.old.items) (hops_of path.new.items) (chain_trace tables.entry.now packet.now depth chain seen.entry.mark (trace_of path.old.items seen.entry))) }
     ensures ranked { IsRanked tables.entry.now.chains }
 {
     let Some(rules) = tables.chain(chain) else {
-        return Ok(Stop::Through(mark, seen));
+        return Ok(Stop::Through(seen));
     };
     if depth == 0 {
-        return Ok(Stop::Through(mark, seen));
+        return Ok(Stop::Through(seen));
     }
     trace_rules(
         tables,
@@ -155,7 +148,6 @@ fn trace_chain<'a>(
         depth - 1,
         chain,
         rules.as_slice(),
-        mark,
         seen,
         path,
     )
@@ -174,14 +166,6 @@ pub fn trace<'a>(
     // On want of memory the path has grown by a prefix of the hops.
     ensures err { OnErr result (CutsRun tables.entry.now packet.now (hops_of path.old.items) (hops_of path.new.items)) }
 {
-    let stop = trace_chain(
-        tables,
-        packet,
-        DEEPEST,
-        first_chain(),
-        0,
-        nothing_seen(),
-        path,
-    )?;
+    let stop = trace_chain(tables, packet, DEEPEST, first_chain(), nothing_seen(), path)?;
     Ok(outcome_of(stop))
 }

@@ -11,7 +11,7 @@ ghost use Rattle.fx_walk.specs.Stops.{chain_walk, ended_of, reasons_of};
 
 use crate::matches::{all_hold, with_mark};
 use crate::notes::{DEEPEST, Seen, Stop, first_chain, noted, nothing_seen, outcome_of};
-use crate::outcome::Outcome;
+use crate::outcome::{Hop, Outcome};
 use fx_base::ChainName;
 use fx_model::{ChainRule, Packet, Target};
 use fx_tables::Tables;
@@ -23,24 +23,26 @@ fn follow<'a>(
     packet: &Packet,
     depth: u8,
     target: &Target,
-    mark: u32,
     seen: Seen<'a>,
 ) -> Stop<'a>
-    ensures { ended_of result ≡ obeyed (chain_walk tables.entry.now packet.now depth) target.now mark (reasons_of seen.entry) }
+    ensures { ended_of result ≡ obeyed (chain_walk tables.entry.now packet.now depth) target.now seen.entry.mark (reasons_of seen.entry) }
 {
     match target {
         Target::Accept => Stop::Accepted(seen),
         Target::Drop => Stop::Dropped(seen),
-        Target::Return => Stop::Left(mark, seen),
-        Target::Jump(to) => match walk_chain(tables, packet, depth, *to, mark, seen) {
-            Stop::Left(m, s) => Stop::Through(m, s),
+        Target::Return => Stop::Left(seen),
+        Target::Jump(to) => match walk_chain(tables, packet, depth, *to, seen) {
+            Stop::Left(back) => Stop::Through(back),
             other => other,
         },
-        Target::Goto(to) => match walk_chain(tables, packet, depth, *to, mark, seen) {
-            Stop::Through(m, s) => Stop::Left(m, s),
+        Target::Goto(to) => match walk_chain(tables, packet, depth, *to, seen) {
+            Stop::Through(back) => Stop::Left(back),
             other => other,
         },
-        Target::Mark { value, mask } => Stop::Through(with_mark(mark, *value, *mask), seen),
+        Target::Mark { value, mask } => Stop::Through(Seen {
+            mark: with_mark(seen.mark, *value, *mask),
+            ..seen
+        }),
     }
 }
 
@@ -51,19 +53,17 @@ fn walk_rule<'a>(
     tables: &'a Tables,
     packet: &Packet,
     depth: u8,
-    chain: ChainName,
-    place: u64,
+    hop: Hop,
     rule: &'a ChainRule,
-    mark: u32,
     seen: Seen<'a>,
 ) -> Stop<'a>
-    ensures { ended_of result ≡ over_rule last_reason (holds packet.now) (chain_walk tables.entry.now packet.now depth) chain place rule.entry.now mark (reasons_of seen.entry) }
+    ensures { ended_of result ≡ over_rule last_reason (holds packet.now) (chain_walk tables.entry.now packet.now depth) hop.chain hop.place rule.entry.now seen.entry.mark (reasons_of seen.entry) }
 {
-    if all_hold(packet, mark, rule.matches.as_slice()) {
-        let now = noted(chain, place, rule, seen);
-        follow(tables, packet, depth, &rule.target, mark, now)
+    if all_hold(packet, seen.mark, rule.matches.as_slice()) {
+        let now = noted(hop, rule, seen);
+        follow(tables, packet, depth, &rule.target, now)
     } else {
-        Stop::Through(mark, seen)
+        Stop::Through(seen)
     }
 }
 
@@ -75,23 +75,19 @@ fn walk_rules<'a>(
     depth: u8,
     chain: ChainName,
     rules: &'a [ChainRule],
-    start: u32,
     before: Seen<'a>,
 ) -> Stop<'a>
-    ensures { ended_of result ≡ over_rules last_reason (holds packet.now) (chain_walk tables.entry.now packet.now depth) chain 1 rules.entry.now start (reasons_of before.entry) }
+    ensures { ended_of result ≡ over_rules last_reason (holds packet.now) (chain_walk tables.entry.now packet.now depth) chain 1 rules.entry.now before.entry.mark (reasons_of before.entry) }
 {
-    let mut mark = start;
     let mut seen = before;
     for (i, rule) in rules.iter().enumerate() {
-        match walk_rule(tables, packet, depth, chain, i as u64 + 1, rule, mark, seen) {
-            Stop::Through(m, s) => {
-                mark = m;
-                seen = s;
-            }
+        let place = i as u64 + 1;
+        match walk_rule(tables, packet, depth, Hop { chain, place }, rule, seen) {
+            Stop::Through(after) => seen = after,
             other => return other,
         }
     }
-    Stop::Through(mark, seen)
+    Stop::Through(seen)
 }
 
 /// The walk of a chain, where rules lead at most `depth` chains deep.
@@ -101,27 +97,18 @@ fn walk_chain<'a>(
     packet: &Packet,
     depth: u8,
     chain: ChainName,
-    mark: u32,
     seen: Seen<'a>,
 ) -> Stop<'a>
-    ensures walk { ended_of result ≡ chain_walk tables.entry.now packet.now depth chain mark (reasons_of seen.entry) }
+    ensures walk { ended_of result ≡ chain_walk tables.entry.now packet.now depth chain seen.entry.mark (reasons_of seen.entry) }
     ensures ranked { IsRanked tables.entry.now.chains }
 {
     let Some(rules) = tables.chain(chain) else {
-        return Stop::Through(mark, seen);
+        return Stop::Through(seen);
     };
     if depth == 0 {
-        return Stop::Through(mark, seen);
+        return Stop::Through(seen);
     }
-    walk_rules(
-        tables,
-        packet,
-        depth - 1,
-        chain,
-        rules.as_slice(),
-        mark,
-        seen,
-    )
+    walk_rules(tables, packet, depth - 1, chain, rules.as_slice(), seen)
 }
 
 /// What the run of a packet gives. It takes no memory.
@@ -130,5 +117,6 @@ pub fn decide<'a>(tables: &'a Tables, packet: &Packet) -> Outcome<'a>
     ensures machine { Decides tables.entry.now packet.now result.verdict (option_copied result.egress) (option_copied result.ingress) }
     ensures policy { IsPolicyAnswer tables.entry.now packet.now result.verdict (option_copied result.egress) (option_copied result.ingress) }
 {
-    outcome_of(walk_chain(tables, packet, DEEPEST, first_chain(), 0, nothing_seen()))
+    let stop = walk_chain(tables, packet, DEEPEST, first_chain(), nothing_seen());
+    outcome_of(stop)
 }

@@ -11,11 +11,11 @@ use Rattle.fx_walk.proofs.Paths.{cut_before, cut_hit, cut_within, step_extends, 
 use Rattle.fx_walk.proofs.path.+path.Goals as goal
 
 -- what a rule that did not come to its end gives is the answer
-stops : (path : List Hop) (r : Stop) (whole : Ended Trace) (go : Onward Trace) → ((m : ℕ) (s : Seen) → r ≡ Through m s → ⊥) → whole ≡ onward (traced path r) go → traced path r ≡ whole
+stops : (path : List Hop) (r : Stop) (whole : Ended Trace) (go : Onward Trace) → ((s : Seen) → r ≡ Through s → ⊥) → whole ≡ onward (traced path r) go → traced path r ≡ whole
 stops path (Accepted s) whole go h e = sym e
 stops path (Dropped s) whole go h e = sym e
-stops path (Left m s) whole go h e = sym e
-stops path (Through m s) whole go h e = absurd (h m s refl)
+stops path (Left s) whole go h e = sym e
+stops path (Through s) whole go h e = absurd (h s refl)
 
 pub trace_chain-returns-in_default-clause-ok : goal.trace_chain-returns-in_default-clause-ok
 trace_chain-returns-in_default-clause-ok t c = sym (chain-none hops_and_reasons _ _ _ _ _ _ (ap rules_found (sym c.in_default.ensures.found)))
@@ -37,7 +37,7 @@ trace_rule-returns-in_err-now-clause-err t c =
 
 pub trace_rule-returns-in_ok-now-clause-err : goal.trace_rule-returns-in_ok-now-clause-err
 trace_rule-returns-in_ok-now-clause-err t c =
-    on_err_then c.follow.result _ _ (λ h. cut_hit (holds c.args.packet.now) _ _ _ c.args.rule.now c.args.mark _ _ _ (ap (hold_all (holds c.args.packet.now) c.args.mark) (sym c.as_slice.ensures) ∙ sym c.all_hold.ensures ∙ c.if-all_hold.true) c.in_ok-now.ensures.ok h) c.follow.ensures.err
+    on_err_then c.follow.result _ _ (λ h. cut_hit (holds c.args.packet.now) _ _ _ c.args.rule.now c.args.seen.mark _ _ _ _ (ap (hold_all (holds c.args.packet.now) c.args.seen.mark) (sym c.as_slice.ensures) ∙ sym c.all_hold.ensures ∙ c.if-all_hold.true) c.in_ok-now.ensures.mark c.in_ok-now.ensures.ok h) c.follow.ensures.err
 
 pub trace_rules-returns-in_err-other-clause-err : goal.trace_rules-returns-in_err-other-clause-err
 trace_rules-returns-in_err-other-clause-err t c =

@@ -9,11 +9,11 @@ use Rattle.fx_walk.proofs.Walks.{chain-start, chain-none, chain-zero, walk-step,
 use Rattle.fx_walk.proofs.walk.+walk.Goals as goal
 
 -- what a rule that did not come to its end gives is the answer
-stops : (r : Stop) (whole : Ended Reasons) (go : Onward Reasons) → ((m : ℕ) (s : Seen) → r ≡ Through m s → ⊥) → whole ≡ onward (ended_of r) go → ended_of r ≡ whole
+stops : (r : Stop) (whole : Ended Reasons) (go : Onward Reasons) → ((s : Seen) → r ≡ Through s → ⊥) → whole ≡ onward (ended_of r) go → ended_of r ≡ whole
 stops (Accepted s) whole go h e = sym e
 stops (Dropped s) whole go h e = sym e
-stops (Left m s) whole go h e = sym e
-stops (Through m s) whole go h e = absurd (h m s refl)
+stops (Left s) whole go h e = sym e
+stops (Through s) whole go h e = absurd (h s refl)
 
 pub walk_chain-returns-in_default-clause-walk : goal.walk_chain-returns-in_default-clause-walk
 walk_chain-returns-in_default-clause-walk t c = sym (chain-none last_reason _ _ _ _ _ _ (ap rules_found (sym c.in_default.ensures.found)))
