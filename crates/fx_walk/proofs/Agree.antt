@@ -10,11 +10,12 @@ use Rattle.fx_model.specs.Machine.{holds, Reasons, Trace, nothing_noted, last_re
 use Rattle.fx_model.specs.Walk.{Ended, Accepted, Dropped, Left, Through, verdict_of, noted_in, over_chain}
 use Rattle.fx_model.specs.Policy.{Outcome}
 use Rattle.fx_model.specs.ViewPolicy.{TablesAgree, IsPolicyAnswer, PolicyIsKept}
+use Rattle.fx_model.proofs.Leading.{ranked-tables}
+use Rattle.fx_model.proofs.ViewClosed.{view_of-closed}
 use Rattle.fx_walk.proofs.Walks.{ended-run, one-end}
 use Rattle.fx_walk.proofs.Seen.{seen_by, traced_reasons}
 use Rattle.fx_walk.proofs.Families.{tables_render}
 use Rattle.fx_walk.proofs.FirstPackets.{machine_agrees}
-use Rattle.fx_walk.proofs.Ranking.{tables_ranked}
 use Rattle.fx_walk.proofs.Wanted.{view_is_policy, on_workloads}
 
 pub run_has_one_end : RunHasOneEnd
@@ -23,12 +24,12 @@ run_has_one_end tables a v w e f i j x y =
     (q.0, ap (λ (s : Reasons). s.egress) q.1, ap (λ (s : Reasons). s.ingress) q.1)
 
 pub tables_agree : TablesAgree
-tables_agree v a on new = machine_agrees a v (tables_of v) (tables_render v) new on (tables_ranked v)
+tables_agree v a closed on new = machine_agrees a v (tables_of v) (tables_render v) new on (ranked-tables v closed)
 
 pub policy_is_kept : PolicyIsKept
 policy_is_kept R a servable new =
     subst (λ (x : Outcome). Decides (tables_of (view_of R)) a x.verdict x.egress x.ingress) (view_is_policy R a servable)
-    (tables_agree (view_of R) a (on_workloads R a servable) new)
+    (tables_agree (view_of R) a (view_of-closed R) (on_workloads R a servable) new)
 
 module _ {S T : Type 0} (f : S → T) where
   verdict-seen : (e : Ended S) → verdict_of (seen_by f e) ≡ verdict_of e

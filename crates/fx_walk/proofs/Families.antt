@@ -1,5 +1,5 @@
 -- The tables of a view have each chain under its name.
-use Rattle.std.proofs.Common.{◌≡◌, ℕ, Bool, true, false, cond, List, [], ◌∷◌, ◌++◌, Option, Some, None, refl, ap, ◌∙◌}
+use Rattle.std.proofs.Common.{◌≡◌, ℕ, Bool, true, false, cond, List, [], ◌∷◌, ◌++◌, Option, Some, None, is_some, refl, ap, ◌∙◌}
 use Rattle.std.specs.List.{flat_map}
 use Rattle.std.specs.Ordering.{nat_cmp, eq_by_cmp}
 use Rattle.std.specs.Cmp.Lexicographic.{slice_cmp, nat_list_cmp_total}
@@ -124,12 +124,18 @@ module _ (v : View) where
   abbrev endpoints : List (ChainName × List ChainRule)
   endpoints = flat_map endpoint_chains (maps.entries v.endpoints)
 
-  at_name : (q : ChainName) → rules_in (tables_of v).chains q ≡ rules_found (last (dispatch_chains v) q (last endpoints q (last profiles q (last policies q None))))
-  at_name q =
-      ap rules_found (get-collected nat_list_cmp_total (chains_of v) q
+  chain_at : (q : ChainName) → maps.get (tables_of v).chains q ≡ last (dispatch_chains v) q (last endpoints q (last profiles q (last policies q None)))
+  chain_at q =
+      get-collected nat_list_cmp_total (chains_of v) q
       ∙ last_at-append (slice_cmp nat_cmp) policies (profiles ++ (endpoints ++ dispatch_chains v)) q None
       ∙ last_at-append (slice_cmp nat_cmp) profiles (endpoints ++ dispatch_chains v) q (last policies q None)
-      ∙ last_at-append (slice_cmp nat_cmp) endpoints (dispatch_chains v) q (last profiles q (last policies q None)))
+      ∙ last_at-append (slice_cmp nat_cmp) endpoints (dispatch_chains v) q (last profiles q (last policies q None))
+
+  at_name : (q : ChainName) → rules_in (tables_of v).chains q ≡ rules_found (last (dispatch_chains v) q (last endpoints q (last profiles q (last policies q None))))
+  at_name q = ap rules_found (chain_at q)
+
+  pub first_there : maps.contains_key (tables_of v).chains forward ≡ true
+  first_there = ap is_some (chain_at forward)
 
   roots : (d : Direction) → rules_in (tables_of v).chains (root_of d) ≡ dispatch_rules d (maps.keys v.endpoints)
   roots Ingress = at_name (root_of Ingress)

@@ -8,7 +8,7 @@ pub mod Families
 pub mod Sides
 pub mod FirstPackets
 pub mod Wanted
-pub mod Ranking
 pub mod Agree
 pub mod Whole
 mod KnownPaths
+pub mod Servable

@@ -1,12 +1,11 @@
 -- What the wanted view says of a first packet is what the resources say.
 use Rattle.std.proofs.Common.{◌≡◌, ℕ, suc, Bool, true, false, ◌||◌, cond, List, [], ◌∷◌, ◌++◌, map, Option, Some, None, refl, sym, ap, ◌∙◌, subst}
 use Rattle.std.specs.Prelude.{T, filter}
-use Rattle.std.specs.List.{list_any, flat_map}
+use Rattle.fx_base.proofs.Found.{entries_found}
+use Rattle.std.specs.List.{AllByRecursion, list_any, flat_map}
 use Rattle.std.specs.Str.{bytes_eq}
-use Rattle.std.specs.declared.cmp.Ordering.{Ordering}
-use Rattle.std.specs.declared.cmp.Ordering.TheVariants.{Less, Equal, Greater}
 use Rattle.std.specs.Ordering.{nat_cmp, eq_by_cmp, is_eq, is_lt}
-use Rattle.std.specs.Cmp.{IsTotalOrder, tied_itself}
+use Rattle.std.specs.Cmp.{tied_itself}
 use Rattle.std.specs.Cmp.Lexicographic.{slice_cmp, nat_list_cmp_total, texts_ties}
 use Rattle.std.specs.FinMap as maps
 use Rattle.std.specs.FinMap.Entries.{below_all}
@@ -31,7 +30,7 @@ use Rattle.fx_model.specs.Resources.{is_served, served_endpoints}
 use Rattle.fx_model.specs.Views.{view_of, view_rule, profile_key, view_profile, profile_entry, view_endpoint, endpoint_entry, active_profiles}
 use Rattle.fx_model.specs.Policy.{There, met_rules, there_or_missing, listed_profile, profiles_verdict, endpoint_verdict, with_iface, endpoint_at, verdict_at, is_workload, side_verdict, both_sides, packet_verdict}
 use Rattle.fx_model.specs.ViewPolicy.{met_view_rules, listed_of, view_listed, view_endpoint_verdict, view_verdict_at, view_verdict, IsOnWorkloads, IsServable}
-use Rattle.fx_walk.proofs.Lookups.{last_at, get-collected, first, second, not_equal}
+use Rattle.fx_walk.proofs.Lookups.{last_at, get-collected, first, second}
 
 -- keys are one
 abbrev is : List ℕ → List ℕ → Bool
@@ -49,39 +48,9 @@ is_itself q = ap is_eq (tied_itself nat_list_cmp_total q)
 is_same : (q k : List ℕ) → is q k ≡ true → q ≡ k
 is_same q k e = same_bytes q k (texts_ties q k ∙ e)
 
--- ---- entries of a map, each of which the map has at its key
-module _ {K X : Type 0} {R : K → K → Ordering} (o : IsTotalOrder R) where
-  abbrev pub AllThere : maps.FinMap R X → List (K × X) → Type 0
-  AllThere m [] = Unit {0}
-  AllThere m (e ∷ es) = (maps.get m e.0 ≡ Some e.1) × AllThere m es
-
-  not_behind : (q x : K) (es : List (K × X)) → is_eq (R q x) ≡ true → T (below_all R x es) → maps.find R q es ≡ None
-  not_behind q x [] t b = refl
-  not_behind q x (e ∷ es) t b =
-      ap (λ r. cond r (Some e.1) (maps.find R q es)) (ap is_eq (o.congr q x e.0 (equal (R q x) t)) ∙ not_equal (R x e.0) (first _ _ b))
-      ∙ not_behind q x es t (second _ _ b)
-    where
-      equal : (r : Ordering) → is_eq r ≡ true → r ≡ Equal
-      equal Less h = cc
-      equal Equal h = refl
-      equal Greater h = cc
-
-  all_there : (m : maps.FinMap R X) (es : List (K × X)) → T (maps.is_sorted R es) → ((q : K) (y : X) → maps.find R q es ≡ Some y → maps.get m q ≡ Some y) → AllThere m es
-  all_there m [] s h = tt
-  all_there m (e ∷ es) s h = (
-    h e.0 e.1 (ap (λ r. cond (is_eq r) (Some e.1) (maps.find R e.0 es)) (tied_itself o e.0)),
-    all_there m es (second _ _ s) (λ q y f. h q y (later q y f)),
-  )
-    where
-      later : (q : K) (y : X) → maps.find R q es ≡ Some y → maps.find R q (e ∷ es) ≡ Some y
-      later q y f = by_test (eq_by_cmp R q e.0) refl
-        where
-          by_test : (b : Bool) → eq_by_cmp R q e.0 ≡ b → cond b (Some e.1) (maps.find R q es) ≡ Some y
-          by_test true t = let none = not_behind q e.0 es t (first _ _ s) in absurd (cc)
-          by_test false t = f
-
-  pub entries_there : (m : maps.FinMap R X) → AllThere m (maps.entries m)
-  entries_there m = all_there m (maps.entries m) (maps.entries_sorted m) (λ q y f. maps.get-entries m q ∙ f)
+-- the map has each of these entries
+abbrev AllThere : maps.FinMap cmp-value.it Endpoint → List (ItemKey × Endpoint) → Type 0
+AllThere m es = AllByRecursion (λ e. maps.get m e.0 ≡ Some e.1) es
 
 module _ (R : Resources) (a : Packet) where
   -- ---- profiles
@@ -155,7 +124,7 @@ module _ (R : Resources) (a : Packet) where
     not_itself k l e below = absurd (subst (λ r. T (is_lt r)) (ap (cmp-value.it k) (sym e) ∙ tied_itself item_total k) below)
 
     -- no endpoint behind another has its interface
-    none_alike : (k : ItemKey) (e : Endpoint) (es : List (ItemKey × Endpoint)) (p : Option ViewEndpoint) → maps.get R.endpoints k ≡ Some e → is_served R e ≡ true → T (below_all cmp-value.it k es) → AllThere item_total R.endpoints es → last (map endpoint_entry (served es)) e.iface p ≡ p
+    none_alike : (k : ItemKey) (e : Endpoint) (es : List (ItemKey × Endpoint)) (p : Option ViewEndpoint) → maps.get R.endpoints k ≡ Some e → is_served R e ≡ true → T (below_all cmp-value.it k es) → AllThere R.endpoints es → last (map endpoint_entry (served es)) e.iface p ≡ p
     none_alike k e [] p at s below there = refl
     none_alike k e (x ∷ es) p at s below there = by_served (none_alike k e es p at s (second _ _ below) there.1) (is_served R x.1) refl
       where
@@ -168,7 +137,7 @@ module _ (R : Resources) (a : Packet) where
         by_served rest false t = rest
 
     -- the endpoint at an interface, in the view and among the resources
-    alike_at : (d : Direction) (iface : List ℕ) (es : List (ItemKey × Endpoint)) → T (maps.is_sorted cmp-value.it es) → AllThere item_total R.endpoints es → IsAlikeAt d iface (served es)
+    alike_at : (d : Direction) (iface : List ℕ) (es : List (ItemKey × Endpoint)) → T (maps.is_sorted cmp-value.it es) → AllThere R.endpoints es → IsAlikeAt d iface (served es)
     alike_at d iface [] sorted there within = refl
     alike_at d iface (x ∷ es) sorted there within = by_served (λ w. alike_at d iface es (second _ _ sorted) there.1 w) (is_served R x.1) refl within
       where
@@ -189,7 +158,7 @@ module _ (R : Resources) (a : Packet) where
     at_iface : (d : Direction) (iface : List ℕ) → view_verdict_at (view_of R) d a (maps.get (view_of R).endpoints iface) ≡ verdict_at R d a (endpoint_at R iface)
     at_iface d iface =
         ap (view_verdict_at (view_of R) d a) (get-collected nat_list_cmp_total (map endpoint_entry (served_endpoints R)) iface)
-        ∙ alike_at d iface (maps.entries R.endpoints) (maps.entries_sorted R.endpoints) (entries_there item_total R.endpoints) (λ q h. h)
+        ∙ alike_at d iface (maps.entries R.endpoints) (maps.entries_sorted R.endpoints) (entries_found item_total R.endpoints) (λ q h. h)
 
     -- the wanted view's answer is the policy reference's
     pub view_is_policy : view_verdict (view_of R) a ≡ packet_verdict R a
@@ -197,7 +166,7 @@ module _ (R : Resources) (a : Packet) where
         ap (λ x. both_sides (side_verdict x a.iface_in) (side_verdict (view_verdict_at (view_of R) Ingress a (maps.get (view_of R).endpoints a.iface_out)) a.iface_out)) (at_iface Egress a.iface_in)
         ∙ ap (λ x. both_sides (side_verdict (verdict_at R Egress a (endpoint_at R a.iface_in)) a.iface_in) (side_verdict x a.iface_out)) (at_iface Ingress a.iface_out)
 
-    on_list : (iface : List ℕ) (es : List (ItemKey × Endpoint)) (p : Option ViewEndpoint) → AllThere item_total R.endpoints es → ((e : ViewEndpoint) → p ≡ Some e → is_workload iface ≡ true) → (e : ViewEndpoint) → last (map endpoint_entry (served es)) iface p ≡ Some e → is_workload iface ≡ true
+    on_list : (iface : List ℕ) (es : List (ItemKey × Endpoint)) (p : Option ViewEndpoint) → AllThere R.endpoints es → ((e : ViewEndpoint) → p ≡ Some e → is_workload iface ≡ true) → (e : ViewEndpoint) → last (map endpoint_entry (served es)) iface p ≡ Some e → is_workload iface ≡ true
     on_list iface [] p there before e h = before e h
     on_list iface (x ∷ es) p there before e h = by_served (λ g. on_list iface es p there.1 before e g) (is_served R x.1) refl h
       where
@@ -214,5 +183,5 @@ module _ (R : Resources) (a : Packet) where
 
     pub on_workloads : IsOnWorkloads (view_of R)
     on_workloads iface e h =
-        on_list iface (maps.entries R.endpoints) None (entries_there item_total R.endpoints) (λ x q. absurd (none_some x q)) e
+        on_list iface (maps.entries R.endpoints) None (entries_found item_total R.endpoints) (λ x q. absurd (none_some x q)) e
         (sym (get-collected nat_list_cmp_total (map endpoint_entry (served_endpoints R)) iface) ∙ h)

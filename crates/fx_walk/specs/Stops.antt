@@ -1,4 +1,4 @@
--- What the code's values of a walk mean.
+-- What the code's values of a walk mean, in the terms of the packet machine by iptables(8).
 use Rattle.std.specs.Prelude.{◌≡◌, ℕ, List, ◌++◌, map, Option, Some, None, option_copied}
 use Rattle.fx_model.specs.declared.packet.Packet.{Packet}
 use Rattle.fx_model.specs.Directions.{Direction, Ingress, Egress}

@@ -1,7 +1,9 @@
 //! The way of one packet through the tables: its path, its verdict and the rules that decided.
 #![tactic(auto, using(fx_base::proofs::AtKey::reads))]
 
-pub use laws::{policy_is_kept, run_has_one_end, tables_agree};
+pub use laws::{
+    first_chain_is_there, lone_local_is_servable, policy_is_kept, run_has_one_end, tables_agree,
+};
 pub use outcome::{Hop, Outcome};
 pub use path::trace;
 pub use walk::decide;

@@ -1,9 +1,8 @@
 //! Decisions and paths over small tables. What is wanted follows from iptables(8).
-ghost use Rattle.std.specs.Prelude.{◌≡◌, true, IfOk, OnOk};
+ghost use Rattle.std.specs.Prelude.{◌≡◌, true, IfOk, OnOk, codes};
 ghost use Rattle.std.specs.FinMap as map;
 ghost use Rattle.fx_model.specs.Directions.{Egress};
 ghost use Rattle.fx_model.specs.Tables.{endpoint_chain, forward, root_of};
-ghost use Rattle.fx_walk.specs.Samples.{endpoint_name};
 
 use crate::{Hop, decide, trace};
 use fx_base::{ChainName, Ipv4, Memory, Proto, Seq, Text};
@@ -25,7 +24,7 @@ fn root() -> ChainName
 }
 
 fn endpoint() -> ChainName
-    ensures { result ≡ endpoint_name }
+    ensures { result ≡ endpoint_chain Egress (codes "cali1") }
 {
     ChainName::join(b"cali-fw-", b"cali1")
 }
@@ -63,7 +62,7 @@ fn rule(matches: Seq<Match>, target: Target, tag: Tag) -> ChainRule
 
 /// The chain of an endpoint: accept what is established; mark, and return where the mark is set; else drop.
 fn write_endpoint(alloc: Global, tables: &mut Tables) -> Result<(), Memory>
-    ensures { OnOk result (map.contains_key tables.new.chains endpoint_name ≡ true) }
+    ensures { OnOk result (map.contains_key tables.new.chains (endpoint_chain Egress (codes "cali1")) ≡ true) }
 {
     let accept = rule(
         established(alloc)?,
@@ -92,7 +91,7 @@ fn write_endpoint(alloc: Global, tables: &mut Tables) -> Result<(), Memory>
 
 /// The root goes to the endpoint's chain by its interface, and else drops.
 fn write_root(alloc: Global, tables: &mut Tables) -> Result<(), Memory>
-    requires { map.contains_key tables.old.chains endpoint_name ≡ true }
+    requires { map.contains_key tables.old.chains (endpoint_chain Egress (codes "cali1")) ≡ true }
     ensures { OnOk result (map.contains_key tables.new.chains (root_of Egress) ≡ true) }
 {
     let known = rule(

@@ -1,4 +1,4 @@
-use Rattle.std.proofs.Common.{◌≡◌, ℕ, List, refl, sym, ap, ◌∙◌, subst}
+use Rattle.std.proofs.Common.{◌≡◌, List, refl, sym, ap, ◌∙◌, subst}
 use Rattle.fx_model.specs.Machine.{Trace, hold_all, holds, hops_and_reasons, rules_found}
 use Rattle.fx_model.specs.Walk.{Ended, Onward, onward}
 use Rattle.fx_walk.specs.declared.outcome.Hop.{Hop}

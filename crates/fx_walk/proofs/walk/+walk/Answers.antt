@@ -1,4 +1,4 @@
-use Rattle.std.proofs.Common.{◌≡◌, ℕ, refl, sym, ap, ◌∙◌}
+use Rattle.std.proofs.Common.{◌≡◌, refl, sym, ap, ◌∙◌}
 use Rattle.fx_model.specs.Machine.{Reasons, last_reason, rules_found}
 use Rattle.fx_model.specs.Walk.{Ended, Onward, onward}
 use Rattle.fx_walk.specs.declared.notes.Seen.{Seen}
