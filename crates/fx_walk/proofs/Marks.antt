@@ -23,9 +23,6 @@ below j h = pow_below j 32 h
 pub set_same : (m j : ℕ) → j < 32 → bit_at (marked m (2 ^ j) (2 ^ j)) j ≡ 1
 set_same m j h = marked_bit m (2 ^ j) (2 ^ j) j (below j h) h ∙ rw bit_at-pow_same (omega arith)
 
-pub set_other : (m j i : ℕ) → j < 32 → i < 32 → i ≢ j → bit_at (marked m (2 ^ j) (2 ^ j)) i ≡ bit_at m i
-set_other m j i h hi ne = marked_bit m (2 ^ j) (2 ^ j) i (below j h) hi ∙ rw (bit_at-pow_other j i ne) (omega (arith, bit_below m i))
-
 pub clear_same : (m j : ℕ) → j < 32 → bit_at (marked m 0 (2 ^ j)) j ≡ 0
 clear_same m j h = marked_bit m 0 (2 ^ j) j (below j h) h ∙ rw (bit_at-pow_same, bit_at_zero j) (omega arith)
 

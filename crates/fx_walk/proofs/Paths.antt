@@ -110,12 +110,6 @@ cut_noted before noted cut x from h = record {
   whole = h.whole;
 }
 
-pub cut_jump : (before cut : List (ChainName × ℕ)) (x : Ended Trace) → IsCut before cut x → IsCut before cut (after_jump x)
-cut_jump before cut x h = record { more = h.more; grown = h.grown; rest = h.rest; whole = jump_hops x ∙ h.whole }
-
-pub cut_goto : (before cut : List (ChainName × ℕ)) (x : Ended Trace) → IsCut before cut x → IsCut before cut (after_goto x)
-cut_goto before cut x h = record { more = h.more; grown = h.grown; rest = h.rest; whole = goto_hops x ∙ h.whole }
-
 -- a walk that broke off behind a rule that matched
 pub cut_hit : (test : Test) (call : ChainName → Onward Trace) (c : ChainName) (p : ℕ) (r : ChainRule) (m k : ℕ) (t u : Trace) (cut : List (ChainName × ℕ)) → hold_all test m r.matches ≡ true → k ≡ m → u ≡ hops_and_reasons c p r t → IsCut u.hops cut (obeyed call r.target k u) → IsCut t.hops cut (over_rule hops_and_reasons test call c p r m t)
 cut_hit test call c p r m k t u cut holds same is h =

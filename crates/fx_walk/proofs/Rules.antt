@@ -26,9 +26,6 @@ pub record Keeps (m n : ℕ) : Type 0 where
 pub keeps_same : (m : ℕ) → Keeps m m
 keeps_same m = record { accept = refl; pass = refl }
 
-pub keeps_on : (m n k : ℕ) → Keeps m n → Keeps n k → Keeps m k
-keeps_on m n k f g = record { accept = g.accept ∙ f.accept; pass = g.pass ∙ f.pass }
-
 -- what the walk of rendered rules comes to, where the rules say this
 abbrev pub EndsAs : Ended Reasons → ℕ → Reasons → Answer → Type 0
 EndsAs e m s Silent = (n : ℕ) × (e ≡ Through n s) × Keeps m n

@@ -1,5 +1,5 @@
 -- The walk by recursion is what the machine does step by step.
-use Rattle.std.proofs.Common.{◌≡◌, ◌<◌, ◌≤◌, ℕ, zero, suc, Bool, true, false, List, [], ◌∷◌, slice_get, Option, Some, None, refl, sym, ap, ◌∙◌, subst, drop, ◌++◌, length, get_or, ◌-◌, ◌+◌, arith, lit<}
+use Rattle.std.proofs.Common.{◌≡◌, ◌<◌, ◌≤◌, ℕ, zero, suc, Bool, true, false, List, [], ◌∷◌, slice_get, Option, Some, None, refl, sym, ap, ◌∙◌, subst, drop, length, get_or, ◌-◌, ◌+◌, arith, lit<}
 use Rattle.std.proofs.Math.Seq.{drop-cons}
 use Rattle.std.proofs.lemmas.List.{drop_all}
 use Rattle.std.specs.FinMap as maps
@@ -55,27 +55,6 @@ module _ {S : Type 0} (note : Notes S) (a : Test) (call : ChainName → Onward S
 
   pub walk_miss : (c : ChainName) (p : ℕ) (r : ChainRule) (rs : List ChainRule) (m : ℕ) (s : S) → hold_all a m r.matches ≡ false → over_rules note a call c p (r ∷ rs) m s ≡ over_rules note a call c (suc p) rs m s
   walk_miss c p r rs m s e = walk-rule c p r rs m s ∙ ap (λ x. onward x (over_rules note a call c (suc p) rs)) (rule_miss c p r m s e)
-
-pub onward-assoc : {S : Type 0} (x : Ended S) (f g : Onward S) → onward (onward x f) g ≡ onward x (λ m s. onward (f m s) g)
-onward-assoc (Accepted s) f g = refl
-onward-assoc (Dropped s) f g = refl
-onward-assoc (Left m s) f g = refl
-onward-assoc (Through m s) f g = refl
-
-pub onward-same : {S : Type 0} (x : Ended S) (f g : Onward S) → ((m : ℕ) (s : S) → f m s ≡ g m s) → onward x f ≡ onward x g
-onward-same (Accepted s) f g h = refl
-onward-same (Dropped s) f g h = refl
-onward-same (Left m s) f g h = refl
-onward-same (Through m s) f g h = h m s
-
--- rules one after another
-pub walk-append : {S : Type 0} (note : Notes S) (a : Test) (call : ChainName → Onward S) (c : ChainName) (p : ℕ) (rs ts : List ChainRule) (m : ℕ) (s : S) → over_rules note a call c p (rs ++ ts) m s ≡ onward (over_rules note a call c p rs m s) (over_rules note a call c (p + length rs) ts)
-unfolding over_rules
-walk-append note a call c p [] ts m s = ap (λ k. over_rules note a call c k ts m s) (omega arith)
-walk-append note a call c p (r ∷ rs) ts m s =
-    let e : suc p + length rs ≡ p + length (r ∷ rs) = omega arith in
-    onward-same (over_rule note a call c p r m s) _ _ (λ n t. walk-append note a call c (suc p) rs ts n t ∙ ap (λ k. onward (over_rules note a call c (suc p) rs n t) (over_rules note a call c k ts)) e)
-    ∙ sym (onward-assoc (over_rule note a call c p r m s) (over_rules note a call c (suc p) rs) (over_rules note a call c (p + length (r ∷ rs)) ts))
 
 -- a chain is its rules, with one jump less to go
 pub chain-rules : {S : Type 0} (note : Notes S) (a : Test) (chains : Chains) (n : ℕ) (c : ChainName) (m : ℕ) (s : S) → (n ≡ 0 → ⊥) → over_chain note a chains n c m s ≡ over_rules note a (over_chain note a chains (n - 1)) c 1 (rules_in chains c) m s
