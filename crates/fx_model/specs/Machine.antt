@@ -204,3 +204,9 @@ abbrev pub CutsRun : Tables → Packet → List (ChainName × ℕ) → List (Cha
 CutsRun tables a before cut =
     ((more : List (ChainName × ℕ)) × (cut ≡ before ++ more))
     × ((after : List (ChainName × ℕ)) (v : Verdict) (egress ingress : Option Reason) → Traces tables a before after v egress ingress → (rest : List (ChainName × ℕ)) × (after ≡ cut ++ rest))
+
+-- a run has one end
+abbrev pub RunHasOneEnd : Type 0
+RunHasOneEnd =
+    (tables : Tables) (a : Packet) (v w : Verdict) (e f i j : Option Reason) → Decides tables a v e i → Decides tables a w f j
+    → (v ≡ w) × (e ≡ f) × (i ≡ j)

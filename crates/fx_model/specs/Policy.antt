@@ -77,11 +77,15 @@ or_rest Passed rest = rest
 or_rest (Allowed why) rest = record { verdict = Allow; why = why }
 or_rest (Denied why) rest = record { verdict = Deny; why = why }
 
--- a missing profile denies at its place, and so does the end
+-- a missing profile denies at its place
+abbrev pub profile_verdict : Listed → Decision → Decision
+profile_verdict (Missing name) rest = record { verdict = Deny; why = reason.MissingProfile name }
+profile_verdict (There rules) rest = or_rest (first_answer rules) rest
+
+-- the end denies
 abbrev pub profiles_verdict : List Listed → Decision
 profiles_verdict [] = record { verdict = Deny; why = reason.NoProfileRule }
-profiles_verdict (Missing name ∷ ps) = record { verdict = Deny; why = reason.MissingProfile name }
-profiles_verdict (There rules ∷ ps) = or_rest (first_answer rules) (profiles_verdict ps)
+profiles_verdict (p ∷ ps) = profile_verdict p (profiles_verdict ps)
 
 -- ---- an endpoint of the resources
 

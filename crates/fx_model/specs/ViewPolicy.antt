@@ -18,8 +18,9 @@ use Rattle.fx_model.specs.declared.view.ViewPolicy.{ViewPolicy}
 use Rattle.fx_model.specs.declared.view.ViewProfile.{ViewProfile}
 use Rattle.fx_model.specs.declared.view.ViewEndpoint.{ViewEndpoint}
 use Rattle.fx_model.specs.Directions.{Direction, Ingress, Egress}
-use Rattle.fx_model.specs.Resources.{is_served}
+use Rattle.fx_model.specs.Resources.{is_local, is_served}
 use Rattle.fx_model.specs.Views.{view_of}
+use Rattle.fx_model.specs.Closed.{IsClosedView}
 use Rattle.fx_model.specs.Tables.{Tables, tables_of, policy_side, profile_side, tiers_side}
 use Rattle.fx_model.specs.Policy.{MetRule, Tier, Listed, Missing, There, Decision, Outcome, tiers_verdict, profiles_verdict, side_verdict, both_sides, is_workload, packet_verdict}
 use Rattle.fx_model.specs.Machine.{Decides}
@@ -72,16 +73,28 @@ view_verdict v a =
 abbrev pub IsOnWorkloads : View → Type 0
 IsOnWorkloads v = (iface : List ℕ) (e : ViewEndpoint) → maps.get v.endpoints iface ≡ Some e → is_workload iface ≡ true
 
--- the tables of a view give each first packet the view's verdict and reasons
+-- the tables of a closed view give each first packet the view's verdict and reasons
 abbrev pub TablesAgree : Type 0
 TablesAgree =
-    (v : View) (a : Packet) → IsOnWorkloads v → a.state ≡ New
+    (v : View) (a : Packet) → IsClosedView v → IsOnWorkloads v → a.state ≡ New
     → let answer = view_verdict v a in Decides (tables_of v) a answer.verdict answer.egress answer.ingress
 
 -- served endpoints stand on workloads' interfaces, each on its own
 pub record IsServable (R : Resources) : Type 0 where
   pub on_workloads : (k : ItemKey) (e : Endpoint) → maps.get R.endpoints k ≡ Some e → is_served R e ≡ true → is_workload e.iface ≡ true
   pub apart : (k l : ItemKey) (e f : Endpoint) → maps.get R.endpoints k ≡ Some e → maps.get R.endpoints l ≡ Some f → is_served R e ≡ true → is_served R f ≡ true → e.iface ≡ f.iface → k ≡ l
+
+-- at most one endpoint runs on this node
+abbrev pub HasLoneLocal : Resources → Type 0
+HasLoneLocal R =
+    (k l : ItemKey) (e f : Endpoint) → maps.get R.endpoints k ≡ Some e → maps.get R.endpoints l ≡ Some f → is_local R e ≡ true → is_local R f ≡ true
+    → k ≡ l
+
+-- the tables of servable resources give each first packet the policy reference's verdict and reasons
+abbrev pub PolicyIsKept : Type 0
+PolicyIsKept =
+    (R : Resources) (a : Packet) → IsServable R → a.state ≡ New
+    → let answer = packet_verdict R a in Decides (tables_of (view_of R)) a answer.verdict answer.egress answer.ingress
 
 -- for all resources of which these are the tables, this is the policy reference's answer to a packet in state NEW
 abbrev pub IsPolicyAnswer : Tables → Packet → Verdict → Option Reason → Option Reason → Type 0

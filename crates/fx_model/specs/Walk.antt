@@ -1,6 +1,8 @@
 -- The packet machine as a walk by recursion over chains that lead to lower ranks. From iptables(8), as the machine by single
 -- steps is: a jump comes back to the next rule, a goto to where its own chain was called from.
 use Rattle.std.specs.Prelude.{ℕ, zero, suc, true, false, List, [], ◌∷◌}
+use Rattle.fx_model.specs.declared.packet.Verdict.{Verdict}
+use Rattle.fx_model.specs.declared.packet.Verdict.TheVariants.{Allow, Deny}
 use Rattle.fx_model.specs.declared.chain.Target.{Target}
 use Rattle.fx_model.specs.declared.chain.Target.TheVariants as target
 use Rattle.fx_model.specs.declared.chain.ChainRule.{ChainRule}
@@ -16,6 +18,19 @@ pub data Ended (S : Type 0) : Type 0 where
   Left : ℕ → S → Ended S
   -- the end of the rules was met
   Through : ℕ → S → Ended S
+
+-- where the first chain ends so, the packet is allowed unless it was dropped
+abbrev pub verdict_of : {S : Type 0} → Ended S → Verdict
+verdict_of (Accepted s) = Allow
+verdict_of (Dropped s) = Deny
+verdict_of (Left m s) = Allow
+verdict_of (Through m s) = Allow
+
+abbrev pub noted_in : {S : Type 0} → Ended S → S
+noted_in (Accepted s) = s
+noted_in (Dropped s) = s
+noted_in (Left m s) = s
+noted_in (Through m s) = s
 
 -- what becomes of a mark and of what was noted
 abbrev pub Onward : Type 0 → Type 0

@@ -1,0 +1,168 @@
+-- The paths of some packets, computed: over the tables of a node with one endpoint that lists one profile.
+use Rattle.std.proofs.Common.{◌≡◌, ℕ, zero, suc, List, [], ◌∷◌, ◌++◌, map, filter, Option, Some, None, true, refl, ap, ◌∙◌, codes}
+use Rattle.std.specs.List.{flat_map}
+use Rattle.std.specs.Ordering.{nat_cmp}
+use Rattle.std.specs.Cmp.Lexicographic.{slice_cmp, nat_list_cmp_total}
+use Rattle.std.specs.FinMap as maps
+use Rattle.fx_base.specs.Extended.{collected}
+use Rattle.fx_base.proofs.Entries.{entries-empty}
+use Rattle.fx_base.proofs.AtKey.{get_insert_same}
+use Rattle.fx_model.proofs.Orders.{item_total}
+use Rattle.fx_model.specs.contracts.ids.ItemKeyOrd.TheImpl.{cmp-value}
+use Rattle.fx_model.specs.declared.ids.ItemKey.{ItemKey}
+use Rattle.fx_model.specs.declared.ids.ItemKey.TheVariants as key
+use Rattle.fx_model.specs.declared.packet.State.{State}
+use Rattle.fx_model.specs.declared.packet.State.TheVariants.{New, Established, Invalid}
+use Rattle.fx_model.specs.declared.packet.Packet.{Packet}
+use Rattle.fx_model.specs.declared.chain.Reason.TheVariants as reason
+use Rattle.fx_model.specs.declared.chain.ChainRule.{ChainRule}
+use Rattle.fx_model.specs.declared.resources.Action.TheVariants.{Allow}
+use Rattle.fx_model.specs.declared.resources.Endpoint.{Endpoint}
+use Rattle.fx_model.specs.declared.resources.Profile.{Profile}
+use Rattle.fx_model.specs.declared.resources.Resources.{Resources}
+use Rattle.fx_model.specs.declared.view.ViewEndpoint.{ViewEndpoint}
+use Rattle.fx_model.specs.Directions.{Ingress, Egress}
+use Rattle.fx_model.specs.Resources.{is_served, served_endpoints}
+use Rattle.fx_model.specs.Views.{view_of, view_profile, view_endpoint, endpoint_entry, profile_entry}
+use Rattle.fx_model.specs.Tables.{ChainName, Chains, forward, forward_rules, root_of, dispatch_rules, dispatch_chains, policy_chains, profile_chains, endpoint_chains, chains_of, tables_of}
+use Rattle.fx_model.specs.Machine.{Test, Notes, Trace, holds, hops_and_reasons, last_reason, nothing_noted, rules_found, rules_in}
+use Rattle.fx_model.specs.Walk.{Onward, Ended, Accepted, Dropped, Through, over_rule, over_rules, over_chain}
+use Rattle.fx_walk.proofs.Lookups.{last_at, get-collected}
+
+-- ---- a walk over chains that are looked up in any way
+
+unfoldable over_look : {S : Type 0} → Notes S → Test → (ChainName → List ChainRule) → ℕ → ChainName → Onward S
+over_look note test look zero c m s = Through m s
+over_look note test look (suc n) c m s = over_rules note test (over_look note test look n) c 1 (look c) m s
+
+same_look : {S : Type 0} (note : Notes S) (test : Test) (chains : Chains) (look : ChainName → List ChainRule) → ((q : ChainName) → rules_in chains q ≡ look q) → (n : ℕ) (c : ChainName) (m : ℕ) (s : S) → over_chain note test chains n c m s ≡ over_look note test look n c m s
+unfolding over_chain over_look
+same_look note test chains look h zero c m s = refl
+same_look note test chains look h (suc n) c m s = λ i. over_rules note test (λ d k t. same_look note test chains look h n d k t i) c 1 (h c i) m s
+
+-- ---- a node with one endpoint
+
+abbrev endpoint_key : ItemKey
+endpoint_key = key.Endpoint (codes "a") (codes "w1")
+
+abbrev endpoint : Endpoint
+endpoint = record { node = codes "n1"; iface = codes "cali1"; profiles = codes "open" ∷ [] }
+
+abbrev open_profile : Profile
+open_profile = record { ingress = record { action = Allow } ∷ []; egress = record { action = Allow } ∷ [] }
+
+abbrev node : maps.FinMap (slice_cmp nat_cmp) Profile → Resources
+node profiles = record { node = codes "n1"; in_sync = true; endpoints = maps.insert maps.empty endpoint_key endpoint; profiles = profiles }
+
+one_endpoint : maps.entries (maps.insert (maps.empty {X = Endpoint} {R = cmp-value.it}) endpoint_key endpoint) ≡ (endpoint_key, endpoint) ∷ []
+one_endpoint = maps.entries-insert item_total maps.empty endpoint_key endpoint ∙ ap (maps.put cmp-value.it endpoint_key endpoint) (entries-empty cmp-value.it)
+
+one_entry : {X : Type 0} (k : List ℕ) (x : X) → maps.entries (maps.insert (maps.empty {X = X} {R = slice_cmp nat_cmp}) k x) ≡ (k, x) ∷ []
+one_entry k x = maps.entries-insert nat_list_cmp_total maps.empty k x ∙ ap (maps.put (slice_cmp nat_cmp) k x) (entries-empty (slice_cmp nat_cmp))
+
+module _ (profiles : maps.FinMap (slice_cmp nat_cmp) Profile) (o : Option Profile) (at : maps.get profiles (codes "open") ≡ o) where
+  abbrev R : Resources
+  R = node profiles
+
+  served : served_endpoints R ≡ (endpoint_key, endpoint) ∷ []
+  served = ap (filter (λ x. is_served R x.1)) one_endpoint
+
+  endpoints_are : maps.entries (view_of R).endpoints ≡ (codes "cali1", view_endpoint endpoint_key endpoint) ∷ []
+  endpoints_are =
+      ap (λ es. maps.entries (collected {R = slice_cmp nat_cmp} (map endpoint_entry es))) served
+      ∙ one_entry (codes "cali1") (view_endpoint endpoint_key endpoint)
+
+  profiles_are : maps.entries (view_of R).profiles ≡ (codes "open", view_profile (codes "open") o) ∷ []
+  profiles_are =
+      ap (λ es. maps.entries (collected {R = slice_cmp nat_cmp} (map (profile_entry R) (flat_map (λ x. x.1.profiles) es)))) served
+      ∙ one_entry (codes "open") (view_profile (codes "open") (maps.get profiles (codes "open")))
+      ∙ ap (λ (p : Option Profile). (codes "open", view_profile (codes "open") p) ∷ []) at
+
+  abbrev known : List (ChainName × List ChainRule)
+  known =
+      profile_chains (codes "open", view_profile (codes "open") o) ++ (endpoint_chains (codes "cali1", view_endpoint endpoint_key endpoint)
+      ++ ((root_of Ingress, dispatch_rules Ingress (codes "cali1" ∷ [])) ∷ (root_of Egress, dispatch_rules Egress (codes "cali1" ∷ [])) ∷ (forward, forward_rules) ∷ []))
+
+  known_chains : chains_of (view_of R) ≡ known
+  known_chains =
+      ap (λ ps. flat_map policy_chains ps ++ (flat_map profile_chains (maps.entries (view_of R).profiles) ++ (flat_map endpoint_chains (maps.entries (view_of R).endpoints) ++ dispatch_chains (view_of R)))) (entries-empty (slice_cmp nat_cmp))
+      ∙ ap (λ fs. flat_map profile_chains fs ++ (flat_map endpoint_chains (maps.entries (view_of R).endpoints) ++ dispatch_chains (view_of R))) profiles_are
+      ∙ ap (λ (es : List (List ℕ × ViewEndpoint)). profile_chains (codes "open", view_profile (codes "open") o) ++ (flat_map endpoint_chains es
+      ++ ((root_of Ingress, dispatch_rules Ingress (map (λ e. e.0) es)) ∷ (root_of Egress, dispatch_rules Egress (map (λ e. e.0) es)) ∷ (forward, forward_rules) ∷ []))) endpoints_are
+
+  abbrev look : ChainName → List ChainRule
+  look q = rules_found (last_at (slice_cmp nat_cmp) known q None)
+
+  looked : (q : ChainName) → rules_in (tables_of (view_of R)).chains q ≡ look q
+  looked q = ap rules_found (get-collected nat_list_cmp_total (chains_of (view_of R)) q ∙ ap (λ cs. last_at (slice_cmp nat_cmp) cs q None) known_chains)
+
+  abbrev trace_of : Packet → Ended Trace
+  trace_of a = over_chain hops_and_reasons (holds a) (tables_of (view_of R)).chains 5 forward 0 (record { hops = []; reasons = nothing_noted })
+
+  abbrev known_trace : Packet → Ended Trace
+  known_trace a = over_look hops_and_reasons (holds a) look 5 forward 0 (record { hops = []; reasons = nothing_noted })
+
+  trace_known : (a : Packet) → trace_of a ≡ known_trace a
+  trace_known a = same_look hops_and_reasons (holds a) (tables_of (view_of R)).chains look looked 5 forward 0 (record { hops = []; reasons = nothing_noted })
+
+abbrev packet : List ℕ → List ℕ → State → Packet
+packet into out state = record {
+  iface_in = into;
+  iface_out = out;
+  src = record { 0 = 0x0a000001 };
+  dst = record { 0 = 0xc0000201 };
+  proto = record { 0 = 6 };
+  sport = 40000;
+  dport = 443;
+  icmp_kind = 0;
+  icmp_code = 0;
+  state = state;
+}
+
+abbrev from_endpoint : State → Packet
+from_endpoint state = packet (codes "cali1") (codes "eth0") state
+
+-- the profile's rule allows
+allowed_by_profile : trace_of (maps.insert maps.empty (codes "open") open_profile) (Some open_profile) (get_insert_same maps.empty (codes "open") open_profile) (from_endpoint New) ≡ Through 0x10000 (record {
+  hops = (codes "cali-FORWARD", 2) ∷ (codes "cali-from-wl-dispatch", 1) ∷ (codes "cali-fw-cali1", 4) ∷ (codes "cali-pro-open", 1) ∷ [];
+  reasons = record { side = Some Egress; egress = Some (reason.Profile (codes "open") 1); ingress = None };
+})
+unfolding over_look over_rules over_rule hops_and_reasons last_reason holds
+allowed_by_profile = trace_known (maps.insert maps.empty (codes "open") open_profile) (Some open_profile) (get_insert_same maps.empty (codes "open") open_profile) (from_endpoint New) ∙ refl
+
+-- a profile that isn't there denies
+denied_by_missing_profile : trace_of maps.empty None (maps.get-empty (slice_cmp nat_cmp) (codes "open")) (from_endpoint New) ≡ Dropped (record {
+  hops = (codes "cali-FORWARD", 2) ∷ (codes "cali-from-wl-dispatch", 1) ∷ (codes "cali-fw-cali1", 4) ∷ (codes "cali-pro-open", 1) ∷ [];
+  reasons = record { side = Some Egress; egress = Some (reason.MissingProfile (codes "open")); ingress = None };
+})
+unfolding over_look over_rules over_rule hops_and_reasons last_reason holds
+denied_by_missing_profile = trace_known maps.empty None (maps.get-empty (slice_cmp nat_cmp) (codes "open")) (from_endpoint New) ∙ refl
+
+module _ (profiles : maps.FinMap (slice_cmp nat_cmp) Profile) (o : Option Profile) (at : maps.get profiles (codes "open") ≡ o) where
+  -- a packet of an established connection is accepted, and an invalid one dropped, at the endpoint's chain
+  established : trace_of profiles o at (from_endpoint Established) ≡ Accepted (record {
+    hops = (codes "cali-FORWARD", 2) ∷ (codes "cali-from-wl-dispatch", 1) ∷ (codes "cali-fw-cali1", 1) ∷ [];
+    reasons = record { side = Some Egress; egress = Some reason.Established; ingress = None };
+  })
+  unfolding over_look over_rules over_rule hops_and_reasons last_reason holds
+  established = trace_known profiles o at (from_endpoint Established) ∙ refl
+
+  invalid : trace_of profiles o at (from_endpoint Invalid) ≡ Dropped (record {
+    hops = (codes "cali-FORWARD", 2) ∷ (codes "cali-from-wl-dispatch", 1) ∷ (codes "cali-fw-cali1", 2) ∷ [];
+    reasons = record { side = Some Egress; egress = Some reason.Invalid; ingress = None };
+  })
+  unfolding over_look over_rules over_rule hops_and_reasons last_reason holds
+  invalid = trace_known profiles o at (from_endpoint Invalid) ∙ refl
+
+  -- a workload's interface that no endpoint has is denied
+  unknown_interface : trace_of profiles o at (packet (codes "cali9") (codes "eth0") New) ≡ Dropped (record {
+    hops = (codes "cali-FORWARD", 2) ∷ (codes "cali-from-wl-dispatch", 2) ∷ [];
+    reasons = record { side = Some Egress; egress = Some reason.UnknownInterface; ingress = None };
+  })
+  unfolding over_look over_rules over_rule hops_and_reasons last_reason holds
+  unknown_interface = trace_known profiles o at (packet (codes "cali9") (codes "eth0") New) ∙ refl
+
+  -- other interfaces are free
+  free : trace_of profiles o at (packet (codes "eth0") (codes "eth0") New) ≡ Through 0 (record { hops = []; reasons = record { side = None; egress = None; ingress = None } })
+  unfolding over_look over_rules over_rule hops_and_reasons last_reason holds
+  free = trace_known profiles o at (packet (codes "eth0") (codes "eth0") New) ∙ refl

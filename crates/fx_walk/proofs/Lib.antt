@@ -1,0 +1,14 @@
+pub mod Walks
+pub mod Marks
+pub mod Seen
+pub mod Paths
+pub mod Rules
+pub mod Lookups
+pub mod Families
+pub mod Sides
+pub mod FirstPackets
+pub mod Wanted
+pub mod Agree
+pub mod Whole
+mod KnownPaths
+pub mod Servable

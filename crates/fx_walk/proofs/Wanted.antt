@@ -1,0 +1,187 @@
+-- What the wanted view says of a first packet is what the resources say.
+use Rattle.std.proofs.Common.{◌≡◌, ℕ, suc, Bool, true, false, ◌||◌, cond, List, [], ◌∷◌, ◌++◌, map, Option, Some, None, refl, sym, ap, ◌∙◌, subst}
+use Rattle.std.specs.Prelude.{T, filter}
+use Rattle.fx_base.proofs.Found.{entries_found}
+use Rattle.std.specs.List.{AllByRecursion, list_any, flat_map}
+use Rattle.std.specs.Str.{bytes_eq}
+use Rattle.std.specs.Ordering.{nat_cmp, eq_by_cmp, is_eq, is_lt}
+use Rattle.std.specs.Cmp.{tied_itself}
+use Rattle.std.specs.Cmp.Lexicographic.{slice_cmp, nat_list_cmp_total, texts_ties}
+use Rattle.std.specs.FinMap as maps
+use Rattle.std.specs.FinMap.Entries.{below_all}
+use Rattle.std.proofs.lemmas.List.Folds.{list_any-append}
+use Rattle.std.proofs.lemmas.Bool.{or_left, or_right}
+use Rattle.fx_base.specs.Same.{same_bytes}
+use Rattle.fx_model.proofs.Orders.{item_total}
+use Rattle.fx_model.specs.contracts.ids.ItemKeyOrd.TheImpl.{cmp-value}
+use Rattle.fx_model.specs.declared.ids.ItemKey.{ItemKey}
+use Rattle.fx_model.specs.declared.ids.ItemKey.TheVariants as key
+use Rattle.fx_model.specs.declared.packet.Packet.{Packet}
+use Rattle.fx_model.specs.declared.chain.Reason.{Reason}
+use Rattle.fx_model.specs.declared.chain.Reason.TheVariants as reason
+use Rattle.fx_model.specs.declared.resources.Rule.{Rule}
+use Rattle.fx_model.specs.declared.resources.Endpoint.{Endpoint}
+use Rattle.fx_model.specs.declared.resources.Profile.{Profile}
+use Rattle.fx_model.specs.declared.resources.Resources.{Resources}
+use Rattle.fx_model.specs.declared.view.ViewEndpoint.{ViewEndpoint}
+use Rattle.fx_model.specs.declared.view.ViewProfile.{ViewProfile}
+use Rattle.fx_model.specs.Directions.{Direction, Ingress, Egress}
+use Rattle.fx_model.specs.Resources.{is_served, served_endpoints}
+use Rattle.fx_model.specs.Views.{view_of, view_rule, profile_key, view_profile, profile_entry, view_endpoint, endpoint_entry, active_profiles}
+use Rattle.fx_model.specs.Policy.{There, met_rules, there_or_missing, listed_profile, profiles_verdict, endpoint_verdict, with_iface, endpoint_at, verdict_at, is_workload, side_verdict, both_sides, packet_verdict}
+use Rattle.fx_model.specs.ViewPolicy.{met_view_rules, listed_of, view_listed, view_endpoint_verdict, view_verdict_at, view_verdict, IsOnWorkloads, IsServable}
+use Rattle.fx_walk.proofs.Lookups.{last_at, get-collected, first, second}
+
+-- keys are one
+abbrev is : List ℕ → List ℕ → Bool
+is q k = eq_by_cmp (slice_cmp nat_cmp) q k
+
+abbrev last : {X : Type 0} → List (List ℕ × X) → List ℕ → Option X → Option X
+last xs q o = last_at (slice_cmp nat_cmp) xs q o
+
+abbrev is_among : List ℕ → List (List ℕ) → Bool
+is_among q names = list_any (is q) names
+
+is_itself : (q : List ℕ) → is q q ≡ true
+is_itself q = ap is_eq (tied_itself nat_list_cmp_total q)
+
+is_same : (q k : List ℕ) → is q k ≡ true → q ≡ k
+is_same q k e = same_bytes q k (texts_ties q k ∙ e)
+
+-- the map has each of these entries
+abbrev AllThere : maps.FinMap cmp-value.it Endpoint → List (ItemKey × Endpoint) → Type 0
+AllThere m es = AllByRecursion (λ e. maps.get m e.0 ≡ Some e.1) es
+
+module _ (R : Resources) (a : Packet) where
+  -- ---- profiles
+
+  met_same : (why : ℕ → Reason) (place : ℕ) (rs : List Rule) → met_view_rules a why place (map view_rule rs) ≡ met_rules R a why place rs
+  met_same why place [] = refl
+  met_same why place (r ∷ rs) = ap (λ l. record { why = why place; action = r.action; matches = true } ∷ l) (met_same why (suc place) rs)
+
+  listed_same : (d : Direction) (name : List ℕ) (o : Option Profile) → listed_of d a (Some (view_profile name o)) ≡ there_or_missing R d a name o
+  listed_same d name None = refl
+  listed_same Ingress name (Some p) = ap There (met_same (reason.Profile name) 1 p.ingress)
+  listed_same Egress name (Some p) = ap There (met_same (reason.Profile name) 1 p.egress)
+
+  abbrev wanted : List ℕ → ViewProfile
+  wanted name = view_profile name (maps.get R.profiles name)
+
+  -- names that stand twice have one entry
+  profile_kept : (names : List (List ℕ)) (q : List ℕ) → last (map (profile_entry R) names) q (Some (wanted q)) ≡ Some (wanted q)
+  profile_kept [] q = refl
+  profile_kept (n ∷ names) q = by_test (profile_kept names q) (is q n) refl
+    where
+      by_test : last (map (profile_entry R) names) q (Some (wanted q)) ≡ Some (wanted q) → (b : Bool) → is q n ≡ b → last (map (profile_entry R) names) q (cond b (Some (wanted n)) (Some (wanted q))) ≡ Some (wanted q)
+      by_test ih true t = ap (λ k. last (map (profile_entry R) names) q (Some (wanted k))) (sym (is_same q n t)) ∙ ih
+      by_test ih false t = ih
+
+  profile_found : (names : List (List ℕ)) (q : List ℕ) (p : Option ViewProfile) → is_among q names ≡ true → last (map (profile_entry R) names) q p ≡ Some (wanted q)
+  profile_found [] q p h = absurd (cc)
+  profile_found (n ∷ names) q p h = by_test (λ g. profile_found names q p g) (is q n) refl h
+    where
+      by_test : (is_among q names ≡ true → last (map (profile_entry R) names) q p ≡ Some (wanted q)) → (b : Bool) → is q n ≡ b → (b || is_among q names) ≡ true → last (map (profile_entry R) names) q (cond b (Some (wanted n)) p) ≡ Some (wanted q)
+      by_test ih true t h = ap (λ k. last (map (profile_entry R) names) q (Some (wanted k))) (sym (is_same q n t)) ∙ profile_kept names q
+      by_test ih false t h = ih h
+
+  -- the profiles of these names are active
+  abbrev Within : List (List ℕ) → Type 0
+  Within names = (q : List ℕ) → is_among q names ≡ true → is_among q (active_profiles R) ≡ true
+
+  -- each active name has its profile in the view
+  active_listed : (d : Direction) (name : List ℕ) → is_among name (active_profiles R) ≡ true → view_listed (view_of R) d a name ≡ listed_profile R d a name
+  active_listed d name h =
+      ap (listed_of d a) (get-collected nat_list_cmp_total (map (profile_entry R) (active_profiles R)) name ∙ profile_found (active_profiles R) name None h)
+      ∙ listed_same d name (maps.get R.profiles name)
+
+  all_listed : (d : Direction) (names : List (List ℕ)) → Within names → map (view_listed (view_of R) d a) (map profile_key names) ≡ map (listed_profile R d a) names
+  all_listed d [] within = refl
+  all_listed d (n ∷ names) within =
+      let head : view_listed (view_of R) d a n ≡ listed_profile R d a n = active_listed d n (within n (ap (λ b. b || is_among n names) (is_itself n))) in
+      let tail : map (view_listed (view_of R) d a) (map profile_key names) ≡ map (listed_profile R d a) names = all_listed d names (λ q h. within q (or_right (is q n) (is_among q names) h)) in
+      λ i. head i ∷ tail i
+
+  -- ---- endpoints
+
+  endpoint_same : (d : Direction) (k : ItemKey) (e : Endpoint) → Within e.profiles → view_endpoint_verdict (view_of R) d (view_endpoint k e) a ≡ endpoint_verdict R d e a
+  endpoint_same Ingress (key.Endpoint ns name) e within = ap profiles_verdict (all_listed Ingress e.profiles within)
+  endpoint_same Egress (key.Endpoint ns name) e within = ap profiles_verdict (all_listed Egress e.profiles within)
+  endpoint_same Ingress (key.NetSet ns name) e within = ap profiles_verdict (all_listed Ingress e.profiles within)
+  endpoint_same Egress (key.NetSet ns name) e within = ap profiles_verdict (all_listed Egress e.profiles within)
+
+  abbrev served : List (ItemKey × Endpoint) → List (ItemKey × Endpoint)
+  served es = filter (λ x. is_served R x.1) es
+
+  abbrev names_of : List (ItemKey × Endpoint) → List (List ℕ)
+  names_of es = flat_map (λ x. x.1.profiles) es
+
+  -- of these endpoints the view and the resources say one at an interface
+  abbrev IsAlikeAt : Direction → List ℕ → List (ItemKey × Endpoint) → Type 0
+  IsAlikeAt d iface xs = Within (names_of xs) → view_verdict_at (view_of R) d a (last (map endpoint_entry xs) iface None) ≡ verdict_at R d a (with_iface xs iface)
+
+  module _ (servable : IsServable R) where
+    not_itself : (k l : ItemKey) → k ≡ l → T (is_lt (cmp-value.it k l)) → ⊥
+    not_itself k l e below = absurd (subst (λ r. T (is_lt r)) (ap (cmp-value.it k) (sym e) ∙ tied_itself item_total k) below)
+
+    -- no endpoint behind another has its interface
+    none_alike : (k : ItemKey) (e : Endpoint) (es : List (ItemKey × Endpoint)) (p : Option ViewEndpoint) → maps.get R.endpoints k ≡ Some e → is_served R e ≡ true → T (below_all cmp-value.it k es) → AllThere R.endpoints es → last (map endpoint_entry (served es)) e.iface p ≡ p
+    none_alike k e [] p at s below there = refl
+    none_alike k e (x ∷ es) p at s below there = by_served (none_alike k e es p at s (second _ _ below) there.1) (is_served R x.1) refl
+      where
+        by_iface : last (map endpoint_entry (served es)) e.iface p ≡ p → is_served R x.1 ≡ true → (b : Bool) → is e.iface x.1.iface ≡ b → last (map endpoint_entry (served es)) e.iface (cond b (Some (view_endpoint x.0 x.1)) p) ≡ p
+        by_iface rest t true same = absurd (not_itself k x.0 (servable.apart k x.0 e x.1 at there.0 s t (is_same e.iface x.1.iface same)) (first _ _ below))
+        by_iface rest t false same = rest
+
+        by_served : last (map endpoint_entry (served es)) e.iface p ≡ p → (b : Bool) → is_served R x.1 ≡ b → last (map endpoint_entry (cond b (x ∷ served es) (served es))) e.iface p ≡ p
+        by_served rest true t = by_iface rest t (is e.iface x.1.iface) refl
+        by_served rest false t = rest
+
+    -- the endpoint at an interface, in the view and among the resources
+    alike_at : (d : Direction) (iface : List ℕ) (es : List (ItemKey × Endpoint)) → T (maps.is_sorted cmp-value.it es) → AllThere R.endpoints es → IsAlikeAt d iface (served es)
+    alike_at d iface [] sorted there within = refl
+    alike_at d iface (x ∷ es) sorted there within = by_served (λ w. alike_at d iface es (second _ _ sorted) there.1 w) (is_served R x.1) refl within
+      where
+        by_iface : IsAlikeAt d iface (served es) → is_served R x.1 ≡ true → Within (x.1.profiles ++ names_of (served es)) → (b : Bool) → bytes_eq iface x.1.iface ≡ b → view_verdict_at (view_of R) d a (last (map endpoint_entry (served es)) iface (cond b (Some (view_endpoint x.0 x.1)) None)) ≡ verdict_at R d a (elim b [ true ↦ Some x.1 | false ↦ with_iface (served es) iface ])
+        by_iface rest t within true same =
+            ap (view_verdict_at (view_of R) d a) (ap (λ i. last (map endpoint_entry (served es)) i (Some (view_endpoint x.0 x.1))) (same_bytes iface x.1.iface same)
+            ∙ none_alike x.0 x.1 es (Some (view_endpoint x.0 x.1)) there.0 t (first _ _ sorted) there.1)
+            ∙ ap Some (endpoint_same d x.0 x.1 (λ q h. within q (list_any-append (is q) x.1.profiles (names_of (served es)) ∙ or_left (is_among q x.1.profiles) (is_among q (names_of (served es))) h)))
+        by_iface rest t within false same =
+            rest (λ q h. within q (list_any-append (is q) x.1.profiles (names_of (served es)) ∙ or_right (is_among q x.1.profiles) (is_among q (names_of (served es))) h))
+
+        by_served : IsAlikeAt d iface (served es) → (b : Bool) → is_served R x.1 ≡ b → IsAlikeAt d iface (cond b (x ∷ served es) (served es))
+        by_served rest true t within =
+            ap (λ b. view_verdict_at (view_of R) d a (last (map endpoint_entry (served es)) iface (cond b (Some (view_endpoint x.0 x.1)) None))) (sym (texts_ties iface x.1.iface))
+            ∙ by_iface rest t within (bytes_eq iface x.1.iface) refl
+        by_served rest false t within = rest within
+
+    at_iface : (d : Direction) (iface : List ℕ) → view_verdict_at (view_of R) d a (maps.get (view_of R).endpoints iface) ≡ verdict_at R d a (endpoint_at R iface)
+    at_iface d iface =
+        ap (view_verdict_at (view_of R) d a) (get-collected nat_list_cmp_total (map endpoint_entry (served_endpoints R)) iface)
+        ∙ alike_at d iface (maps.entries R.endpoints) (maps.entries_sorted R.endpoints) (entries_found item_total R.endpoints) (λ q h. h)
+
+    -- the wanted view's answer is the policy reference's
+    pub view_is_policy : view_verdict (view_of R) a ≡ packet_verdict R a
+    view_is_policy =
+        ap (λ x. both_sides (side_verdict x a.iface_in) (side_verdict (view_verdict_at (view_of R) Ingress a (maps.get (view_of R).endpoints a.iface_out)) a.iface_out)) (at_iface Egress a.iface_in)
+        ∙ ap (λ x. both_sides (side_verdict (verdict_at R Egress a (endpoint_at R a.iface_in)) a.iface_in) (side_verdict x a.iface_out)) (at_iface Ingress a.iface_out)
+
+    on_list : (iface : List ℕ) (es : List (ItemKey × Endpoint)) (p : Option ViewEndpoint) → AllThere R.endpoints es → ((e : ViewEndpoint) → p ≡ Some e → is_workload iface ≡ true) → (e : ViewEndpoint) → last (map endpoint_entry (served es)) iface p ≡ Some e → is_workload iface ≡ true
+    on_list iface [] p there before e h = before e h
+    on_list iface (x ∷ es) p there before e h = by_served (λ g. on_list iface es p there.1 before e g) (is_served R x.1) refl h
+      where
+        by_iface : (last (map endpoint_entry (served es)) iface p ≡ Some e → is_workload iface ≡ true) → is_served R x.1 ≡ true → (b : Bool) → is iface x.1.iface ≡ b → last (map endpoint_entry (served es)) iface (cond b (Some (view_endpoint x.0 x.1)) p) ≡ Some e → is_workload iface ≡ true
+        by_iface rest t true same h = ap is_workload (is_same iface x.1.iface same) ∙ servable.on_workloads x.0 x.1 there.0 t
+        by_iface rest t false same h = rest h
+
+        by_served : (last (map endpoint_entry (served es)) iface p ≡ Some e → is_workload iface ≡ true) → (b : Bool) → is_served R x.1 ≡ b → last (map endpoint_entry (cond b (x ∷ served es) (served es))) iface p ≡ Some e → is_workload iface ≡ true
+        by_served rest true t h = by_iface rest t (is iface x.1.iface) refl h
+        by_served rest false t h = rest h
+
+    none_some : {X : Type 0} (x : X) → None ≡ Some x → ⊥
+    none_some x e = cc
+
+    pub on_workloads : IsOnWorkloads (view_of R)
+    on_workloads iface e h =
+        on_list iface (maps.entries R.endpoints) None (entries_found item_total R.endpoints) (λ x q. absurd (none_some x q)) e
+        (sym (get-collected nat_list_cmp_total (map endpoint_entry (served_endpoints R)) iface) ∙ h)

@@ -1,0 +1,34 @@
+//! What holds of every run. Each law is a contract; no function does anything.
+ghost use Rattle.std.specs.Prelude.{◌≡◌, true};
+ghost use Rattle.std.specs.FinMap as map;
+ghost use Rattle.fx_model.specs.declared.resources.Resources.{Resources};
+ghost use Rattle.fx_model.specs.declared.view.View.{View};
+ghost use Rattle.fx_model.specs.Formed.{are_formed};
+ghost use Rattle.fx_model.specs.Machine.{RunHasOneEnd};
+ghost use Rattle.fx_model.specs.Tables.{forward, tables_of};
+ghost use Rattle.fx_model.specs.ViewPolicy.{HasLoneLocal, IsServable, PolicyIsKept, TablesAgree};
+
+/// A run has one end.
+pub fn run_has_one_end()
+    ensures { RunHasOneEnd }
+{}
+
+/// The tables of a view give each first packet the view's verdict and reasons.
+pub fn tables_agree()
+    ensures { TablesAgree }
+{}
+
+/// The tables of resources give each first packet the policy reference's verdict and reasons.
+pub fn policy_is_kept()
+    ensures { PolicyIsKept }
+{}
+
+/// The tables of each view have the chain at which runs begin.
+pub fn first_chain_is_there()
+    ensures { (v : View) → map.contains_key (tables_of v).chains forward ≡ true }
+{}
+
+/// Resources with at most one local endpoint can be served.
+pub fn lone_local_is_servable()
+    ensures { (R : Resources) → are_formed R ≡ true → HasLoneLocal R → IsServable R }
+{}

@@ -1,0 +1,154 @@
+//! What a walk notes of the rules that match.
+ghost use Rattle.std.specs.Prelude.{◌≡◌};
+ghost use Rattle.std.specs.Option.{option_copied};
+ghost use Rattle.std.specs.Str.{bytes_eq};
+ghost use Rattle.fx_model.specs.Tables.{forward};
+ghost use Rattle.fx_model.specs.Walk.{noted_in, verdict_of};
+ghost use Rattle.fx_model.specs.Machine.{is_shown, last_reason, nothing_noted, side_at, with_reason, with_tag};
+ghost use Rattle.fx_walk.specs.Stops.{direction_of, ended_of, reasons_of};
+
+use crate::outcome::{Hop, Outcome};
+use fx_base::ChainName;
+use fx_model::{ChainRule, Reason, Tag, Target, Verdict};
+
+const FORWARD: &[u8; 12] = b"cali-FORWARD";
+
+/// As many chains deep as rules can lead: chains have five ranks.
+pub const DEEPEST: u8 = 5;
+
+/// A side of a packet's way: that of the endpoint which it comes from, or which it goes to.
+#[derive(Clone, Copy)]
+pub enum Side {
+    Egress,
+    Ingress,
+}
+
+/// The packet's mark, the side that the walk is on, and the last reason on each.
+#[derive(Clone, Copy)]
+pub struct Seen<'a> {
+    pub mark: u32,
+    pub side: Option<Side>,
+    pub egress: Option<&'a Reason>,
+    pub ingress: Option<&'a Reason>,
+}
+
+/// How the walk of a chain's rules ended: `Left` by RETURN, `Through` at their end.
+#[derive(Clone, Copy)]
+pub enum Stop<'a> {
+    Accepted(Seen<'a>),
+    Dropped(Seen<'a>),
+    Left(Seen<'a>),
+    Through(Seen<'a>),
+}
+
+pub fn nothing_seen<'a>() -> Seen<'a>
+    ensures mark { result.mark ≡ 0 }
+    ensures reasons { reasons_of result ≡ nothing_noted }
+{
+    Seen {
+        mark: 0,
+        side: None,
+        egress: None,
+        ingress: None,
+    }
+}
+
+/// What a packet's run gives, where the first chain ended so: without a drop the packet is allowed.
+pub fn outcome_of<'a>(stop: Stop<'a>) -> Outcome<'a>
+    ensures verdict { result.verdict ≡ verdict_of (ended_of stop.entry) }
+    ensures egress { option_copied result.egress ≡ (noted_in (ended_of stop.entry)).egress }
+    ensures ingress { option_copied result.ingress ≡ (noted_in (ended_of stop.entry)).ingress }
+{
+    let (verdict, seen) = match stop {
+        Stop::Dropped(s) => (Verdict::Deny, s),
+        Stop::Accepted(s) => (Verdict::Allow, s),
+        Stop::Left(s) => (Verdict::Allow, s),
+        Stop::Through(s) => (Verdict::Allow, s),
+    };
+    Outcome {
+        verdict,
+        egress: seen.egress,
+        ingress: seen.ingress,
+    }
+}
+
+/// The chain at which each walk begins.
+pub fn first_chain() -> ChainName
+    ensures { result ≡ forward }
+{
+    ChainName::join(FORWARD.as_slice(), b"")
+}
+
+fn is_first(chain: ChainName) -> bool
+    ensures { result ≡ bytes_eq chain forward }
+{
+    chain.bytes() == FORWARD.as_slice()
+}
+
+fn side_of(place: u64) -> Option<Side>
+    ensures { direction_of result ≡ side_at place }
+{
+    match place {
+        2 => Some(Side::Egress),
+        3 => Some(Side::Ingress),
+        _ => None,
+    }
+}
+
+fn reasoned<'a>(why: &'a Reason, seen: Seen<'a>) -> Seen<'a>
+    ensures mark { result.mark ≡ seen.entry.mark }
+    ensures reasons { reasons_of result ≡ with_reason (direction_of seen.entry.side) why.entry.now (reasons_of seen.entry) }
+{
+    match seen.side {
+        None => seen,
+        Some(Side::Egress) => Seen {
+            egress: Some(why),
+            ..seen
+        },
+        Some(Side::Ingress) => Seen {
+            ingress: Some(why),
+            ..seen
+        },
+    }
+}
+
+fn tagged<'a>(tag: &'a Tag, seen: Seen<'a>) -> Seen<'a>
+    ensures mark { result.mark ≡ seen.entry.mark }
+    ensures reasons { reasons_of result ≡ with_tag tag.entry.now (reasons_of seen.entry) }
+{
+    match tag {
+        Tag::Plain => seen,
+        Tag::Why(why) => reasoned(why, seen),
+    }
+}
+
+/// Notes the reason of a rule that matched, or the side that it begins.
+#[tactic(auto, unfolding(fx_model::specs::Machine::last_reason))]
+pub fn noted<'a>(hop: Hop, rule: &'a ChainRule, seen: Seen<'a>) -> Seen<'a>
+    ensures mark { result.mark ≡ seen.entry.mark }
+    ensures reasons { reasons_of result ≡ last_reason hop.chain hop.place rule.entry.now (reasons_of seen.entry) }
+{
+    if is_first(hop.chain) {
+        Seen {
+            side: side_of(hop.place),
+            ..seen
+        }
+    } else {
+        tagged(&rule.tag, seen)
+    }
+}
+
+/// Whether a rule that matched is shown on the path.
+pub fn is_on_path(rule: &ChainRule) -> bool
+    ensures { result ≡ is_shown rule.now }
+{
+    let leads_or_ends = match &rule.target {
+        Target::Accept | Target::Drop | Target::Jump(_) | Target::Goto(_) => true,
+        Target::Return | Target::Mark { .. } => false,
+    };
+    let has_reason = match &rule.tag {
+        Tag::Plain => false,
+        Tag::Why(_) => true,
+    };
+    leads_or_ends || has_reason
+}

@@ -1,0 +1,18 @@
+//! What a packet's run gives.
+use fx_base::ChainName;
+use fx_model::{Reason, Verdict};
+
+/// The verdict, and the reason of the last rule that matched on each side of the packet's way, if one had a reason.
+#[derive(Clone, Copy, Debug)]
+pub struct Outcome<'a> {
+    pub verdict: Verdict,
+    pub egress: Option<&'a Reason>,
+    pub ingress: Option<&'a Reason>,
+}
+
+/// A rule on a packet's path: its chain, and its place there from 1.
+#[derive(Clone, Copy, Debug)]
+pub struct Hop {
+    pub chain: ChainName,
+    pub place: u64,
+}
