@@ -1,0 +1,13 @@
+-- The program's exit status for each end of a run, as its README lists them.
+use Rattle.std.specs.Prelude.{ℕ}
+use Rattle.felix_replay.specs.declared.top.Status.{Status}
+use Rattle.felix_replay.specs.declared.top.Status.TheVariants.{Done, Refused, Usage, ReadFault, WriteFault, Memory, InputTooLong}
+
+abbrev pub exit_status : Status → ℕ
+exit_status Done = 0
+exit_status Refused = 1
+exit_status Usage = 2
+exit_status ReadFault = 3
+exit_status WriteFault = 4
+exit_status Memory = 5
+exit_status InputTooLong = 6
