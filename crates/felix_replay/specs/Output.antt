@@ -35,11 +35,11 @@ pub record State : Type 0 where
 -- before the first line of the node of this name
 abbrev pub start : List ℕ → State
 start node = record {
-    resources = record { node = node; in_sync = false; endpoints = maps.empty; profiles = maps.empty };
-    sent = empty_view;
-    lines = 0;
-    refused = false;
-  }
+  resources = record { node = node; in_sync = false; endpoints = maps.empty; profiles = maps.empty };
+  sent = empty_view;
+  lines = 0;
+  refused = false;
+}
 
 -- ---- what a line says of the resources
 

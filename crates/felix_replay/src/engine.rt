@@ -66,11 +66,7 @@ impl Engine {
         self.obey(answer, sink)
     }
 
-    fn obey<K: Sink>(
-        &mut self,
-        answer: Result<Command, Refusal>,
-        sink: &mut K,
-    ) -> Result<(), Stop>
+    fn obey<K: Sink>(&mut self, answer: Result<Command, Refusal>, sink: &mut K) -> Result<(), Stop>
         requires kept { IsKept self.old }
         requires few { self.old.lines < 2 ^ 64 - 1 }
         requires formed { IfOk answer (λ c. is_formed_command c ≡ true) }

@@ -9,5 +9,7 @@ mod engine;
 mod rules;
 mod sending;
 mod stop;
+#[cfg(test)]
+mod tests;
 mod top;
 mod words;

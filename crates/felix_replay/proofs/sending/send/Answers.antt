@@ -30,9 +30,9 @@ loop-count-preserved g c =
         i.output.0 ++ first,
         Appends-more _ _ _ i.output.0 first i.output.1 s.writes.whole,
         append_assoc i.output.0 first _
-        ∙ ap (λ (v : View). i.output.0 ++ (first ++ messages_text v w)) s.step
-        ∙ ap (λ (l : List ℕ). i.output.0 ++ l) (sym (messages_step c.loop-count.sent w))
-        ∙ i.output.2,
+            ∙ ap (λ (v : View). i.output.0 ++ (first ++ messages_text v w)) s.step
+            ∙ ap (λ (l : List ℕ). i.output.0 ++ l) (sym (messages_step c.loop-count.sent w))
+            ∙ i.output.2,
       );
       count = omega (arith, one_fewer c.loop-count.sent w there, ap (λ (v : View). length (flush v w)) s.step, c.saturating_add-count.ensures, i.count);
       fits = omega (arith, c.saturating_add-count.ensures);
