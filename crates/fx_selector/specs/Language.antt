@@ -1,0 +1,92 @@
+-- The selector language of the Calico resource reference, "Selectors". A phrase has the spaces and tabs after its marks and strings; what follows a word is led by its own.
+use Rattle.std.specs.Prelude.{◌≡◌, ℕ, zero, suc, Bool, true, false, cond, not, ◌&&◌, ◌||◌, eqb, leb, ◌⊎◌, List, [], ◌∷◌, ◌++◌, length, nat_eq}
+use Rattle.std.specs.Cmp.Lexicographic.{pointwise}
+use Rattle.fx_selector.specs.Tree.{Tree, all, global, has, equal, unequal, within, outside, contains, starts, ends, negated, each, some, set_of, together}
+use Rattle.fx_selector.specs.Phrase.{Ends, Starts, Then, Each, Mapped, Either, Nothing, is_blank, not_blank, is_key, not_key, is_quote, any_byte, Mark, Byte, Closed, Word, Led, Pick, Series, Keyword}
+
+abbrev pub same_bytes : List ℕ → List ℕ → Bool
+same_bytes = pointwise nat_eq
+
+abbrev pub all_word : List ℕ
+all_word = 97 ∷ 108 ∷ 108 ∷ []
+
+abbrev pub global_word : List ℕ
+global_word = 103 ∷ 108 ∷ 111 ∷ 98 ∷ 97 ∷ 108 ∷ []
+
+abbrev pub has_word : List ℕ
+has_word = 104 ∷ 97 ∷ 115 ∷ []
+
+abbrev pub in_word : List ℕ
+in_word = 105 ∷ 110 ∷ []
+
+abbrev pub not_word : List ℕ
+not_word = 110 ∷ 111 ∷ 116 ∷ []
+
+abbrev pub contains_word : List ℕ
+contains_word = 99 ∷ 111 ∷ 110 ∷ 116 ∷ 97 ∷ 105 ∷ 110 ∷ 115 ∷ []
+
+abbrev pub starts_word : List ℕ
+starts_word = 115 ∷ 116 ∷ 97 ∷ 114 ∷ 116 ∷ 115 ∷ []
+
+abbrev pub with_word : List ℕ
+with_word = 119 ∷ 105 ∷ 116 ∷ 104 ∷ []
+
+abbrev pub ends_word : List ℕ
+ends_word = 101 ∷ 110 ∷ 100 ∷ 115 ∷ []
+
+abbrev pub String : List ℕ → List ℕ → Type 0
+String = Then any_byte (Byte is_quote) Closed
+
+-- set = "{" [ str { "," str } ] "}", of at most n + 1 strings
+abbrev pub Set : ℕ → List ℕ → List (List ℕ) → Type 0
+Set n = Then not_blank (Mark (123 ∷ [])) (λ _. Either
+    (Mapped (λ _. []) (Mark (125 ∷ [])))
+    (Then (λ c. not_blank c && not (eqb c 44)) (Series not_blank String (44 ∷ []) n) (λ vs. Mapped (λ _. set_of vs) (Mark (125 ∷ [])))))
+
+-- test = "==" str | "!=" str | "in" set | "not" "in" set | "contains" str | "starts" "with" str | "ends" "with" str
+abbrev pub Test : ℕ → List ℕ → List ℕ → Tree → Type 0
+Test n k =
+    Either (Then not_blank (Mark (61 ∷ 61 ∷ [])) (λ _. Mapped (equal k) String))
+    (Either (Then not_blank (Mark (33 ∷ 61 ∷ [])) (λ _. Mapped (unequal k) String))
+    (Either (Then not_key (Keyword in_word) (λ _. Led (Mapped (within k) (Set n))))
+    (Either (Then not_key (Keyword not_word) (λ _. Led (Then not_key (Keyword in_word) (λ _. Led (Mapped (outside k) (Set n))))))
+    (Either (Then not_key (Keyword contains_word) (λ _. Led (Mapped (contains k) String)))
+    (Either (Then not_key (Keyword starts_word) (λ _. Led (Then not_key (Keyword with_word) (λ _. Led (Mapped (starts k) String)))))
+    (Then not_key (Keyword ends_word) (λ _. Led (Then not_key (Keyword with_word) (λ _. Led (Mapped (ends k) String))))))))))
+
+abbrev pub Call : ℕ → List ℕ → List ℕ → Tree → Type 0
+Call limit w =
+    Pick (same_bytes w all_word) (Then not_blank (Mark (40 ∷ [])) (λ _. Mapped (λ _. all) (Mark (41 ∷ []))))
+    (Pick (same_bytes w global_word) (Then not_blank (Mark (40 ∷ [])) (λ _. Mapped (λ _. global) (Mark (41 ∷ []))))
+    (Pick (same_bytes w has_word) (Then not_blank (Mark (40 ∷ [])) (λ _. Then not_key (Word limit) (λ k. Led (Mapped (λ _. has k) (Mark (41 ∷ []))))))
+    Nothing))
+
+-- a word, and what follows it
+abbrev pub Atom : ℕ → ℕ → List ℕ → Tree → Type 0
+Atom limit n = Then not_key (Word limit) (λ w. Led (Either (Call limit w) (Test n w)))
+
+-- and = not { "&&" not }
+abbrev pub And : (List ℕ → Tree → Type 0) → ℕ → List ℕ → Tree → Type 0
+And G n = Mapped (together each) (Series not_blank G (38 ∷ 38 ∷ []) n)
+
+abbrev pub and_ends : ℕ → Bool
+and_ends c = not_blank c && not (eqb c 38)
+
+-- or = and { "||" and }
+abbrev pub Or : (List ℕ → Tree → Type 0) → ℕ → List ℕ → Tree → Type 0
+Or G n = Mapped (together some) (Series and_ends (And G n) (124 ∷ 124 ∷ []) n)
+
+abbrev pub or_ends : ℕ → Bool
+or_ends c = and_ends c && not (eqb c 124)
+
+-- not = "!" not | "(" or ")" | a word and what follows it; within at most depth open `!` and `(`
+abbrev pub Not : ℕ → ℕ → ℕ → List ℕ → Tree → Type 0
+Not limit n zero = Either Nothing (Either Nothing (Atom limit n))
+Not limit n (suc depth) =
+    Either (Then not_blank (Mark (33 ∷ [])) (λ _. Mapped negated (Not limit n depth)))
+    (Either (Then not_blank (Mark (40 ∷ [])) (λ _. Then or_ends (Or (Not limit n depth) n) (λ t. Mapped (λ _. t) (Mark (41 ∷ [])))))
+    (Atom limit n))
+
+-- text = blank | or
+abbrev pub SelectorText : ℕ → ℕ → ℕ → List ℕ → Tree → Type 0
+SelectorText limit n depth text t = (Each is_blank text × (t ≡ all)) ⊎ Led (Or (Not limit n depth) n) text t

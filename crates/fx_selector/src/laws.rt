@@ -1,0 +1,15 @@
+//! The laws of the language, each the contract of a function that does nothing.
+ghost use Rattle.std.specs.Prelude.{◌≡◌, ℕ, List};
+ghost use Rattle.fx_selector.specs.Tree.{Tree, IsTree};
+ghost use Rattle.fx_selector.specs.Canonical.{canonical_text};
+ghost use Rattle.fx_selector.specs.Places.{Spells};
+
+/// A text spells at most one tree.
+pub fn one_tree()
+    ensures { (text : List ℕ) (t u : Tree) → Spells text t → Spells text u → t ≡ u }
+{}
+
+/// The canonical text of a tree spells it. So equal canonical texts mean equal trees.
+pub fn canonical_text_spells()
+    ensures { (t : Tree) → IsTree t → Spells (canonical_text t) t }
+{}

@@ -1,0 +1,24 @@
+//! The selector language: which labels a policy or a rule picks.
+//!
+//! A text is read into a tree (`Selector`), which is true or false of a finite map (`Labels`), and
+//! has one canonical text. Two selectors of one canonical text are one tree.
+#![tactic(auto)]
+
+pub use fault::SelectorFault;
+pub use labels::Labels;
+pub use laws::{canonical_text_spells, one_tree};
+pub use selector::Selector;
+
+mod copy;
+mod equality;
+mod fault;
+mod grammar;
+mod labels;
+mod laws;
+mod node;
+mod selector;
+mod strings;
+mod tokens;
+mod truth;
+mod whole;
+
