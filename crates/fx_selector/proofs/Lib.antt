@@ -16,8 +16,11 @@ pub mod GrowAll
 pub mod Faults
 pub mod Parsing
 pub mod Sets
-pub mod Canonical
+pub mod Spelling
 pub mod Places
 pub mod LabelEntries
 pub mod SameTree
 pub mod Others
+pub mod Between
+pub mod Rewritten
+pub mod Sound

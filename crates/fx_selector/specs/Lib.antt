@@ -12,3 +12,4 @@ pub mod Reader
 pub mod Gives
 pub mod Going
 pub mod SameTree
+pub mod Rewriting

@@ -1,7 +1,8 @@
 -- The tree of a selector: the Calico resource reference, "Selectors".
-use Rattle.std.specs.Prelude.{◌≡◌, ℕ, ◌+◌, ◌<◌, ◌≤◌, max, Bool, true, false, cond, eqb, List, [], ◌∷◌, length}
+use Rattle.std.specs.Prelude.{◌≡◌, ℕ, ◌+◌, ◌<◌, ◌≤◌, max, cond, nat_eq, List, [], ◌∷◌, length}
 use Rattle.std.specs.Ordering.{nat_cmp, match_ordering}
 use Rattle.std.specs.Cmp.Lexicographic.{slice_cmp}
+use Rattle.std.specs.List.{list_any}
 use Rattle.std.specs.List.Sorted.{IsStrictlySortedBy}
 use Rattle.fx_selector.specs.Phrase.{Each, is_key, is_text}
 
@@ -70,13 +71,9 @@ abbrev mutual
   heights none = 0
   heights (more t ts) = max (height t) (heights ts)
 
-abbrev pub holds_byte : ℕ → List ℕ → Bool
-holds_byte b [] = false
-holds_byte b (c ∷ cs) = cond (eqb c b) true (holds_byte b cs)
-
 -- a string that holds `"` stands in `'`
 abbrev pub quote_of : List ℕ → ℕ
-quote_of v = cond (holds_byte 34 v) 39 34
+quote_of v = cond (list_any (λ c. nat_eq c 34) v) 39 34
 
 -- a run of key bytes
 abbrev pub IsKey : List ℕ → Type 0

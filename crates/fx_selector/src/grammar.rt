@@ -160,7 +160,7 @@ fn call_at<'a>(
 }
 
 /// The values, distinct and ascending.
-fn ascending(values: Vec<Text>) -> Vec<Text>
+pub fn ascending(values: Vec<Text>) -> Vec<Text>
     ensures { result.items ≡ set_of values.items }
 {
     let mut values = values;

@@ -9,6 +9,7 @@ pub use labels::Labels;
 pub use laws::{canonical_text_spells, one_tree};
 pub use selector::Selector;
 
+mod canonical;
 mod copy;
 mod equality;
 mod fault;
@@ -16,6 +17,7 @@ mod grammar;
 mod labels;
 mod laws;
 mod node;
+mod rewriting;
 mod selector;
 mod strings;
 mod tokens;

@@ -1,7 +1,7 @@
 //! The tree of a selector, in boxes.
-ghost use Rattle.std.specs.Prelude.{◌≡◌, ◌<◌, length, map};
-ghost use Rattle.fx_selector.specs.Tree.{together, each, some};
-ghost use Rattle.fx_selector.specs.Nodes.{tree};
+ghost use Rattle.std.specs.Prelude.{◌≡◌, ◌<◌, length, map, List, ℕ, if◌then◌else◌};
+ghost use Rattle.fx_selector.specs.Tree.{together, each, some, within, outside};
+ghost use Rattle.fx_selector.specs.Nodes.{tree, label_tree};
 
 use fx_base::Text;
 
@@ -16,6 +16,19 @@ pub enum Test {
     Contains(Text),
     Starts(Text),
     Ends(Text),
+}
+
+impl Test {
+    /// Whether the label is among the values, or is not.
+    pub fn one_of(set: Vec<Text>, not: bool) -> Test
+        ensures { (k : List ℕ) → label_tree k result ≡ (if not then outside k set.items else within k set.items) }
+    {
+        if not {
+            Test::Outside(set)
+        } else {
+            Test::Within(set)
+        }
+    }
 }
 
 #[derive(Debug, Drop)]

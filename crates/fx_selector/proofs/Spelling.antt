@@ -1,15 +1,23 @@
 -- The canonical text spells its tree.
-use Rattle.std.proofs.Common.{◌≡◌, ℕ, zero, suc, ◌+◌, ◌-◌, ◌<◌, ◌≤◌, Bool, true, false, cond, not, eqb, ◌⊎◌, inl, inr, List, [], ◌∷◌, ◌++◌, length, refl, sym, ap, subst, ◌∙◌, append_assoc, append-nil, arith}
+use Rattle.std.proofs.Common.{◌≡◌, ℕ, zero, suc, ◌+◌, ◌-◌, ◌<◌, ◌≤◌, Bool, true, false, cond, not, eqb, nat_eq, ◌⊎◌, inl, inr, List, [], ◌∷◌, ◌++◌, length, map, refl, sym, ap, subst, ◌∙◌, append_assoc, append-nil, arith}
+use Rattle.std.specs.List.{list_any}
 use Rattle.std.specs.List.Sorted.{IsStrictlySortedBy}
 use Rattle.std.specs.Cmp.Lexicographic.{slice_cmp}
 use Rattle.std.specs.Ordering.{nat_cmp}
 use Rattle.fx_selector.specs.Phrase.{Ends, Starts, Each, Then, Mapped, Either, Nothing, is_blank, not_blank, is_key, not_key, is_quote, is_text, any_byte, Mark, Byte, Closed, Word, Led, Pick, Series, Keyword}
 use Rattle.fx_selector.specs.Language.{all_word, global_word, has_word, in_word, not_word, contains_word, starts_word, ends_word, with_word, String, Set, Test, Call, Atom, And, Or, Not, SelectorText, and_ends, or_ends}
-use Rattle.fx_selector.specs.Tree.{Tree, Trees, all, global, has, equal, unequal, within, outside, contains, starts, ends, negated, each, some, none, more, many, together, holds_byte, quote_of, IsString, AreStrings, IsSet, set_of, count, IsTree, AreTrees}
-use Rattle.fx_selector.specs.Canonical.{quoted, listed, braced, canonical_text, joined}
+use Rattle.fx_selector.specs.Tree.{Tree, Trees, all, global, has, equal, unequal, within, outside, contains, starts, ends, negated, each, some, none, more, many, together, quote_of, IsString, AreStrings, IsSet, set_of, count, IsTree, AreTrees}
+use Rattle.fx_selector.specs.Canonical.{quoted, between, braced, canonical_text, texts}
 use Rattle.fx_selector.specs.Places.{Spells}
 use Rattle.fx_selector.proofs.Language.{key_is, space_ends, blank_key}
 use Rattle.fx_selector.proofs.Sets.{sorted_set}
+
+-- the texts of trees with a mark between each two
+abbrev pub joined : List ℕ → Trees → List ℕ
+joined mark ts = between mark (texts ts)
+
+abbrev pub listed : List (List ℕ) → List ℕ
+listed vs = between (44 ∷ 32 ∷ []) (map quoted vs)
 
 abbrev pub ShortKey : ℕ → List ℕ → Type 0
 ShortKey limit k = Each is_key k × (0 < length k) × (length k ≤ limit)
@@ -82,7 +90,7 @@ string_of_quoted v blank h b = record {
   back = (v ++ quote_of v ∷ []) ++ blank;
   said = quote_of v;
   whole = refl;
-  first = (refl, quote_is_quote (holds_byte 34 v));
+  first = (refl, quote_is_quote (list_any (λ c. nat_eq c 34) v));
   apart = any_starts v;
   second = (blank, h, b, append_assoc v (quote_of v ∷ []) blank);
 }
@@ -92,7 +100,7 @@ string_of_quoted v blank h b = record {
     any_starts (c ∷ cs) = refl
 
 pub quote_front : (v : List ℕ) → not_blank (quote_of v) ≡ true
-quote_front v = by (holds_byte 34 v)
+quote_front v = by (list_any (λ c. nat_eq c 34) v)
   where
     by : (q : Bool) → not_blank (cond q 39 34) ≡ true
     by true = refl
@@ -316,32 +324,32 @@ module _ (limit n : ℕ) (wide : 6 < limit) where
   pub starts_goods : (sep : List ℕ) (ts : Trees) (d : ℕ) → Goods limit n ts d → 0 < count ts → (tail : List ℕ) → Starts not_blank (joined sep ts ++ tail)
   starts_goods sep none d g h tail = absurd (omega arith)
   starts_goods sep (more t none) d g h tail = starts_good t d g.0 tail
-  starts_goods sep (more t (more u us)) d g h tail = subst (Starts not_blank) (sym (append_assoc (canonical_text t) (32 ∷ (sep ++ (32 ∷ joined sep (more u us)))) tail)) (starts_good t d g.0 _)
+  starts_goods sep (more t (more u us)) d g h tail = subst (Starts not_blank) (sym (append_assoc (canonical_text t) (sep ++ joined sep (more u us)) tail)) (starts_good t d g.0 _)
 
   abbrev pub Spelled : (List ℕ → Tree → Type 0) → Trees → Type 0
   Spelled G none = Unit {0}
   Spelled G (more t ts) = ((blank : List ℕ) → Each is_blank blank → G (canonical_text t ++ blank) t) × Spelled G ts
 
-  pub spelled_series : (b : ℕ) (stops : ℕ → Bool) → not_blank b ≡ true → stops b ≡ true → (G : List ℕ → Tree → Type 0) (ts : Trees) (d : ℕ) → Spelled G ts → Goods limit n ts d → (k : ℕ) → count ts ≤ k + 1 → 0 < count ts → Series stops G (b ∷ b ∷ []) k (joined (b ∷ b ∷ []) ts) (list_of ts)
+  pub spelled_series : (b : ℕ) (stops : ℕ → Bool) → not_blank b ≡ true → stops b ≡ true → (G : List ℕ → Tree → Type 0) (ts : Trees) (d : ℕ) → Spelled G ts → Goods limit n ts d → (k : ℕ) → count ts ≤ k + 1 → 0 < count ts → Series stops G (b ∷ b ∷ []) k (joined (32 ∷ b ∷ b ∷ 32 ∷ []) ts) (list_of ts)
   spelled_series b stops nb sb G none d s g k l h = absurd (omega arith)
   spelled_series b stops nb sb G (more t none) d s g k l h = single stops G (b ∷ b ∷ []) k (canonical_text t) t (subst (λ x. G x t) (append-nil (canonical_text t)) (s.0 [] tt))
   spelled_series b stops nb sb G (more t (more u us)) d s g zero l h = absurd (omega arith)
   spelled_series b stops nb sb G (more t (more u us)) d s g (suc k) l h = inr (record {
     front = canonical_text t ++ 32 ∷ [];
-    back = b ∷ b ∷ 32 ∷ joined (b ∷ b ∷ []) (more u us);
+    back = b ∷ b ∷ 32 ∷ joined (32 ∷ b ∷ b ∷ 32 ∷ []) (more u us);
     said = t;
-    whole = sym (append_assoc (canonical_text t) (32 ∷ []) (b ∷ b ∷ 32 ∷ joined (b ∷ b ∷ []) (more u us)));
+    whole = sym (append_assoc (canonical_text t) (32 ∷ []) (b ∷ b ∷ 32 ∷ joined (32 ∷ b ∷ b ∷ 32 ∷ []) (more u us)));
     first = s.0 (32 ∷ []) (refl, tt);
     apart = sb;
     second = (
       list_of (more u us),
       record {
         front = b ∷ b ∷ 32 ∷ [];
-        back = joined (b ∷ b ∷ []) (more u us);
+        back = joined (32 ∷ b ∷ b ∷ 32 ∷ []) (more u us);
         said = tt;
         whole = refl;
         first = (32 ∷ [], (refl, tt), refl);
-        apart = subst (Starts not_blank) (append-nil (joined (b ∷ b ∷ []) (more u us))) (starts_goods (b ∷ b ∷ []) (more u us) d g.1 (omega arith) []);
+        apart = subst (Starts not_blank) (append-nil (joined (32 ∷ b ∷ b ∷ 32 ∷ []) (more u us))) (starts_goods (32 ∷ b ∷ b ∷ 32 ∷ []) (more u us) d g.1 (omega arith) []);
         second = spelled_series b stops nb sb G (more u us) d s.1 g.1 k (omega arith) (omega arith);
       },
       refl,
@@ -371,18 +379,18 @@ module _ (limit n : ℕ) (wide : 6 < limit) where
   starts_inside sep ts d g h blank = subst (Starts not_blank) (sym (append_assoc (joined sep ts) (41 ∷ []) blank)) (starts_goods sep ts d g h (41 ∷ blank))
 
   pub each_not : (d : ℕ) (ts : Trees) → Spelled (Not limit n d) ts → Goods limit n ts d → count ts ≤ n + 1 → 2 ≤ count ts → (blank : List ℕ) → Each is_blank blank → Not limit n (suc d) (canonical_text (each ts) ++ blank) (each ts)
-  each_not d ts s g l h blank b = grouped d (joined (38 ∷ 38 ∷ []) ts) blank (each ts) (
+  each_not d ts s g l h blank b = grouped d (joined (32 ∷ 38 ∷ 38 ∷ 32 ∷ []) ts) blank (each ts) (
     each ts ∷ [],
-    single and_ends (And (Not limit n d) n) (124 ∷ 124 ∷ []) n (joined (38 ∷ 38 ∷ []) ts) (each ts)
+    single and_ends (And (Not limit n d) n) (124 ∷ 124 ∷ []) n (joined (32 ∷ 38 ∷ 38 ∷ 32 ∷ []) ts) (each ts)
         (list_of ts, spelled_series 38 not_blank refl refl (Not limit n d) ts d s g n l (omega arith), together_two each ts h),
     refl,
   )
-      (starts_inside (38 ∷ 38 ∷ []) ts d g (omega arith) blank) b
+      (starts_inside (32 ∷ 38 ∷ 38 ∷ 32 ∷ []) ts d g (omega arith) blank) b
 
   pub some_not : (d : ℕ) (ts : Trees) → Spelled (Not limit n d) ts → Goods limit n ts d → count ts ≤ n + 1 → 2 ≤ count ts → (blank : List ℕ) → Each is_blank blank → Not limit n (suc d) (canonical_text (some ts) ++ blank) (some ts)
-  some_not d ts s g l h blank b = grouped d (joined (124 ∷ 124 ∷ []) ts) blank (some ts)
+  some_not d ts s g l h blank b = grouped d (joined (32 ∷ 124 ∷ 124 ∷ 32 ∷ []) ts) blank (some ts)
       (list_of ts, spelled_series 124 and_ends refl refl (And (Not limit n d) n) ts d (ands d ts s) g n l (omega arith), together_two some ts h)
-      (starts_inside (124 ∷ 124 ∷ []) ts d g (omega arith) blank) b
+      (starts_inside (32 ∷ 124 ∷ 124 ∷ 32 ∷ []) ts d g (omega arith) blank) b
 
   pub bang_not : (d : ℕ) (t : Tree) → ((blank : List ℕ) → Each is_blank blank → Not limit n d (canonical_text t ++ blank) t) → Good limit n t d → (blank : List ℕ) → Each is_blank blank → Not limit n (suc d) (canonical_text (negated t) ++ blank) (negated t)
   bang_not d t s g blank b = inl (record { front = 33 ∷ []; back = canonical_text t ++ blank; said = tt; whole = refl; first = ([], tt, refl); apart = starts_good t d g blank; second = (t, s blank b, refl) })

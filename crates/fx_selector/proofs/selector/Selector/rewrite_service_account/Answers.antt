@@ -1,0 +1,8 @@
+use Rattle.std.proofs.Common.{sym, ap, subst, ◌∙◌}
+use Rattle.fx_selector.specs.Tree.{IsSelector, IsTree}
+use Rattle.fx_selector.specs.Rewriting.{service_account_tree}
+use Rattle.fx_selector.proofs.Rewritten.{service_account_selector}
+use Rattle.fx_selector.proofs.selector.Selector.rewrite_service_account.Goals as goal
+
+pub invariant_of-result : goal.invariant_of-result
+invariant_of-result c = subst IsSelector (sym c.in_ok-node.ensures) (subst (λ t. IsSelector (service_account_tree t)) (sym c.self.view_is) (service_account_selector c.args.self.now (subst IsTree c.self.view_is c.self.invariant.tree) c.requires))
