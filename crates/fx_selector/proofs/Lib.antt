@@ -24,3 +24,5 @@ pub mod Others
 pub mod Between
 pub mod Rewritten
 pub mod Sound
+pub mod Spelled
+pub mod OneFault

@@ -3,7 +3,8 @@ use Rattle.std.proofs.Common.{◌≡◌, ℕ, ◌<◌, ◌≤◌, List, [], ◌�
 use Rattle.fx_selector.specs.Reading.{Cause, unexpected, deep, long, spent}
 use Rattle.fx_selector.specs.Language.{SelectorText}
 use Rattle.fx_selector.specs.Tree.{Tree}
-use Rattle.fx_selector.specs.Places.{Spells, Allows, Nests, Keys, Begins, Stands}
+use Rattle.fx_selector.specs.Places.{Spells, Allows, Nests, Keys, Begins}
+use Rattle.fx_selector.proofs.Faults.{Stands}
 
 module _ (key : ℕ) (pos : 0 < key) (depth : ℕ) where
   pub front_begins : (a b : List ℕ) → Begins (Allows key depth) (a ++ b) → Begins (Allows key depth) a

@@ -13,3 +13,4 @@ pub mod Gives
 pub mod Going
 pub mod SameTree
 pub mod Rewriting
+pub mod Parsing

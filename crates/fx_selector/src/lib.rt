@@ -6,7 +6,7 @@
 
 pub use fault::SelectorFault;
 pub use labels::Labels;
-pub use laws::{canonical_text_spells, one_tree};
+pub use laws::{canonical_text_spells, one_fault, one_tree};
 pub use selector::Selector;
 
 mod canonical;

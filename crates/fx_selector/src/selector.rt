@@ -1,25 +1,30 @@
 //! A selector: a tree that is true or false of labels.
-ghost use Rattle.std.specs.Prelude.{◌≡◌, ◌≤◌, ◌+◌, ◌-◌, ◌^◌, min, map, All, IfOk, OnOk, if◌then◌else◌};
-ghost use Rattle.fx_selector.specs.Tree.{IsSelector, AreTrees, many, IsKey, IsString, AreStrings, height, and_of, set_of, equal, within, outside, has, negated};
+ghost use Rattle.std.specs.Prelude.{◌≡◌, ◌≤◌, ◌+◌, ◌-◌, ◌^◌, ◌<◌, min, length, map, All, IfOk, IfErr, IsErrOf, MatchResult, OnOk, if◌then◌else◌};
+ghost use Rattle.fx_selector.specs.Tree.{Tree, IsSelector, AreTrees, many, IsKey, IsString, AreStrings, height, and_of, set_of, equal, within, outside, has, negated};
 ghost use Rattle.fx_selector.specs.Nodes.{tree};
 ghost use Rattle.fx_selector.specs.Truth.{holds};
 ghost use Rattle.fx_selector.specs.Canonical.{canonical_text};
 ghost use Rattle.fx_selector.specs.Rewriting.{namespace_tree, service_account_tree};
-ghost use Rattle.fx_selector.specs.Places.{Spells};
+ghost use Rattle.fx_selector.specs.Places.{Spells, Means, IsFault};
 ghost use Rattle.fx_selector.specs.SameTree.{same_tree, same_tree_equiv, one_tree};
 ghost use Rattle.std.specs.Cmp.{partial_equiv_from_equiv};
 
 use crate::canonical;
 use crate::copy;
 use crate::equality;
+use crate::fault::SelectorFault;
 use crate::grammar::ascending;
 use crate::labels::Labels;
 use crate::node::{Node, Test, all_of};
 use crate::rewriting;
 use crate::truth;
+use crate::whole;
 use fx_base::{Exact, Memory, Text, Ticker};
 use std::alloc::{AllocError, Global};
 use std::marker::Model;
+
+/// The most bytes of a text.
+const TEXT_LIMIT: usize = 65_536;
 
 /// A selector's tree, at most 140 levels deep.
 #[derive(Debug, Drop)]
@@ -43,6 +48,31 @@ impl Model for Selector {
 }
 
 impl Selector {
+    /// The tree of a text.
+    ///
+    /// A text has at most 65,536 bytes, a key at most 512, and at most 64 `!` and grouping `(` are open around one
+    /// place. A text of spaces and tabs says `all()`.
+    pub fn parse(alloc: Global, text: &[u8]) -> Result<Selector, SelectorFault>
+        ensures tree { IfOk result (Means text.now) }
+        ensures complete { (t : Tree) → Means text.now t →
+            MatchResult result (λ selector. selector ≡ t) (λ fault. fault ≡ SelectorFault.Memory) }
+
+        // The length is tested before all else; of the other faults the one with the least place is given.
+        ensures too_long { 65536 < length text.now → IsErrOf result SelectorFault.TooLong }
+        ensures fault { IfErr result (IsFault text.now) }
+
+        ensures selector { IfOk result IsSelector }
+        ensures shallow { IfOk result (λ selector. height selector ≤ 131) }
+    {
+        if text.len() > TEXT_LIMIT {
+            return Err(SelectorFault::TooLong);
+        }
+        match whole::parse(alloc, text) {
+            Ok(node) => Ok(Selector { node }),
+            Err(fault) => Err(fault),
+        }
+    }
+
     /// Whether the selector holds on the labels. Ticks once, and takes no memory.
     pub fn matches<T: Ticker>(&self, labels: &Labels, ticks: &mut T) -> bool
         ensures truth { result ≡ holds self.now labels.now }
