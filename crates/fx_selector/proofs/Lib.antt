@@ -26,3 +26,4 @@ pub mod Rewritten
 pub mod Sound
 pub mod Spelled
 pub mod OneFault
+pub mod Literals

@@ -74,7 +74,7 @@ pub same_values : (ys vs : List (List ℕ)) → IsStrictlySortedBy (slice_cmp na
 same_values ys vs sorted alike =
     listed nat_list_cmp_total ys (from_list ys) refl sorted
     ∙ (ap items (FinMap.same_map nat_list_cmp_total (slice_cmp-IsAntisymmetric nat_cmp-IsAntisymmetric) (from_list ys) (from_list vs) (λ q.
-      get-view nat_list_cmp_total (marked ys) q ∙ (lookup-marked (is_at (slice_cmp nat_cmp q)) ys ∙ (ap mark (alike _) ∙ (sym (lookup-marked (is_at (slice_cmp nat_cmp q)) vs) ∙ sym (get-view nat_list_cmp_total (marked vs) q))))))
+    get-view nat_list_cmp_total (marked ys) q ∙ (lookup-marked (is_at (slice_cmp nat_cmp q)) ys ∙ (ap mark (alike _) ∙ (sym (lookup-marked (is_at (slice_cmp nat_cmp q)) vs) ∙ sym (get-view nat_list_cmp_total (marked vs) q))))))
     ∙ items-from_list vs)
 
 -- after a sort and a `dedup`
@@ -82,4 +82,4 @@ pub deduped_set : (vs xs ys : List (List ℕ)) → IsPermutation vs xs → IsSor
 deduped_set vs xs ys moved sorted kept =
     let e : ys ≡ dedup (pointwise nat_eq) xs = dedup_is (pointwise nat_eq) xs ys kept in
     same_values ys vs (subst (IsStrictlySortedBy (slice_cmp nat_cmp)) (sym e) (IsStrictlySortedBy-dedup nat_list_cmp_total texts_ties xs sorted))
-        (λ p. ap (list_any p) e ∙ (list_any-dedup (pointwise nat_eq) same_bytes p xs ∙ sym (list_any-IsPermutation p vs xs moved)))
+    (λ p. ap (list_any p) e ∙ (list_any-dedup (pointwise nat_eq) same_bytes p xs ∙ sym (list_any-IsPermutation p vs xs moved)))

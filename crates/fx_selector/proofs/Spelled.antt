@@ -28,7 +28,7 @@ no_quote true true e = cc
 no_quote true false e = refl
 no_quote false y e = cc
 
-no_double : (v : List ℕ) → Each (is_text 34) v → list_any (λ c. nat_eq c 34) v ≡ false
+pub no_double : (v : List ℕ) → Each (is_text 34) v → list_any (λ c. nat_eq c 34) v ≡ false
 unfolding is_text
 no_double [] h = refl
 no_double (c ∷ cs) h = ap (λ b. b || list_any (λ c. nat_eq c 34) cs) (no_quote (leb 32 c && not (eqb c 127)) (eqb c 34) h.0) ∙ no_double cs h.1

@@ -129,11 +129,7 @@ fn write_quoted(out: &mut Vec<u8>, value: &Text) -> Result<(), Memory>
 fn quote_for(value: &[u8]) -> u8
     ensures { result ≡ quote_of value.now }
 {
-    if has_double_quote(value) {
-        b'\''
-    } else {
-        b'"'
-    }
+    if has_double_quote(value) { b'\'' } else { b'"' }
 }
 
 fn has_double_quote(value: &[u8]) -> bool

@@ -12,7 +12,9 @@ pub fn same_node(a: &Node, b: &Node) -> bool
     match (a, b) {
         (Node::All, Node::All) => true,
         (Node::Global, Node::Global) => true,
-        (Node::Label(key, test), Node::Label(other_key, other)) => same_label(key, test, other_key, other),
+        (Node::Label(key, test), Node::Label(other_key, other)) => same_label(
+            key, test, other_key, other,
+        ),
         (Node::Not(inner), Node::Not(other)) => same_node(inner, other),
         (Node::And(parts), Node::And(others)) => same_nodes(parts, others),
         (Node::Or(parts), Node::Or(others)) => same_nodes(parts, others),

@@ -20,7 +20,8 @@ mod node;
 mod rewriting;
 mod selector;
 mod strings;
+#[cfg(test)]
+mod tests;
 mod tokens;
 mod truth;
 mod whole;
-

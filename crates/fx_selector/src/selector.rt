@@ -9,16 +9,11 @@ ghost use Rattle.fx_selector.specs.Places.{Spells, Means, IsFault};
 ghost use Rattle.fx_selector.specs.SameTree.{same_tree, same_tree_equiv, one_tree};
 ghost use Rattle.std.specs.Cmp.{partial_equiv_from_equiv};
 
-use crate::canonical;
-use crate::copy;
-use crate::equality;
 use crate::fault::SelectorFault;
 use crate::grammar::ascending;
 use crate::labels::Labels;
 use crate::node::{Node, Test, all_of};
-use crate::rewriting;
-use crate::truth;
-use crate::whole;
+use crate::{canonical, copy, equality, rewriting, truth, whole};
 use fx_base::{Exact, Memory, Text, Ticker};
 use std::alloc::{AllocError, Global};
 use std::marker::Model;

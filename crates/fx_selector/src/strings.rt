@@ -18,11 +18,7 @@ fn is_text_byte(quote: u8, c: u8) -> bool
 }
 
 /// The rest of a string that the quote closes.
-fn closed_of<'a>(
-    alloc: Global,
-    quote: u8,
-    rest: &'a [u8],
-) -> Result<(Text, &'a [u8]), ParseError>
+fn closed_of<'a>(alloc: Global, quote: u8, rest: &'a [u8]) -> Result<(Text, &'a [u8]), ParseError>
     ensures reads { Gives (λ x. x.0) (λ x. x.1.now) result (closed quote rest.now) }
     ensures shorter { IfOk result (λ x. length x.1.now < length rest.now) }
 {
