@@ -1,8 +1,8 @@
 -- Readers that choose, stop and rename.
-use Rattle.std.proofs.Common.{◌≡◌, ℕ, zero, suc, Bool, true, false, cond, not, ◌⊎◌, inl, inr, List, [], ◌∷◌, ◌++◌, length, refl, sym, ap, subst, ◌∙◌, append_assoc, append-nil, arith}
-use Rattle.fx_selector.specs.Phrase.{Ends, Starts, Then, Mapped, Either, Nothing}
+use Rattle.std.proofs.Common.{◌≡◌, ℕ, Bool, true, false, cond, not, inl, inr, List, [], ◌∷◌, ◌++◌, refl, sym, ap, subst, ◌∙◌}
+use Rattle.fx_selector.specs.Phrase.{Ends, Starts, Mapped, Either, Nothing}
 use Rattle.fx_selector.specs.Reading.{Cause, Res, Got, Stop, bind, choose, mapped, stop}
-use Rattle.fx_selector.proofs.Exact.{Filled, Opens, Finds, Halts, Outcome, Reads}
+use Rattle.fx_selector.proofs.Exact.{Filled, Outcome, Reads}
 
 pub stops_all : {A : Type 0} (why : Cause) (ends : ℕ → Bool) → Reads {A = A} Nothing ends (stop why)
 stops_all why ends = record {

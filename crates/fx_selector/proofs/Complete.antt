@@ -1,11 +1,11 @@
 -- A whole text is read exactly.
-use Rattle.std.proofs.Common.{◌≡◌, ℕ, zero, suc, ◌<◌, ◌≤◌, Bool, true, false, cond, not, ◌&&◌, eqb, ◌⊎◌, inl, inr, List, [], ◌∷◌, ◌++◌, length, refl, sym, ap, subst, ◌∙◌, append_assoc, append-nil, arith}
-use Rattle.fx_selector.specs.Phrase.{Ends, Starts, Each, Then, Mapped, Either, is_blank, not_blank, Led}
-use Rattle.fx_selector.specs.Reading.{Cause, unexpected, Res, Got, Stop, bind, skip}
+use Rattle.std.proofs.Common.{◌≡◌, ℕ, ◌<◌, true, inl, inr, List, [], ◌∷◌, ◌++◌, refl, sym, ap, subst, ◌∙◌, append_assoc, append-nil}
+use Rattle.fx_selector.specs.Phrase.{Ends, Starts, Each, is_blank, not_blank}
+use Rattle.fx_selector.specs.Reading.{Cause, Res, Got, Stop, skip}
 use Rattle.fx_selector.specs.Language.{Or, Not, SelectorText, or_ends}
 use Rattle.fx_selector.specs.Tree.{Tree, all}
 use Rattle.fx_selector.specs.Reader.{or_of, not_of, at_end, from_start, parsed}
-use Rattle.fx_selector.proofs.Exact.{Filled, Opens, Finds, Halts, Outcome, Reads, ends_after}
+use Rattle.fx_selector.proofs.Exact.{Filled, Opens, Outcome, Reads, ends_after}
 use Rattle.fx_selector.proofs.Marks.{skip_blanks, Skips, skips}
 use Rattle.fx_selector.proofs.Language.{not_reads, or_reads_of}
 

@@ -1,7 +1,7 @@
 -- A reader that reads exactly a phrase, and stops exactly where no text of the phrase goes on.
-use Rattle.std.proofs.Common.{◌≡◌, ℕ, zero, suc, Bool, true, false, cond, ◌⊎◌, inl, inr, List, [], ◌∷◌, ◌++◌, length, refl, sym, ap, subst, ◌∙◌, append_assoc, append-nil, arith}
+use Rattle.std.proofs.Common.{◌≡◌, ℕ, Bool, List, [], ◌∷◌, ◌++◌, refl, sym, ap, subst, ◌∙◌, append_assoc, append-nil}
 use Rattle.fx_selector.specs.Phrase.{Ends, Starts, Then}
-use Rattle.fx_selector.specs.Reading.{Cause, Res, Got, Stop, bind, choose}
+use Rattle.fx_selector.specs.Reading.{Cause, Res, Got, Stop, bind}
 
 abbrev pub Filled : List ℕ → Type 0
 Filled [] = ⊥

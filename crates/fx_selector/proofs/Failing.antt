@@ -1,6 +1,6 @@
 -- A fault that is handed on.
-use Rattle.std.proofs.Common.{◌≡◌, ℕ, List, length}
-use Rattle.fx_selector.specs.Reading.{Cause, Res, Got, Stop}
+use Rattle.std.proofs.Common.{◌≡◌, ℕ, List}
+use Rattle.fx_selector.specs.Reading.{Cause, Res, Stop}
 use Rattle.fx_selector.specs.declared.fault.ParseError.{ParseError}
 use Rattle.fx_selector.specs.declared.fault.ParseError.TheVariants.{Memory, At}
 use Rattle.fx_selector.specs.Gives.{Fails}

@@ -1,13 +1,13 @@
 -- A stop is the fault at its place.
-use Rattle.std.proofs.Common.{◌≡◌, ℕ, zero, suc, ◌<◌, ◌≤◌, ◌+◌, Bool, true, false, List, [], ◌∷◌, ◌++◌, length, refl, sym, ap, subst, ◌∙◌, append_assoc, append-nil, arith}
+use Rattle.std.proofs.Common.{◌≡◌, ℕ, ◌<◌, ◌+◌, true, false, List, [], ◌∷◌, ◌++◌, refl, sym, ap, subst, ◌∙◌, append_assoc, append-nil, arith}
 use Rattle.fx_selector.specs.Reading.{Cause, unexpected, deep, long, spent, Res, Got, Stop}
 use Rattle.fx_selector.specs.Language.{SelectorText}
 use Rattle.fx_selector.specs.Tree.{Tree}
 use Rattle.fx_selector.specs.Reader.{parsed}
-use Rattle.fx_selector.specs.Places.{Spells, Allows, Nests, Keys, Begins, IsUnexpected, IsTooDeep, IsKeyTooLong}
+use Rattle.fx_selector.specs.Places.{Spells, NestsWithin, KeysWithin, Begins, IsUnexpected, IsTooDeep, IsKeyTooLong}
 use Rattle.fx_selector.proofs.Exact.{Opens}
 use Rattle.fx_selector.proofs.Complete.{Answers, whole_complete, whole_answers}
-use Rattle.fx_selector.proofs.Grow.{Later, Agrees, Grown}
+use Rattle.fx_selector.proofs.Grow.{Later, Agrees}
 use Rattle.fx_selector.proofs.GrowAll.{whole_agrees}
 
 -- why reading stops, as a fault that stands there
@@ -33,7 +33,7 @@ module _ (key : ℕ) (pos : 0 < key) (n depth : ℕ) where
       (subst (λ x. Agrees true true x (parsed (key + s.0 + 1) (n + s.1 + 1) (depth + s.2 + 1) text)) (whole_complete s.0 s.3 s.1 s.2 text t s.4) up2)
       (subst (λ x. Agrees true true x (parsed (key + s.0 + 1) (n + s.1 + 1) (depth + s.2 + 1) text)) e up)
 
-  pub none_nested : (text rest : List ℕ) (t : Tree) → parsed key n depth text ≡ Stop deep rest → Nests depth text t → ⊥
+  pub none_nested : (text rest : List ℕ) (t : Tree) → parsed key n depth text ≡ Stop deep rest → NestsWithin depth text t → ⊥
   none_nested text rest t e s =
       let up : Agrees true false (parsed key n depth text) (parsed (key + s.0 + 1) (n + s.1 + 1) depth text) = whole_agrees true false key (key + s.0 + 1) (omega arith) (omega arith) n (n + s.1 + 1) (omega arith) depth depth refl text in
       let up2 : Agrees true false (parsed s.0 s.1 depth text) (parsed (key + s.0 + 1) (n + s.1 + 1) depth text) = whole_agrees true false s.0 (key + s.0 + 1) (omega arith) (omega arith) s.1 (n + s.1 + 1) (omega arith) depth depth refl text in
@@ -41,7 +41,7 @@ module _ (key : ℕ) (pos : 0 < key) (n depth : ℕ) where
       (subst (λ x. Agrees true false x (parsed (key + s.0 + 1) (n + s.1 + 1) depth text)) (whole_complete s.0 s.2 s.1 depth text t s.3) up2)
       (subst (λ x. Agrees true false x (parsed (key + s.0 + 1) (n + s.1 + 1) depth text)) e up)
 
-  pub none_keyed : (text rest : List ℕ) (t : Tree) → parsed key n depth text ≡ Stop long rest → Keys key text t → ⊥
+  pub none_keyed : (text rest : List ℕ) (t : Tree) → parsed key n depth text ≡ Stop long rest → KeysWithin key text t → ⊥
   none_keyed text rest t e s =
       let up : Agrees false true (parsed key n depth text) (parsed key (n + s.0 + 1) (depth + s.1 + 1) text) = whole_agrees false true key key refl pos n (n + s.0 + 1) (omega arith) depth (depth + s.1 + 1) (omega arith) text in
       let up2 : Agrees false true (parsed key s.0 s.1 text) (parsed key (n + s.0 + 1) (depth + s.1 + 1) text) = whole_agrees false true key key refl pos s.0 (n + s.0 + 1) (omega arith) s.1 (depth + s.1 + 1) (omega arith) text in
@@ -62,10 +62,10 @@ module _ (key : ℕ) (pos : 0 < key) (n depth : ℕ) where
   pub longer : (text : List ℕ) → Agrees true false (parsed key n depth text) (parsed (key + 1) (n + 1) depth text)
   longer text = whole_agrees true false key (key + 1) (omega arith) (omega arith) n (n + 1) (omega arith) depth depth refl text
 
-  pub begun_keys : (text : List ℕ) (c : ℕ) → Later (parsed key (n + 1) (depth + 1) text) (c ∷ []) → Begins (Keys key) text
+  pub begun_keys : (text : List ℕ) (c : ℕ) → Later (parsed key (n + 1) (depth + 1) text) (c ∷ []) → Begins (KeysWithin key) text
   begun_keys text c l = let w = past_end key (n + 1) (depth + 1) text c (parsed key (n + 1) (depth + 1) text) l (whole_answers key pos (n + 1) (depth + 1) text) in (w.0, w.1, (n + 1, depth + 1, w.2))
 
-  pub begun_nests : (text : List ℕ) (c : ℕ) → Later (parsed (key + 1) (n + 1) depth text) (c ∷ []) → Begins (Nests depth) text
+  pub begun_nests : (text : List ℕ) (c : ℕ) → Later (parsed (key + 1) (n + 1) depth text) (c ∷ []) → Begins (NestsWithin depth) text
   begun_nests text c l = let w = past_end (key + 1) (n + 1) depth text c (parsed (key + 1) (n + 1) depth text) l (whole_answers (key + 1) (omega arith) (n + 1) depth text) in (w.0, w.1, (key + 1, n + 1, omega arith, w.2))
 
   pub some_rest : (x : Res Tree) (rest : List ℕ) → Later x rest → (c : ℕ) × (m : List ℕ) × (rest ≡ c ∷ m)
@@ -90,7 +90,7 @@ module _ (key : ℕ) (pos : 0 < key) (n depth : ℕ) where
         q.1,
         q.2,
         begun_keys (taken ++ q.0 ∷ []) q.0 (subst (λ x. Agrees false true x (parsed key (n + 1) (depth + 1) (taken ++ q.0 ∷ []))) (f q.0 q.1 q.2 []) (deeper (taken ++ q.0 ∷ []))),
-        (λ b. none_nested (taken ++ q.0 ∷ b.0) (q.0 ∷ b.0) b.1 (f q.0 q.1 q.2 b.0) (subst (λ z. Nests depth z b.1) (join_tail taken q.0 b.0) b.2)),
+        (λ b. none_nested (taken ++ q.0 ∷ b.0) (q.0 ∷ b.0) b.1 (f q.0 q.1 q.2 b.0) (subst (λ z. NestsWithin depth z b.1) (join_tail taken q.0 b.0) b.2)),
       )
   fault text taken rest long w e o f h =
       let l : Later (parsed (key + 1) (n + 1) depth text) rest = subst (λ x. Agrees true false x (parsed (key + 1) (n + 1) depth text)) e (longer text) in
@@ -100,6 +100,6 @@ module _ (key : ℕ) (pos : 0 < key) (n depth : ℕ) where
         q.1,
         q.2,
         begun_nests (taken ++ q.0 ∷ []) q.0 (subst (λ x. Agrees true false x (parsed (key + 1) (n + 1) depth (taken ++ q.0 ∷ []))) (f q.0 q.1 q.2 []) (longer (taken ++ q.0 ∷ []))),
-        (λ b. none_keyed (taken ++ q.0 ∷ b.0) (q.0 ∷ b.0) b.1 (f q.0 q.1 q.2 b.0) (subst (λ z. Keys key z b.1) (join_tail taken q.0 b.0) b.2)),
+        (λ b. none_keyed (taken ++ q.0 ∷ b.0) (q.0 ∷ b.0) b.1 (f q.0 q.1 q.2 b.0) (subst (λ z. KeysWithin key z b.1) (join_tail taken q.0 b.0) b.2)),
       )
   fault text taken rest spent w e o f h = absurd (h refl)

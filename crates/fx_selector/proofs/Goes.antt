@@ -1,7 +1,6 @@
 -- The steps of a loop over a series.
-use Rattle.std.proofs.Common.{◌≡◌, ℕ, zero, suc, ◌<◌, ◌≤◌, ◌+◌, Bool, true, false, cond, eqb, List, [], ◌∷◌, ◌++◌, length, refl, sym, ap, subst, ◌∙◌, append_assoc, append-nil, arith}
-use Rattle.std.proofs.lemmas.Bool.{eqb-true, eq-eqb}
-use Rattle.fx_selector.specs.Reading.{Cause, spent, Res, Got, Stop, bind, mapped, mark, stop, go_on, series, begins_with}
+use Rattle.std.proofs.Common.{◌≡◌, ℕ, zero, suc, ◌<◌, ◌≤◌, true, false, cond, List, [], ◌∷◌, ◌++◌, length, refl, sym, ap, ◌∙◌, append_assoc, arith}
+use Rattle.fx_selector.specs.Reading.{Cause, spent, Res, Got, Stop, bind, mapped, mark, series, begins_with}
 use Rattle.fx_selector.specs.Going.{with_list, going, Going}
 
 pub series_goes : {A : Type 0} (r : List ℕ → Res A) (b : ℕ) (bs : List ℕ) (k : ℕ) (text : List ℕ) → series r b bs k text ≡ bind (r text) (going r b bs k)

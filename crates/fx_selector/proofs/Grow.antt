@@ -1,17 +1,12 @@
 -- What larger limits change: nothing but the stops at a limit.
-use Rattle.std.proofs.Common.{◌≡◌, ℕ, zero, suc, ◌<◌, ◌≤◌, ◌+◌, Bool, true, false, cond, not, ◌&&◌, eqb, ◌⊎◌, inl, inr, List, [], ◌∷◌, ◌++◌, length, length-append, refl, sym, ap, subst, ◌∙◌, arith}
-use Rattle.fx_selector.specs.Phrase.{is_key, is_quote, is_text, not_blank, not_key}
-use Rattle.fx_selector.specs.Reading.{Cause, unexpected, deep, long, spent, Res, Got, Stop, bind, choose, mapped, stop, skip, mark, byte, closed, run, word, led, pick, go_on, series, keyword}
-use Rattle.fx_selector.specs.Language.{same_bytes, all_word, global_word, has_word, in_word, not_word, contains_word, starts_word, with_word, ends_word}
-use Rattle.fx_selector.specs.Tree.{Tree, all, global, has, equal, unequal, within, outside, contains, starts, negated, each, some, set_of, together}
-use Rattle.fx_selector.specs.Reader.{string, set, with_string, in_set, test, call, atom, and_of, or_of, not_of, at_end, from_start, parsed}
-use Rattle.fx_selector.proofs.Exact.{Finds, Halts, Outcome, Reads}
-use Rattle.fx_selector.proofs.Marks.{mark_reads, Skips, skips}
+use Rattle.std.proofs.Common.{◌≡◌, ℕ, zero, suc, ◌<◌, ◌≤◌, Bool, true, false, cond, eqb, List, [], ◌∷◌, length, length-append, refl, sym, ap, subst, arith}
+use Rattle.fx_selector.specs.Phrase.{is_key, is_text, not_blank}
+use Rattle.fx_selector.specs.Reading.{Cause, unexpected, deep, long, spent, Res, Got, Stop, bind, choose, stop, skip, mark, byte, closed, run, word, pick, series, keyword}
+use Rattle.fx_selector.specs.Reader.{test}
+use Rattle.fx_selector.proofs.Exact.{Outcome, Reads}
+use Rattle.fx_selector.proofs.Marks.{mark_reads, skips}
 use Rattle.fx_selector.proofs.Words.{Ran, ran, with_front}
-use Rattle.fx_selector.proofs.Keywords.{keyword_reads}
-use Rattle.fx_selector.proofs.Goes.{series_goes}
 use Rattle.fx_selector.specs.Going.{going}
-use Rattle.fx_selector.proofs.Language.{string_reads, set_reads, test_reads, call_reads, atom_reads, not_reads, or_reads_of}
 
 -- reading went on past here
 abbrev pub Later : {A : Type 0} → Res A → List ℕ → Type 0

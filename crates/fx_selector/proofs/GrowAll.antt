@@ -1,16 +1,14 @@
 -- What larger limits change in the whole language.
-use Rattle.std.proofs.Common.{◌≡◌, ℕ, zero, suc, ◌<◌, ◌≤◌, ◌+◌, Bool, true, false, cond, not, ◌&&◌, eqb, List, [], ◌∷◌, ◌++◌, length, length-append, refl, sym, ap, subst, ◌∙◌, arith}
-use Rattle.fx_selector.specs.Phrase.{is_key, is_quote, not_blank, not_key, Mark, Word, Series, Keyword, Mapped}
+use Rattle.std.proofs.Common.{◌≡◌, ℕ, zero, suc, ◌<◌, ◌≤◌, Bool, true, false, cond, eqb, List, [], ◌∷◌, length, length-append, refl, ap, arith}
+use Rattle.fx_selector.specs.Phrase.{is_quote, not_blank, Mark}
 use Rattle.fx_selector.specs.Reading.{Cause, unexpected, deep, long, spent, Res, Got, Stop, bind, choose, mapped, stop, skip, mark, byte, closed, word, led, pick, series, keyword}
-use Rattle.fx_selector.specs.Language.{same_bytes, all_word, global_word, has_word, in_word, not_word, contains_word, starts_word, with_word, ends_word, String, Set, Test, Call, Atom, And, Or, Not, and_ends, or_ends}
+use Rattle.fx_selector.specs.Language.{same_bytes, all_word, global_word, has_word, in_word, not_word, contains_word, starts_word, with_word, ends_word, String, Set, And, Not, and_ends, or_ends}
 use Rattle.fx_selector.specs.Tree.{Tree, all, global, has, equal, unequal, within, outside, contains, starts, ends, negated, each, some, set_of, together}
 use Rattle.fx_selector.specs.Reader.{string, set, with_string, in_set, test, call, atom, and_of, or_of, not_of, at_end, from_start, parsed}
-use Rattle.fx_selector.proofs.Exact.{Reads}
-use Rattle.fx_selector.proofs.Marks.{mark_reads, Skips, skips}
-use Rattle.fx_selector.proofs.Words.{closed_reads, word_reads}
+use Rattle.fx_selector.proofs.Marks.{mark_reads, skips}
+use Rattle.fx_selector.proofs.Words.{closed_reads}
 use Rattle.fx_selector.proofs.Series.{past, series_reads}
-use Rattle.fx_selector.proofs.Keywords.{keyword_reads}
-use Rattle.fx_selector.proofs.Language.{string_reads, set_reads, a_string, a_not, an_or, test_reads, call_reads, atom_reads, not_reads, or_reads_of, follows_reads, with_reads, in_reads, keyed_reads, inner_reads, and_reads_of, an_and, q2, q3, q4, q5, q6, Follows, Inner, Keyed}
+use Rattle.fx_selector.proofs.Language.{string_reads, set_reads, a_string, a_not, not_reads, follows_reads, with_reads, in_reads, keyed_reads, inner_reads, and_reads_of, an_and, q2, q3, q4, q5, q6}
 use Rattle.fx_selector.proofs.Grow.{Later, NoLonger, Moves, Agrees, Grown, no_longer, bind_no_longer, bind_later, bind_agrees, choose_agrees, pick_agrees, mapped_agrees, mark_same, mark_past, keyword_same, closed_same, byte_same, word_agrees, series_agrees}
 
 pub skipped : (text : List ℕ) → length (skip text) ≤ length text

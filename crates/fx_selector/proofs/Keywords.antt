@@ -1,9 +1,9 @@
 -- The reader of a keyword is exact.
-use Rattle.std.proofs.Common.{◌≡◌, ℕ, zero, suc, Bool, true, false, cond, not, eqb, ◌⊎◌, inl, inr, List, [], ◌∷◌, ◌++◌, length, refl, sym, ap, subst, ◌∙◌, append_assoc, append-nil, arith}
+use Rattle.std.proofs.Common.{◌≡◌, ℕ, Bool, true, false, cond, not, eqb, List, [], ◌∷◌, ◌++◌, refl, sym, ap, subst, ◌∙◌}
 use Rattle.std.proofs.lemmas.Bool.{eqb-true, eq-eqb}
-use Rattle.fx_selector.specs.Phrase.{Ends, Starts, is_key, not_key, Keyword}
-use Rattle.fx_selector.specs.Reading.{Cause, unexpected, Res, Got, Stop, bind, keyword}
-use Rattle.fx_selector.proofs.Exact.{Filled, Opens, Finds, Halts, Outcome, Reads}
+use Rattle.fx_selector.specs.Phrase.{Ends, is_key, not_key, Keyword}
+use Rattle.fx_selector.specs.Reading.{unexpected, Res, Got, Stop, keyword}
+use Rattle.fx_selector.proofs.Exact.{Filled, Opens, Outcome, Reads}
 use Rattle.fx_selector.proofs.Marks.{opposite}
 
 pub keyword_end : (rest : List ℕ) → Ends not_key rest → keyword [] rest ≡ Got tt rest

@@ -1,16 +1,16 @@
 -- The reader of the language is exact.
-use Rattle.std.proofs.Common.{◌≡◌, ℕ, zero, suc, ◌<◌, ◌≤◌, Bool, true, false, cond, not, ◌&&◌, ◌||◌, leb, eqb, ◌⊎◌, inl, inr, List, [], ◌∷◌, ◌++◌, length, refl, sym, ap, subst, ◌∙◌, append_assoc, append-nil, arith}
-use Rattle.std.proofs.lemmas.Bool.{eqb-true, eq-eqb}
-use Rattle.fx_selector.specs.Phrase.{Ends, Starts, Each, Then, Mapped, Either, Nothing, is_blank, not_blank, is_key, not_key, is_quote, is_text, any_byte, Mark, Byte, Closed, Word, Led, Pick, Series, Keyword}
-use Rattle.fx_selector.specs.Reading.{Cause, unexpected, deep, Res, Got, Stop, bind, choose, mapped, stop, skip, mark, byte, closed, word, led, pick, series, keyword}
+use Rattle.std.proofs.Common.{◌≡◌, ℕ, zero, suc, ◌<◌, Bool, true, false, not, ◌&&◌, ◌||◌, leb, eqb, inl, inr, List, [], ◌∷◌, ◌++◌, refl, sym, ap, subst, arith}
+use Rattle.std.proofs.lemmas.Bool.{eqb-true}
+use Rattle.fx_selector.specs.Phrase.{Starts, Then, Mapped, Either, Nothing, not_blank, is_key, not_key, is_quote, any_byte, Mark, Byte, Closed, Word, Led, Pick, Series, Keyword}
+use Rattle.fx_selector.specs.Reading.{unexpected, deep, Res, bind, choose, mapped, stop, mark, byte, closed, word, led, series, keyword}
 use Rattle.fx_selector.specs.Language.{same_bytes, all_word, global_word, has_word, in_word, not_word, contains_word, starts_word, with_word, ends_word, String, Set, Test, Call, Atom, And, Or, Not, and_ends, or_ends}
 use Rattle.fx_selector.specs.Tree.{Tree, all, global, has, equal, unequal, within, outside, contains, starts, ends, negated, each, some, set_of, together}
 use Rattle.fx_selector.specs.Reader.{string, set, with_string, in_set, test, call, atom, and_of, or_of, not_of}
-use Rattle.fx_selector.proofs.Exact.{Filled, Opens, Finds, Halts, Outcome, Reads, ends_after, seq}
+use Rattle.fx_selector.proofs.Exact.{Reads, seq}
 use Rattle.fx_selector.proofs.Choice.{stops_all, map_reads, choice}
-use Rattle.fx_selector.proofs.Marks.{opposite, mark_reads, byte_reads}
+use Rattle.fx_selector.proofs.Marks.{mark_reads, byte_reads}
 use Rattle.fx_selector.proofs.Words.{closed_reads, word_reads, led_reads}
-use Rattle.fx_selector.proofs.Series.{picked, past, series_reads}
+use Rattle.fx_selector.proofs.Series.{picked, series_reads}
 use Rattle.fx_selector.proofs.Keywords.{keyword_reads}
 
 -- a phrase that begins as its first part begins

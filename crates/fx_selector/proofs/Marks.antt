@@ -1,9 +1,9 @@
 -- The readers of tokens are exact.
-use Rattle.std.proofs.Common.{◌≡◌, ℕ, zero, suc, ◌<◌, ◌≤◌, Bool, true, false, cond, not, eqb, ◌⊎◌, inl, inr, List, [], ◌∷◌, ◌++◌, length, refl, sym, ap, subst, ◌∙◌, append_assoc, append-nil, arith}
+use Rattle.std.proofs.Common.{◌≡◌, ℕ, Bool, true, false, cond, not, eqb, List, [], ◌∷◌, ◌++◌, refl, sym, ap, subst, ◌∙◌, append-nil}
 use Rattle.std.proofs.lemmas.Bool.{eqb-true, eq-eqb}
-use Rattle.fx_selector.specs.Phrase.{Ends, Starts, Each, Then, is_blank, not_blank, is_key, not_key, is_quote, is_text, any_byte, Mark, Byte, Closed, Word, Led}
-use Rattle.fx_selector.specs.Reading.{Cause, unexpected, long, Res, Got, Stop, bind, mapped, skip, mark, byte, closed, run, word, led}
-use Rattle.fx_selector.proofs.Exact.{Filled, Opens, Finds, Halts, Outcome, Reads, ends_after}
+use Rattle.fx_selector.specs.Phrase.{Ends, Each, is_blank, not_blank, any_byte, Mark, Byte}
+use Rattle.fx_selector.specs.Reading.{unexpected, Res, Got, Stop, skip, mark, byte}
+use Rattle.fx_selector.proofs.Exact.{Filled, Opens, Outcome, Reads}
 
 pub opposite : (b : Bool) → not b ≡ true → b ≡ false
 opposite true e = cc

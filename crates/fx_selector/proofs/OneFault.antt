@@ -1,9 +1,8 @@
 -- A text has at most one fault.
-use Rattle.std.proofs.Common.{◌≡◌, ◌≢◌, ℕ, ◌<◌, ◌≤◌, List, [], ◌∷◌, ◌++◌, length, take, drop, refl, sym, ap, subst, ◌∙◌, arith, lit<, length-take, length-drop}
+use Rattle.std.proofs.Common.{◌≡◌, ◌≢◌, ℕ, ◌<◌, List, [], ◌∷◌, ◌++◌, length, take, drop, refl, sym, ap, subst, ◌∙◌, arith, lit<, length-take, length-drop}
 use Rattle.std.proofs.lemmas.List.{take-append-drop}
-use Rattle.fx_selector.specs.Reading.{Cause, unexpected, deep, long, spent}
-use Rattle.fx_selector.specs.Tree.{Tree}
-use Rattle.fx_selector.specs.Places.{Spells, Keys, Nests, Begins, StandsAt, IsFault}
+use Rattle.fx_selector.specs.Reading.{Cause, unexpected, deep, long}
+use Rattle.fx_selector.specs.Places.{Spells, KeysWithin, NestsWithin, Begins, StandsAt, IsFault}
 use Rattle.fx_selector.specs.declared.fault.SelectorFault.{SelectorFault}
 use Rattle.fx_selector.specs.declared.fault.SelectorFault.TheVariants.{Unexpected, TooDeep, TooLong, KeyTooLong, Memory}
 use Rattle.fx_selector.proofs.Faults.{Stands}
@@ -24,10 +23,10 @@ not_before v w text a b h k l = by (drop b text) refl
 same_place : (v w : Cause) (text : List ℕ) (a b : ℕ) → At v text a → At w text b → a ≡ b
 same_place v w text a b h k = omega (arith, not_before v w text a b h k, not_before w v text b a k h)
 
-spells_keys : (text : List ℕ) → Begins (Keys 512) text → Begins Spells text
+spells_keys : (text : List ℕ) → Begins (KeysWithin 512) text → Begins Spells text
 spells_keys text b = (b.0, b.1, (512, b.2.0, b.2.1, lit< tt, b.2.2))
 
-spells_nests : (text : List ℕ) → Begins (Nests 64) text → Begins Spells text
+spells_nests : (text : List ℕ) → Begins (NestsWithin 64) text → Begins Spells text
 spells_nests text b = (b.0, b.1, (b.2.0, b.2.1, 64, b.2.2, b.2.3))
 
 unexpected_deep : (taken rest : List ℕ) → Stands 512 64 unexpected taken rest → Stands 512 64 deep taken rest → ⊥
@@ -40,7 +39,7 @@ deep_long : (taken rest : List ℕ) → Stands 512 64 deep taken rest → Stands
 deep_long taken rest h k =
     let e : h.1 ∷ h.2 ≡ k.1 ∷ k.2 = sym h.3 ∙ k.3 in
     let same : h.1 ≡ k.1 = cc in
-    h.5 (subst (λ c. Begins (Nests 64) (taken ++ c ∷ [])) (sym same) k.4)
+    h.5 (subst (λ c. Begins (NestsWithin 64) (taken ++ c ∷ [])) (sym same) k.4)
 
 moved : (why : Cause) (text : List ℕ) (a b : ℕ) → a ≡ b → At why text b → At why text a
 moved why text a b e h = subst (At why text) (sym e) h

@@ -2,7 +2,7 @@
 use mathlib.Core.Bool.{true≢false}
 use Rattle.std.proofs.lemmas.Bool.Decides.{nat_tests}
 use Rattle.std.proofs.Common.{◌≡◌, ◌==◌, List, [], ◌∷◌, length, refl, arith, ℕ, Bool, false, IsTrue, Vec, Global, sym, ap, ◌∙◌}
-use Rattle.fx_selector.specs.Tree.{Tree, Trees, all, global, negated, each, some, none}
+use Rattle.fx_selector.specs.Tree.{Trees, all, global, negated, each, some, none}
 use Rattle.fx_selector.specs.Nodes.{tree, trees_of, label_tree}
 use Rattle.fx_selector.specs.declared.node.Test.{Test}
 use Rattle.fx_selector.specs.declared.node.Test.TheVariants.{Present, Equal, Unequal, Within, Outside, Contains, Starts, Ends}

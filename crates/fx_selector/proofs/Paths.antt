@@ -1,9 +1,8 @@
 -- Which way a reader goes.
-use Rattle.std.proofs.Common.{◌≡◌, ◌≢◌, ℕ, zero, suc, ◌-◌, Bool, true, false, cond, eqb, List, [], ◌∷◌, ◌++◌, length, refl, sym, ap, ◌∙◌, arith}
-use Rattle.std.proofs.lemmas.Bool.{eqb-true, eq-eqb}
-use Rattle.fx_selector.specs.Reading.{Cause, unexpected, deep, Res, Got, Stop, bind, choose, mapped, mark, stop, skip, word, led, begins_with}
+use Rattle.std.proofs.Common.{◌≡◌, ◌≢◌, ℕ, zero, suc, ◌-◌, true, false, cond, eqb, List, [], ◌∷◌, length, refl, sym, ap, ◌∙◌, arith}
+use Rattle.fx_selector.specs.Reading.{unexpected, deep, Res, Got, Stop, bind, choose, mapped, mark, skip, word, led, begins_with}
 use Rattle.fx_selector.specs.Tree.{Tree, negated}
-use Rattle.fx_selector.specs.Reader.{call, test, word_test, atom, and_of, or_of, not_of, at_end, from_start, parsed}
+use Rattle.fx_selector.specs.Reader.{call, test, word_test, atom, or_of, not_of, at_end, from_start, parsed}
 
 pub choose_yes : {A : Type 0} (b : ℕ) (r s : List ℕ → Res A) (text : List ℕ) → begins_with b text ≡ true → choose (λ c. eqb c b) r s text ≡ r text
 choose_yes b r s [] e = cc

@@ -1,9 +1,9 @@
 -- A text has at most one place of a fault, and none where it has a tree.
-use Rattle.std.proofs.Common.{◌≡◌, ℕ, ◌<◌, ◌≤◌, List, [], ◌∷◌, ◌++◌, length, refl, sym, ap, subst, ◌∙◌, append_assoc, append-nil, arith}
+use Rattle.std.proofs.Common.{◌≡◌, ℕ, ◌<◌, List, [], ◌∷◌, ◌++◌, length, refl, sym, ap, subst, ◌∙◌, append_assoc, append-nil, arith}
 use Rattle.fx_selector.specs.Reading.{Cause, unexpected, deep, long, spent}
 use Rattle.fx_selector.specs.Language.{SelectorText}
 use Rattle.fx_selector.specs.Tree.{Tree}
-use Rattle.fx_selector.specs.Places.{Spells, Allows, Nests, Keys, Begins}
+use Rattle.fx_selector.specs.Places.{Allows, NestsWithin, KeysWithin, Begins}
 use Rattle.fx_selector.proofs.Faults.{Stands}
 
 module _ (key : ℕ) (pos : 0 < key) (depth : ℕ) where
@@ -13,8 +13,8 @@ module _ (key : ℕ) (pos : 0 < key) (depth : ℕ) where
   -- no text within the limits goes on past a fault
   pub goes_nowhere : (why : Cause) (taken : List ℕ) (c : ℕ) (m : List ℕ) → Stands key depth why taken (c ∷ m) → Begins (Allows key depth) (taken ++ c ∷ []) → ⊥
   goes_nowhere unexpected taken c m s b = s.1 c m refl (b.0, b.1, (key, b.2.0, depth, pos, b.2.1))
-  goes_nowhere deep taken c m s b = let same : s.1 ≡ c = (let e : c ∷ m ≡ s.1 ∷ s.2 = s.3 in cc) in s.5 (subst (λ x. Begins (Nests depth) (taken ++ x ∷ [])) (sym same) (b.0, b.1, (key, b.2.0, pos, b.2.1)))
-  goes_nowhere long taken c m s b = let same : s.1 ≡ c = (let e : c ∷ m ≡ s.1 ∷ s.2 = s.3 in cc) in s.5 (subst (λ x. Begins (Keys key) (taken ++ x ∷ [])) (sym same) (b.0, b.1, (b.2.0, depth, b.2.1)))
+  goes_nowhere deep taken c m s b = let same : s.1 ≡ c = (let e : c ∷ m ≡ s.1 ∷ s.2 = s.3 in cc) in s.5 (subst (λ x. Begins (NestsWithin depth) (taken ++ x ∷ [])) (sym same) (b.0, b.1, (key, b.2.0, pos, b.2.1)))
+  goes_nowhere long taken c m s b = let same : s.1 ≡ c = (let e : c ∷ m ≡ s.1 ∷ s.2 = s.3 in cc) in s.5 (subst (λ x. Begins (KeysWithin key) (taken ++ x ∷ [])) (sym same) (b.0, b.1, (b.2.0, depth, b.2.1)))
   goes_nowhere spent taken c m s b = s
 
   pub begun_before : (why : Cause) (taken rest : List ℕ) → Stands key depth why taken rest → Begins (Allows key depth) taken

@@ -1,5 +1,5 @@
 -- What rewriting gives.
-use Rattle.std.proofs.Common.{◌≡◌, ℕ, ◌+◌, ◌≤◌, ◌<◌, max, true, List, [], ◌∷◌, ◌++◌, length, map, refl, sym, ap, ◌∙◌, arith, Vec, Global, length-append, codes, lit<}
+use Rattle.std.proofs.Common.{◌≡◌, ℕ, ◌+◌, ◌≤◌, true, List, [], ◌∷◌, ◌++◌, map, refl, sym, ap, ◌∙◌, arith, Vec, Global, length-append, codes, lit<}
 use Rattle.fx_selector.specs.Phrase.{Each, is_key}
 use Rattle.fx_selector.specs.Tree.{Tree, Trees, all, global, has, equal, unequal, within, outside, contains, starts, ends, negated, each, some, none, more, many, count, height, heights, IsKey, IsTree, AreTrees, IsSelector}
 use Rattle.fx_selector.specs.Nodes.{tree, trees_of}

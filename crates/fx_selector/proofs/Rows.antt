@@ -1,8 +1,8 @@
 -- The operands of a node as a list.
-use Rattle.std.proofs.Common.{◌≡◌, ◌≢◌, ℕ, ◌<◌, Bool, IsTrue, List, [], ◌∷◌, length, map, refl, sym, ap, ◌∙◌, arith, Vec, Global}
+use Rattle.std.proofs.Common.{◌≡◌, ◌≢◌, ◌<◌, Bool, IsTrue, List, [], ◌∷◌, length, map, refl, sym, ap, ◌∙◌, arith, Vec, Global}
 use Rattle.std.proofs.lemmas.List.{length-map}
 use mathlib.Core.Former.{Count}
-use Rattle.fx_selector.specs.Tree.{Tree, Trees, each, some, none, more, many, together}
+use Rattle.fx_selector.specs.Tree.{Tree, Trees, each, some, more, many, together}
 use Rattle.fx_selector.specs.Nodes.{tree, trees, trees_of}
 use Rattle.fx_selector.specs.declared.node.Node.{Node, And, Or, And', Or', Row_of-Node, end_of-Node, more_of-Node, items-the_row-Node, items_hidden-the_row-Node-0}
 

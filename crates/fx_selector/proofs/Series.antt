@@ -1,11 +1,11 @@
 -- A reader of a series is exact.
-use Rattle.std.proofs.Common.{◌≡◌, ℕ, zero, suc, Bool, true, false, cond, not, ◌&&◌, eqb, ◌⊎◌, inl, inr, List, [], ◌∷◌, ◌++◌, length, refl, sym, ap, subst, ◌∙◌, append_assoc, append-nil, arith}
+use Rattle.std.proofs.Common.{◌≡◌, ℕ, zero, suc, Bool, true, false, cond, not, ◌&&◌, eqb, inl, inr, List, [], ◌∷◌, ◌++◌, refl, sym, ap, subst, ◌∙◌, append_assoc, append-nil}
 use Rattle.std.proofs.lemmas.Bool.{eqb-true, eq-eqb}
 use Rattle.fx_selector.specs.Phrase.{Ends, Starts, Then, Mapped, Either, Nothing, Pick, Series, Mark, not_blank}
-use Rattle.fx_selector.specs.Reading.{Cause, spent, Res, Got, Stop, bind, mapped, mark, pick, go_on, series, stop}
-use Rattle.fx_selector.proofs.Exact.{Filled, Opens, Finds, Halts, Outcome, Reads, ends_after, seq}
+use Rattle.fx_selector.specs.Reading.{spent, Res, Got, Stop, bind, mapped, mark, pick, go_on, series, stop}
+use Rattle.fx_selector.proofs.Exact.{Filled, Opens, Finds, Outcome, Reads, ends_after, seq}
 use Rattle.fx_selector.proofs.Choice.{stops_all, map_reads}
-use Rattle.fx_selector.proofs.Marks.{opposite, mark_reads}
+use Rattle.fx_selector.proofs.Marks.{mark_reads}
 
 pub picked : {A : Type 0} (b : Bool) (G H : List ℕ → A → Type 0) (ends : ℕ → Bool) (r s : List ℕ → Res A) → Reads G ends r → Reads H ends s → Reads (Pick b G H) ends (pick b r s)
 picked true G H ends r s R S = record { complete = R.complete; outcome = R.outcome; filled = R.filled }

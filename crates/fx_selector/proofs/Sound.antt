@@ -1,14 +1,13 @@
 -- Trees that a selector may hold.
-use Rattle.std.proofs.Common.{◌≡◌, ℕ, ◌+◌, ◌≤◌, ◌<◌, max, Bool, true, false, if◌then◌else◌, List, [], ◌∷◌, ◌++◌, length, All, refl, sym, ap, subst, ◌∙◌, arith, add-one}
+use Rattle.std.proofs.Common.{◌≡◌, ℕ, ◌≤◌, ◌<◌, Bool, true, false, if◌then◌else◌, List, [], ◌∷◌, ◌++◌, length, All, refl, ap, ◌∙◌, arith}
 use Rattle.std.specs.Ordering.{nat_cmp, match_ordering, ordering_reverse}
-use Rattle.std.specs.Cmp.{IsTotalOrder}
 use Rattle.std.specs.Cmp.Lexicographic.{slice_cmp, nat_list_cmp_total}
 use Rattle.std.specs.List.{AllByRecursion}
 use Rattle.std.specs.List.Sorted.{IsStrictlySortedBy}
 use Rattle.std.specs.declared.cmp.Ordering.{Ordering}
 use Rattle.std.specs.declared.cmp.Ordering.TheVariants.{Less, Equal, Greater}
 use Rattle.std.proofs.lemmas.List.Elements.{All-head, All-tail}
-use Rattle.fx_selector.specs.Tree.{Tree, Trees, all, within, outside, each, some, none, more, many, together, and_of, put, set_of, count, height, heights, IsKey, IsString, AreStrings, IsSet, IsTree, AreTrees, IsSelector}
+use Rattle.fx_selector.specs.Tree.{Tree, within, outside, each, many, together, and_of, put, set_of, count, height, heights, IsKey, IsString, AreStrings, IsSet, IsTree, AreTrees, IsSelector}
 
 abbrev order : List ℕ → List ℕ → Ordering
 order = slice_cmp nat_cmp

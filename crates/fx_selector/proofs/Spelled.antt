@@ -1,10 +1,9 @@
 -- What a text spells is a tree, and not a deep one.
-use Rattle.std.proofs.Common.{◌≡◌, ℕ, zero, suc, ◌+◌, ◌*◌, ◌<◌, ◌≤◌, max, Bool, true, false, cond, not, ◌&&◌, ◌||◌, leb, eqb, nat_eq, ◌⊎◌, inl, inr, List, [], ◌∷◌, ◌++◌, length, refl, sym, ap, subst, ◌∙◌, arith}
+use Rattle.std.proofs.Common.{◌≡◌, ℕ, zero, suc, ◌+◌, ◌*◌, ◌<◌, ◌≤◌, Bool, true, false, cond, not, ◌&&◌, ◌||◌, leb, eqb, nat_eq, ◌⊎◌, inl, inr, List, [], ◌∷◌, length, refl, sym, ap, subst, ◌∙◌, arith}
 use Rattle.std.proofs.lemmas.Bool.{eqb-true}
 use Rattle.std.specs.List.{list_any}
-use Rattle.std.specs.List.Sorted.{IsStrictlySortedBy}
-use Rattle.fx_selector.specs.Phrase.{Each, Then, Mapped, Either, Nothing, is_key, not_key, is_quote, is_text, Mark, Closed, Word, Led, Pick, Series, not_blank}
-use Rattle.fx_selector.specs.Tree.{Tree, Trees, all, global, has, equal, unequal, within, outside, contains, starts, ends, negated, each, some, many, together, set_of, quote_of, height, heights, count, IsKey, IsString, AreStrings, IsSet, IsTree, AreTrees}
+use Rattle.fx_selector.specs.Phrase.{Each, Then, Mapped, Either, Nothing, not_key, is_quote, is_text, Mark, Word, Led, Pick, Series, not_blank}
+use Rattle.fx_selector.specs.Tree.{Tree, all, global, has, each, some, many, together, set_of, height, heights, IsKey, IsString, AreStrings, IsSet, IsTree, AreTrees}
 use Rattle.fx_selector.specs.Language.{same_bytes, all_word, global_word, has_word, String, Set, Test, Call, Atom, And, Or, Not, SelectorText, and_ends}
 use Rattle.fx_selector.proofs.Sound.{set-set_of}
 

@@ -1,12 +1,9 @@
 -- The canonical text spells its tree.
-use Rattle.std.proofs.Common.{◌≡◌, ℕ, zero, suc, ◌+◌, ◌-◌, ◌<◌, ◌≤◌, Bool, true, false, cond, not, eqb, nat_eq, ◌⊎◌, inl, inr, List, [], ◌∷◌, ◌++◌, length, map, refl, sym, ap, subst, ◌∙◌, append_assoc, append-nil, arith}
+use Rattle.std.proofs.Common.{◌≡◌, ℕ, zero, suc, ◌+◌, ◌-◌, ◌<◌, ◌≤◌, Bool, true, false, cond, not, nat_eq, inl, inr, List, [], ◌∷◌, ◌++◌, length, map, refl, sym, ap, subst, append_assoc, append-nil, arith}
 use Rattle.std.specs.List.{list_any}
-use Rattle.std.specs.List.Sorted.{IsStrictlySortedBy}
-use Rattle.std.specs.Cmp.Lexicographic.{slice_cmp}
-use Rattle.std.specs.Ordering.{nat_cmp}
-use Rattle.fx_selector.specs.Phrase.{Ends, Starts, Each, Then, Mapped, Either, Nothing, is_blank, not_blank, is_key, not_key, is_quote, is_text, any_byte, Mark, Byte, Closed, Word, Led, Pick, Series, Keyword}
-use Rattle.fx_selector.specs.Language.{all_word, global_word, has_word, in_word, not_word, contains_word, starts_word, ends_word, with_word, String, Set, Test, Call, Atom, And, Or, Not, SelectorText, and_ends, or_ends}
-use Rattle.fx_selector.specs.Tree.{Tree, Trees, all, global, has, equal, unequal, within, outside, contains, starts, ends, negated, each, some, none, more, many, together, quote_of, IsString, AreStrings, IsSet, set_of, count, IsTree, AreTrees}
+use Rattle.fx_selector.specs.Phrase.{Starts, Each, Then, Mapped, is_blank, not_blank, is_key, not_key, is_quote, is_text, any_byte, Led, Series, Keyword}
+use Rattle.fx_selector.specs.Language.{all_word, global_word, has_word, in_word, not_word, contains_word, starts_word, ends_word, with_word, String, Set, Test, Atom, And, Or, Not, SelectorText, and_ends}
+use Rattle.fx_selector.specs.Tree.{Tree, Trees, all, global, has, equal, unequal, within, outside, contains, starts, ends, negated, each, some, none, more, many, together, quote_of, IsString, AreStrings, IsSet, count, IsTree, AreTrees}
 use Rattle.fx_selector.specs.Canonical.{quoted, between, braced, canonical_text, texts}
 use Rattle.fx_selector.specs.Places.{Spells}
 use Rattle.fx_selector.proofs.Language.{key_is, space_ends, blank_key}

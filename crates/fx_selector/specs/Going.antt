@@ -1,6 +1,6 @@
 -- A series that is read so far.
 use Rattle.std.specs.Prelude.{◌≡◌, ℕ, zero, suc, ◌<◌, ◌≤◌, List, [], ◌∷◌, ◌++◌, length, eqb}
-use Rattle.fx_selector.specs.Reading.{Cause, spent, Res, Got, Stop, bind, mapped, mark, stop, go_on, series}
+use Rattle.fx_selector.specs.Reading.{spent, Res, Got, bind, mapped, mark, stop, go_on, series}
 
 abbrev pub with_list : {A : Type 0} → List A → Res (List A) → Res (List A)
 with_list front x = bind x (λ v rest. Got (front ++ v) rest)

@@ -1,8 +1,8 @@
 -- The selector language of the Calico resource reference, "Selectors". A phrase has the spaces and tabs after its marks and strings; what follows a word is led by its own.
-use Rattle.std.specs.Prelude.{◌≡◌, ℕ, zero, suc, Bool, true, false, cond, not, ◌&&◌, ◌||◌, eqb, leb, ◌⊎◌, List, [], ◌∷◌, ◌++◌, length, nat_eq}
+use Rattle.std.specs.Prelude.{◌≡◌, ℕ, zero, suc, Bool, not, ◌&&◌, eqb, ◌⊎◌, List, [], ◌∷◌, nat_eq}
 use Rattle.std.specs.Cmp.Lexicographic.{pointwise}
 use Rattle.fx_selector.specs.Tree.{Tree, all, global, has, equal, unequal, within, outside, contains, starts, ends, negated, each, some, set_of, together}
-use Rattle.fx_selector.specs.Phrase.{Ends, Starts, Then, Each, Mapped, Either, Nothing, is_blank, not_blank, is_key, not_key, is_quote, any_byte, Mark, Byte, Closed, Word, Led, Pick, Series, Keyword}
+use Rattle.fx_selector.specs.Phrase.{Then, Each, Mapped, Either, Nothing, is_blank, not_blank, not_key, is_quote, any_byte, Mark, Byte, Closed, Word, Led, Pick, Series, Keyword}
 
 abbrev pub same_bytes : List ℕ → List ℕ → Bool
 same_bytes = pointwise nat_eq

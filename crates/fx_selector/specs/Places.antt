@@ -14,11 +14,11 @@ abbrev pub Allows : ℕ → ℕ → List ℕ → Tree → Type 0
 Allows key depth text t = (n : ℕ) × SelectorText key n depth text t
 
 -- within one of the limits alone
-abbrev pub Nests : ℕ → List ℕ → Tree → Type 0
-Nests depth text t = (key n : ℕ) × (0 < key) × SelectorText key n depth text t
+abbrev pub NestsWithin : ℕ → List ℕ → Tree → Type 0
+NestsWithin depth text t = (key n : ℕ) × (0 < key) × SelectorText key n depth text t
 
-abbrev pub Keys : ℕ → List ℕ → Tree → Type 0
-Keys key text t = (n depth : ℕ) × SelectorText key n depth text t
+abbrev pub KeysWithin : ℕ → List ℕ → Tree → Type 0
+KeysWithin key text t = (n depth : ℕ) × SelectorText key n depth text t
 
 -- some text of the language begins so
 abbrev pub Begins : (List ℕ → Tree → Type 0) → List ℕ → Type 0
@@ -35,12 +35,12 @@ IsUnexpected key depth taken rest =
 -- with the next byte a text with keys so short begins, but none within the depth
 abbrev pub IsTooDeep : ℕ → ℕ → List ℕ → List ℕ → Type 0
 IsTooDeep key depth taken rest =
-    Begins (Allows key depth) taken × (c : ℕ) × (m : List ℕ) × (rest ≡ c ∷ m) × Begins (Keys key) (taken ++ c ∷ []) × (Begins (Nests depth) (taken ++ c ∷ []) → ⊥)
+    Begins (Allows key depth) taken × (c : ℕ) × (m : List ℕ) × (rest ≡ c ∷ m) × Begins (KeysWithin key) (taken ++ c ∷ []) × (Begins (NestsWithin depth) (taken ++ c ∷ []) → ⊥)
 
 -- with the next byte a text within the depth begins, but none with keys so short
 abbrev pub IsKeyTooLong : ℕ → ℕ → List ℕ → List ℕ → Type 0
 IsKeyTooLong key depth taken rest =
-    Begins (Allows key depth) taken × (c : ℕ) × (m : List ℕ) × (rest ≡ c ∷ m) × Begins (Nests depth) (taken ++ c ∷ []) × (Begins (Keys key) (taken ++ c ∷ []) → ⊥)
+    Begins (Allows key depth) taken × (c : ℕ) × (m : List ℕ) × (rest ≡ c ∷ m) × Begins (NestsWithin depth) (taken ++ c ∷ []) × (Begins (KeysWithin key) (taken ++ c ∷ []) → ⊥)
 
 -- the language and its limits allow the text, and it spells this tree
 abbrev pub Means : List ℕ → Tree → Type 0

@@ -1,7 +1,7 @@
 -- The selector language read from left to right.
-use Rattle.std.specs.Prelude.{◌≡◌, ℕ, zero, suc, Bool, true, false, cond, not, ◌&&◌, ◌||◌, eqb, leb, ◌⊎◌, List, [], ◌∷◌, ◌++◌, length}
-use Rattle.fx_selector.specs.Phrase.{is_key, is_quote}
-use Rattle.fx_selector.specs.Reading.{Cause, unexpected, deep, Res, Got, Stop, bind, choose, mapped, stop, skip, mark, byte, closed, word, led, pick, series, keyword}
+use Rattle.std.specs.Prelude.{ℕ, zero, suc, eqb, List, [], ◌∷◌}
+use Rattle.fx_selector.specs.Phrase.{is_quote}
+use Rattle.fx_selector.specs.Reading.{unexpected, deep, Res, Got, Stop, bind, choose, mapped, stop, skip, mark, byte, closed, word, led, pick, series, keyword}
 use Rattle.fx_selector.specs.Language.{same_bytes, all_word, global_word, has_word, in_word, not_word, contains_word, starts_word, with_word, ends_word}
 use Rattle.fx_selector.specs.Tree.{Tree, all, global, has, equal, unequal, within, outside, contains, starts, ends, negated, each, some, set_of, together}
 

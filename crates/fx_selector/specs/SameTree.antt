@@ -1,6 +1,6 @@
 -- Whether two trees are one: their nodes in prefix order are.
-use Rattle.std.specs.Prelude.{◌≡◌, ℕ, Bool, true, ◌&&◌, List, nat_eq}
-use Rattle.std.specs.Cmp.{IsEquivalence, IsPartialEquivalence, on_equiv, and_equiv, nat_eq_equiv, partial_equiv_from_equiv}
+use Rattle.std.specs.Prelude.{◌≡◌, Bool, true, ◌&&◌, nat_eq}
+use Rattle.std.specs.Cmp.{IsEquivalence, on_equiv, and_equiv, nat_eq_equiv}
 use Rattle.std.specs.Cmp.Lexicographic.{pointwise, lists_equiv, nat_list_eq_equiv}
 use Rattle.std.proofs.Common.{sym, ap, ◌∙◌}
 use Rattle.fx_base.specs.Same.{same_list, same_numbers, same_bytes, both_pass}

@@ -126,7 +126,8 @@ fn write_quoted(out: &mut Vec<u8>, value: &Text) -> Result<(), Memory>
     Ok(())
 }
 
-fn quote_for(value: &[u8]) -> u8
+/// The quote in which a string stands.
+pub fn quote_for(value: &[u8]) -> u8
     ensures { result ≡ quote_of value.now }
 {
     if has_double_quote(value) { b'\'' } else { b'"' }

@@ -1,7 +1,4 @@
 //! Why and where reading stops.
-ghost use Rattle.std.specs.Prelude.{◌≡◌};
-
-use fx_base::Memory;
 use std::alloc::{AllocError, AllocFailed};
 
 /// Why a text is no selector. A place is counted in bytes from 0.

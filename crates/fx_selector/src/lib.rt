@@ -5,6 +5,7 @@
 #![tactic(auto)]
 
 pub use fault::SelectorFault;
+pub use forms::{is_selector_key, is_selector_string};
 pub use labels::Labels;
 pub use laws::{canonical_text_spells, one_fault, one_tree};
 pub use selector::Selector;
@@ -13,6 +14,7 @@ mod canonical;
 mod copy;
 mod equality;
 mod fault;
+mod forms;
 mod grammar;
 mod labels;
 mod laws;

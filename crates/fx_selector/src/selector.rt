@@ -91,7 +91,8 @@ impl Selector {
     /// The selector of namespaces as one of endpoints.
     pub fn rewrite_namespace(&self, alloc: Global) -> Result<Selector, Memory>
         requires { height self.now ≤ 139 }
-        ensures { IfOk result (λ selector. selector ≡ namespace_tree self.now) }
+        ensures tree { IfOk result (λ selector. selector ≡ namespace_tree self.now) }
+        ensures shallow { IfOk result (λ selector. height selector ≤ height self.now + 1) }
     {
         let node = rewriting::rewrite(alloc, b"pcns.", b"projectcalico.org/namespace", &self.node)?;
         Ok(Selector { node })
@@ -100,7 +101,8 @@ impl Selector {
     /// The selector of service accounts as one of endpoints.
     pub fn rewrite_service_account(&self, alloc: Global) -> Result<Selector, Memory>
         requires { height self.now ≤ 139 }
-        ensures { IfOk result (λ selector. selector ≡ service_account_tree self.now) }
+        ensures tree { IfOk result (λ selector. selector ≡ service_account_tree self.now) }
+        ensures shallow { IfOk result (λ selector. height selector ≤ height self.now + 1) }
     {
         let name = b"projectcalico.org/serviceaccount";
         let node = rewriting::rewrite(alloc, b"pcsa.", name, &self.node)?;

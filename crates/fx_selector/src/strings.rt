@@ -11,7 +11,7 @@ use fx_base::Text;
 use std::alloc::Global;
 
 #[tactic(auto, unfolding(crate::specs::Phrase::is_text))]
-fn is_text_byte(quote: u8, c: u8) -> bool
+pub fn is_text_byte(quote: u8, c: u8) -> bool
     ensures { result ≡ is_text quote c }
 {
     b' ' <= c && c != 0x7f && c != quote

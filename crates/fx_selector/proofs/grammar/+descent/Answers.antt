@@ -1,15 +1,15 @@
-use Rattle.std.proofs.Common.{◌≡◌, ◌-◌, [], ◌∷◌, ◌++◌, map, refl, sym, ap, subst, ◌∙◌, arith}
+use Rattle.std.proofs.Common.{◌≡◌, ◌-◌, [], ◌∷◌, ◌++◌, map, sym, ap, subst, ◌∙◌, arith}
 use Rattle.std.proofs.lemmas.Result.{err_from_is_err_and}
 use Rattle.std.proofs.lemmas.List.{map_push}
-use Rattle.fx_selector.specs.Reading.{Res, Got, bind, mapped, mark, series}
-use Rattle.fx_selector.specs.Tree.{together, each, some, negated}
-use Rattle.fx_selector.specs.Reader.{and_of, or_of, not_of, atom}
+use Rattle.fx_selector.specs.Reading.{Got, bind, mapped, mark, series}
+use Rattle.fx_selector.specs.Tree.{together, each, some}
+use Rattle.fx_selector.specs.Reader.{and_of, or_of, not_of}
 use Rattle.fx_selector.specs.Nodes.{tree}
 use Rattle.fx_selector.specs.Gives.{Gives}
-use Rattle.fx_selector.specs.Going.{Going, going}
+use Rattle.fx_selector.specs.Going.{going}
 use Rattle.fx_selector.proofs.Goes.{series_goes, goes_first, goes_next, goes_done, goes_stop_mark, goes_stop_part}
 use Rattle.fx_selector.proofs.Failing.{fails_on}
-use Rattle.fx_selector.proofs.Paths.{not_bang, not_group, not_atom}
+use Rattle.fx_selector.proofs.Paths.{not_group, not_atom}
 use Rattle.fx_selector.proofs.grammar.+descent.Goals as goal
 
 pub and_at-returns-in_err-first-clause-reads : goal.and_at-returns-in_err-first-clause-reads

@@ -1,4 +1,4 @@
-use Rattle.std.proofs.Common.{◌≡◌, ◌<◌, ◌+◌, ◌*◌, [], ◌∷◌, length, map}
+use Rattle.std.proofs.Common.{◌<◌, ◌+◌, ◌*◌, [], ◌∷◌, length, map}
 use Rattle.fx_selector.specs.Reader.{and_of, not_of}
 use Rattle.fx_selector.specs.Nodes.{tree}
 use Rattle.fx_selector.specs.Going.{Going}

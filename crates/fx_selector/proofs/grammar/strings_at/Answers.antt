@@ -1,9 +1,7 @@
-use Rattle.std.proofs.Common.{◌≡◌, [], ◌∷◌, ◌++◌, map, refl, sym, ap, subst, ◌∙◌, arith}
+use Rattle.std.proofs.Common.{◌≡◌, [], ◌∷◌, ◌++◌, sym, ◌∙◌, arith}
 use Rattle.std.proofs.lemmas.Result.{err_from_is_err_and}
-use Rattle.std.proofs.lemmas.List.{map_push}
 use Rattle.fx_selector.specs.Reading.{series}
 use Rattle.fx_selector.specs.Reader.{string}
-use Rattle.fx_selector.specs.Going.{Going}
 use Rattle.fx_selector.proofs.Goes.{goes_first, goes_next, goes_done, goes_stop_part}
 use Rattle.fx_selector.proofs.Failing.{fails_on}
 use Rattle.fx_selector.proofs.grammar.strings_at.Goals as goal

@@ -1,4 +1,4 @@
-use Rattle.std.proofs.Common.{◌≡◌, ◌<◌, [], length, map}
+use Rattle.std.proofs.Common.{◌<◌, [], length}
 use Rattle.fx_selector.specs.Reader.{string}
 use Rattle.fx_selector.specs.Going.{Going}
 use Rattle.fx_selector.proofs.grammar.strings_at.Given as goal

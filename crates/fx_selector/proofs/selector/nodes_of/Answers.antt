@@ -1,4 +1,4 @@
-use Rattle.std.proofs.Common.{sym, ap, subst, ◌∙◌, ◌++◌, [], ◌∷◌, map}
+use Rattle.std.proofs.Common.{ap, subst, ◌∙◌, ◌++◌, [], ◌∷◌, map}
 use Rattle.std.proofs.lemmas.List.{map_push}
 use Rattle.fx_selector.specs.Tree.{IsTree}
 use Rattle.fx_selector.specs.Nodes.{tree}

@@ -1,4 +1,4 @@
-use Rattle.std.proofs.Common.{◌≡◌, [], ◌∷◌, sym, subst, refl, lit<, ◌∙◌}
+use Rattle.std.proofs.Common.{[], ◌∷◌, refl, lit<}
 use Rattle.fx_selector.specs.Tree.{AreStrings}
 use Rattle.fx_selector.proofs.Literals.{literal_key, literal_string}
 use Rattle.fx_selector.proofs.tests.parts_and_their_and.Goals as goal

@@ -1,4 +1,4 @@
-use Rattle.std.proofs.Common.{◌≡◌, sym, ap, ◌∙◌}
+use Rattle.std.proofs.Common.{sym, ap, ◌∙◌}
 use Rattle.fx_selector.specs.Nodes.{tree, trees_of}
 use Rattle.fx_selector.specs.Truth.{holds, hold_all, hold_some}
 use Rattle.fx_selector.proofs.Rows.{tree-And, tree-Or}

@@ -1,4 +1,4 @@
-use Rattle.std.proofs.Common.{◌+◌, ◌≤◌, ◌-◌, length, arith, sym, ap, subst, ◌∙◌}
+use Rattle.std.proofs.Common.{◌+◌, ◌-◌, length, arith, sym, ap, subst, ◌∙◌}
 use Rattle.fx_selector.specs.Nodes.{tree}
 use Rattle.fx_selector.specs.Reader.{parsed}
 use Rattle.fx_selector.specs.Gives.{Fails, cause}

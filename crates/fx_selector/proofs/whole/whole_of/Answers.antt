@@ -1,7 +1,6 @@
-use Rattle.std.proofs.Common.{◌≡◌, ◌≢◌, [], length, refl, sym, ap, ◌∙◌, arith}
+use Rattle.std.proofs.Common.{◌≡◌, ◌≢◌, length, refl, ap, ◌∙◌, arith}
 use Rattle.std.proofs.lemmas.Grind.{common_steps}
 use Rattle.std.proofs.lemmas.Result.{err_from_is_err_and}
-use Rattle.fx_selector.specs.Reading.{Res, Got}
 use Rattle.fx_selector.specs.Reader.{or_of, not_of, parsed, at_end}
 use Rattle.fx_selector.specs.Nodes.{tree}
 use Rattle.fx_selector.proofs.Failing.{fails_on}

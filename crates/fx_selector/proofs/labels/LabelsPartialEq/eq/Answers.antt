@@ -1,4 +1,4 @@
-use Rattle.std.proofs.Common.{nat_eq, ℕ, Vec, Global, ap, ◌∙◌}
+use Rattle.std.proofs.Common.{nat_eq, ℕ, Vec, Global, ◌∙◌}
 use Rattle.std.specs.Cmp.Lexicographic.{nat_list_cmp_total, slice_cmp, pointwise}
 use Rattle.std.specs.Ordering.{nat_cmp}
 use Rattle.fx_base.proofs.Entries.{walked}

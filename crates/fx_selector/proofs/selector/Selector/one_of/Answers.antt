@@ -1,5 +1,5 @@
-use Rattle.std.proofs.Common.{sym, ap, subst, ◌∙◌, if◌then◌else◌}
-use Rattle.fx_selector.specs.Tree.{IsSelector, within, outside, set_of}
+use Rattle.std.proofs.Common.{ap, ◌∙◌}
+use Rattle.fx_selector.specs.Tree.{set_of}
 use Rattle.fx_selector.proofs.Sound.{one_of_selector}
 use Rattle.fx_selector.proofs.selector.Selector.one_of.Goals as goal
 

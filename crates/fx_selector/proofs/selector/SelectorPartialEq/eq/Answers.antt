@@ -1,4 +1,4 @@
-use Rattle.std.proofs.Common.{◌≡◌, true, sym, ap, subst, ◌∙◌}
+use Rattle.std.proofs.Common.{◌≡◌, true, subst}
 use Rattle.std.specs.Bool.{one_answer}
 use Rattle.fx_selector.specs.SameTree.{same_tree, same_tree_equiv, one_tree}
 use Rattle.fx_selector.proofs.selector.SelectorPartialEq.eq.Goals as goal
