@@ -157,99 +157,99 @@ module _ (n : ℕ) (k : List ℕ) where
   an_in f = spaced_some 105 (110 ∷ []) (Mapped f (Set n)) refl (a_set f)
 
   -- the seven tests, from the last on
-  abbrev pub T7 : List ℕ → Tree → Type 0
-  T7 = Then not_key (Keyword ends_word) (λ _. Led (WithString (ends k)))
+  abbrev pub EndsTest : List ℕ → Tree → Type 0
+  EndsTest = Then not_key (Keyword ends_word) (λ _. Led (WithString (ends k)))
 
-  abbrev pub T6 : List ℕ → Tree → Type 0
-  T6 = Then not_key (Keyword starts_word) (λ _. Led (WithString (starts k)))
+  abbrev pub StartsTest : List ℕ → Tree → Type 0
+  StartsTest = Then not_key (Keyword starts_word) (λ _. Led (WithString (starts k)))
 
-  abbrev pub T5 : List ℕ → Tree → Type 0
-  T5 = Then not_key (Keyword contains_word) (λ _. Led (OfString (contains k)))
+  abbrev pub ContainsTest : List ℕ → Tree → Type 0
+  ContainsTest = Then not_key (Keyword contains_word) (λ _. Led (OfString (contains k)))
 
-  abbrev pub T4 : List ℕ → Tree → Type 0
-  T4 = Then not_key (Keyword not_word) (λ _. Led (InSet (outside k)))
+  abbrev pub OutsideTest : List ℕ → Tree → Type 0
+  OutsideTest = Then not_key (Keyword not_word) (λ _. Led (InSet (outside k)))
 
-  abbrev pub T3 : List ℕ → Tree → Type 0
-  T3 = InSet (within k)
+  abbrev pub WithinTest : List ℕ → Tree → Type 0
+  WithinTest = InSet (within k)
 
-  abbrev pub T2 : List ℕ → Tree → Type 0
-  T2 = Then not_blank (Mark (33 ∷ 61 ∷ [])) (λ _. OfString (unequal k))
+  abbrev pub UnequalTest : List ℕ → Tree → Type 0
+  UnequalTest = Then not_blank (Mark (33 ∷ 61 ∷ [])) (λ _. OfString (unequal k))
 
-  abbrev pub T1 : List ℕ → Tree → Type 0
-  T1 = Then not_blank (Mark (61 ∷ 61 ∷ [])) (λ _. OfString (equal k))
+  abbrev pub EqualTest : List ℕ → Tree → Type 0
+  EqualTest = Then not_blank (Mark (61 ∷ 61 ∷ [])) (λ _. OfString (equal k))
 
-  pub r7 : Reads T7 not_blank (λ x. bind (keyword ends_word x) (λ _. led (with_string (ends k))))
+  pub r7 : Reads EndsTest not_blank (λ x. bind (keyword ends_word x) (λ _. led (with_string (ends k))))
   r7 = spaced_word 101 (110 ∷ 100 ∷ 115 ∷ []) (WithString (ends k)) not_blank (with_string (ends k)) (with_reads (ends k)) (a_with (ends k))
 
-  pub r6 : Reads T6 not_blank (λ x. bind (keyword starts_word x) (λ _. led (with_string (starts k))))
+  pub r6 : Reads StartsTest not_blank (λ x. bind (keyword starts_word x) (λ _. led (with_string (starts k))))
   r6 = spaced_word 115 (116 ∷ 97 ∷ 114 ∷ 116 ∷ 115 ∷ []) (WithString (starts k)) not_blank (with_string (starts k)) (with_reads (starts k)) (a_with (starts k))
 
-  pub r5 : Reads T5 not_blank (λ x. bind (keyword contains_word x) (λ _. led (mapped (contains k) string)))
+  pub r5 : Reads ContainsTest not_blank (λ x. bind (keyword contains_word x) (λ _. led (mapped (contains k) string)))
   r5 = spaced_word 99 (111 ∷ 110 ∷ 116 ∷ 97 ∷ 105 ∷ 110 ∷ 115 ∷ []) (OfString (contains k)) not_blank (mapped (contains k) string) (mapped_string (contains k)) (a_mapped (contains k))
 
-  pub r4 : Reads T4 not_blank (λ x. bind (keyword not_word x) (λ _. led (in_set (outside k) n)))
+  pub r4 : Reads OutsideTest not_blank (λ x. bind (keyword not_word x) (λ _. led (in_set (outside k) n)))
   r4 = spaced_word 110 (111 ∷ 116 ∷ []) (InSet (outside k)) not_blank (in_set (outside k) n) (in_reads (outside k)) (an_in (outside k))
 
-  pub r2 : Reads T2 not_blank (λ x. bind (mark (33 ∷ 61 ∷ []) x) (λ _. mapped (unequal k) string))
+  pub r2 : Reads UnequalTest not_blank (λ x. bind (mark (33 ∷ 61 ∷ []) x) (λ _. mapped (unequal k) string))
   r2 = seq (Mark (33 ∷ 61 ∷ [])) (λ _. OfString (unequal k)) not_blank not_blank (mark (33 ∷ 61 ∷ [])) (λ _. mapped (unequal k) string) (mark_reads 33 (61 ∷ [])) (λ _. mapped_string (unequal k)) (λ _. a_mapped (unequal k))
 
-  pub r1 : Reads T1 not_blank (λ x. bind (mark (61 ∷ 61 ∷ []) x) (λ _. mapped (equal k) string))
+  pub r1 : Reads EqualTest not_blank (λ x. bind (mark (61 ∷ 61 ∷ []) x) (λ _. mapped (equal k) string))
   r1 = seq (Mark (61 ∷ 61 ∷ [])) (λ _. OfString (equal k)) not_blank not_blank (mark (61 ∷ 61 ∷ [])) (λ _. mapped (equal k) string) (mark_reads 61 (61 ∷ [])) (λ _. mapped_string (equal k)) (λ _. a_mapped (equal k))
 
   -- a test that begins with one of these seven bytes, and not with the others
-  pub s7 : (test : ℕ → Bool) → test 101 ≡ true → (p : List ℕ) (v : Tree) → T7 p v → Starts test p
+  pub s7 : (test : ℕ → Bool) → test 101 ≡ true → (p : List ℕ) (v : Tree) → EndsTest p v → Starts test p
   s7 test t = word_test test 101 (110 ∷ 100 ∷ 115 ∷ []) (WithString (ends k)) t
 
-  pub s6 : (test : ℕ → Bool) → test 115 ≡ true → (p : List ℕ) (v : Tree) → T6 p v → Starts test p
+  pub s6 : (test : ℕ → Bool) → test 115 ≡ true → (p : List ℕ) (v : Tree) → StartsTest p v → Starts test p
   s6 test t = word_test test 115 (116 ∷ 97 ∷ 114 ∷ 116 ∷ 115 ∷ []) (WithString (starts k)) t
 
-  pub s5 : (test : ℕ → Bool) → test 99 ≡ true → (p : List ℕ) (v : Tree) → T5 p v → Starts test p
+  pub s5 : (test : ℕ → Bool) → test 99 ≡ true → (p : List ℕ) (v : Tree) → ContainsTest p v → Starts test p
   s5 test t = word_test test 99 (111 ∷ 110 ∷ 116 ∷ 97 ∷ 105 ∷ 110 ∷ 115 ∷ []) (OfString (contains k)) t
 
-  pub s4 : (test : ℕ → Bool) → test 110 ≡ true → (p : List ℕ) (v : Tree) → T4 p v → Starts test p
+  pub s4 : (test : ℕ → Bool) → test 110 ≡ true → (p : List ℕ) (v : Tree) → OutsideTest p v → Starts test p
   s4 test t = word_test test 110 (111 ∷ 116 ∷ []) (InSet (outside k)) t
 
-  pub s3 : (test : ℕ → Bool) → test 105 ≡ true → (p : List ℕ) (v : Tree) → T3 p v → Starts test p
+  pub s3 : (test : ℕ → Bool) → test 105 ≡ true → (p : List ℕ) (v : Tree) → WithinTest p v → Starts test p
   s3 test t = word_test test 105 (110 ∷ []) (Mapped (within k) (Set n)) t
 
-  pub s2 : (test : ℕ → Bool) → test 33 ≡ true → (p : List ℕ) (v : Tree) → T2 p v → Starts test p
+  pub s2 : (test : ℕ → Bool) → test 33 ≡ true → (p : List ℕ) (v : Tree) → UnequalTest p v → Starts test p
   s2 test t = mark_test test 33 (61 ∷ []) (λ _. OfString (unequal k)) t
 
-  pub s1 : (test : ℕ → Bool) → test 61 ≡ true → (p : List ℕ) (v : Tree) → T1 p v → Starts test p
+  pub s1 : (test : ℕ → Bool) → test 61 ≡ true → (p : List ℕ) (v : Tree) → EqualTest p v → Starts test p
   s1 test t = mark_test test 61 (61 ∷ []) (λ _. OfString (equal k)) t
 
   abbrev pub U6 : List ℕ → Tree → Type 0
-  U6 = Either T6 T7
+  U6 = Either StartsTest EndsTest
 
   abbrev pub U5 : List ℕ → Tree → Type 0
-  U5 = Either T5 U6
+  U5 = Either ContainsTest U6
 
   abbrev pub U4 : List ℕ → Tree → Type 0
-  U4 = Either T4 U5
+  U4 = Either OutsideTest U5
 
   abbrev pub U3 : List ℕ → Tree → Type 0
-  U3 = Either T3 U4
+  U3 = Either WithinTest U4
 
   abbrev pub U2 : List ℕ → Tree → Type 0
-  U2 = Either T2 U3
+  U2 = Either UnequalTest U3
 
   pub t6 : (test : ℕ → Bool) → test 115 ≡ true → test 101 ≡ true → (p : List ℕ) (v : Tree) → U6 p v → Starts test p
-  t6 test a b = either_starts T6 T7 test (s6 test a) (s7 test b)
+  t6 test a b = either_starts StartsTest EndsTest test (s6 test a) (s7 test b)
 
   pub t5 : (test : ℕ → Bool) → test 99 ≡ true → test 115 ≡ true → test 101 ≡ true → (p : List ℕ) (v : Tree) → U5 p v → Starts test p
-  t5 test a b c = either_starts T5 U6 test (s5 test a) (t6 test b c)
+  t5 test a b c = either_starts ContainsTest U6 test (s5 test a) (t6 test b c)
 
   pub t4 : (test : ℕ → Bool) → test 110 ≡ true → test 99 ≡ true → test 115 ≡ true → test 101 ≡ true → (p : List ℕ) (v : Tree) → U4 p v → Starts test p
-  t4 test a b c d = either_starts T4 U5 test (s4 test a) (t5 test b c d)
+  t4 test a b c d = either_starts OutsideTest U5 test (s4 test a) (t5 test b c d)
 
   pub t3 : (test : ℕ → Bool) → test 105 ≡ true → test 110 ≡ true → test 99 ≡ true → test 115 ≡ true → test 101 ≡ true → (p : List ℕ) (v : Tree) → U3 p v → Starts test p
-  t3 test a b c d e = either_starts T3 U4 test (s3 test a) (t4 test b c d e)
+  t3 test a b c d e = either_starts WithinTest U4 test (s3 test a) (t4 test b c d e)
 
   pub t2 : (test : ℕ → Bool) → test 33 ≡ true → test 105 ≡ true → test 110 ≡ true → test 99 ≡ true → test 115 ≡ true → test 101 ≡ true → (p : List ℕ) (v : Tree) → U2 p v → Starts test p
-  t2 test z a b c d e = either_starts T2 U3 test (s2 test z) (t3 test a b c d e)
+  t2 test z a b c d e = either_starts UnequalTest U3 test (s2 test z) (t3 test a b c d e)
 
   pub t1 : (test : ℕ → Bool) → test 61 ≡ true → test 33 ≡ true → test 105 ≡ true → test 110 ≡ true → test 99 ≡ true → test 115 ≡ true → test 101 ≡ true → (p : List ℕ) (v : Tree) → Test n k p v → Starts test p
-  t1 test y z a b c d e = either_starts T1 U2 test (s1 test y) (t2 test z a b c d e)
+  t1 test y z a b c d e = either_starts EqualTest U2 test (s1 test y) (t2 test z a b c d e)
 
   abbrev pub q6 : List ℕ → Res Tree
   q6 = choose (λ c. eqb c 115) (λ x. bind (keyword starts_word x) (λ _. led (with_string (starts k)))) (λ x. bind (keyword ends_word x) (λ _. led (with_string (ends k))))
@@ -267,22 +267,22 @@ module _ (n : ℕ) (k : List ℕ) where
   q2 = choose (λ c. eqb c 33) (λ x. bind (mark (33 ∷ 61 ∷ []) x) (λ _. mapped (unequal k) string)) q3
 
   pub c6 : Reads U6 not_blank q6
-  c6 = choice (λ c. eqb c 115) T6 T7 not_blank _ _ r6 r7 (s6 (λ c. eqb c 115) refl) (s7 (λ c. not (eqb c 115)) refl)
+  c6 = choice (λ c. eqb c 115) StartsTest EndsTest not_blank _ _ r6 r7 (s6 (λ c. eqb c 115) refl) (s7 (λ c. not (eqb c 115)) refl)
 
   pub c5 : Reads U5 not_blank q5
-  c5 = choice (λ c. eqb c 99) T5 U6 not_blank _ _ r5 c6 (s5 (λ c. eqb c 99) refl) (t6 (λ c. not (eqb c 99)) refl refl)
+  c5 = choice (λ c. eqb c 99) ContainsTest U6 not_blank _ _ r5 c6 (s5 (λ c. eqb c 99) refl) (t6 (λ c. not (eqb c 99)) refl refl)
 
   pub c4 : Reads U4 not_blank q4
-  c4 = choice (λ c. eqb c 110) T4 U5 not_blank _ _ r4 c5 (s4 (λ c. eqb c 110) refl) (t5 (λ c. not (eqb c 110)) refl refl refl)
+  c4 = choice (λ c. eqb c 110) OutsideTest U5 not_blank _ _ r4 c5 (s4 (λ c. eqb c 110) refl) (t5 (λ c. not (eqb c 110)) refl refl refl)
 
   pub c3 : Reads U3 not_blank q3
-  c3 = choice (λ c. eqb c 105) T3 U4 not_blank _ _ (in_reads (within k)) c4 (s3 (λ c. eqb c 105) refl) (t4 (λ c. not (eqb c 105)) refl refl refl refl)
+  c3 = choice (λ c. eqb c 105) WithinTest U4 not_blank _ _ (in_reads (within k)) c4 (s3 (λ c. eqb c 105) refl) (t4 (λ c. not (eqb c 105)) refl refl refl refl)
 
   pub c2 : Reads U2 not_blank q2
-  c2 = choice (λ c. eqb c 33) T2 U3 not_blank _ _ r2 c3 (s2 (λ c. eqb c 33) refl) (t3 (λ c. not (eqb c 33)) refl refl refl refl refl)
+  c2 = choice (λ c. eqb c 33) UnequalTest U3 not_blank _ _ r2 c3 (s2 (λ c. eqb c 33) refl) (t3 (λ c. not (eqb c 33)) refl refl refl refl refl)
 
   pub test_reads : Reads (Test n k) not_blank (test n k)
-  test_reads = choice (λ c. eqb c 61) T1 U2 not_blank _ _ r1 c2 (s1 (λ c. eqb c 61) refl) (t2 (λ c. not (eqb c 61)) refl refl refl refl refl refl)
+  test_reads = choice (λ c. eqb c 61) EqualTest U2 not_blank _ _ r1 c2 (s1 (λ c. eqb c 61) refl) (t2 (λ c. not (eqb c 61)) refl refl refl refl refl refl)
 
 pub not_unit : (b : Bool) → b ≡ false → not b ≡ true
 not_unit b e = ap not e
