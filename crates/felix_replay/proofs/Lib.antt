@@ -5,3 +5,4 @@ pub mod SendingLemmas
 pub mod Writings
 pub mod Replay
 pub mod EmptyView
+pub mod ClosingLemmas

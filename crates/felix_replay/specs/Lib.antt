@@ -6,3 +6,4 @@ pub mod Stops
 pub mod Writing
 pub mod Engine
 pub mod Top
+pub mod Closing

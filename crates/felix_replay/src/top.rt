@@ -5,7 +5,10 @@ ghost use Rattle.fx_base.specs.Streams.{Rose, AppendsFront};
 ghost use Rattle.felix_replay.specs.Words.{node_of, name_of};
 ghost use Rattle.fx_print.specs.Texts.{usage_line};
 ghost use Rattle.felix_replay.specs.Top.{Ran, Stopped, IsStop, HasRun, output_status};
-ghost use Rattle.felix_replay.specs.Output.{output};
+ghost use Rattle.std.specs.List.{AllByRecursion};
+ghost use Rattle.fx_lines.specs.Lines.{lines_of};
+ghost use Rattle.felix_replay.specs.Output.{output, start};
+ghost use Rattle.felix_replay.specs.Closing.{IsWhole, views_along};
 
 use crate::engine::Engine;
 use crate::stop::Stop;
@@ -26,6 +29,10 @@ pub enum Status {
 }
 
 /// Reads the source to its end, and writes what the lines say to the sink.
+///
+/// The words are those after the program's name: `--node` and a name of 1 to 253 bytes of `[A-Za-z0-9_.]` and, behind the
+/// first, `-`. A line is a JSON object with one member; each output line is written with its newline by one put.
+#[tactic(auto, using(fx_base::proofs::AtKey::reads, crate::proofs::ClosingLemmas::run_stays_whole))]
 pub fn felix_replay<S: Source, K: Sink>(
     alloc: Global,
     words: &[Text],
@@ -44,6 +51,9 @@ pub fn felix_replay<S: Source, K: Sink>(
     // The same where the source tells what is left and the sink what it holds.
     ensures told { (input : List ℕ) (held : List ℕ) → S.left source.old ≡ Some input → K.held sink.old ≡ Some held → HasRun result
         → (K.held sink.new ≡ Some (held ++ output (name_of words.now) input)) × (result ≡ output_status (name_of words.now) input) }
+
+    // After each single message nothing that is named is missing, in the sent view and in its tables.
+    ensures closed { (input : List ℕ) → AllByRecursion IsWhole (views_along (start (name_of words.now)) (lines_of input)) }
 
     // Without a fault it is never anything else but want of memory.
     ensures complete { IsSome (node_of words.now) → ¬ Rose (S.faults source.old) (S.faults source.new) → ¬ Rose (K.faults sink.old) (K.faults sink.new)

@@ -1,0 +1,46 @@
+-- Every view that is sent along a run is closed, and so are its tables.
+use Rattle.std.proofs.Common.{ℕ, List, [], ◌∷◌, ◌++◌, Result, Ok, Err}
+use Rattle.std.specs.List.{AllByRecursion}
+use Rattle.fx_model.specs.declared.view.View.{View}
+use Rattle.fx_model.specs.Closed.{IsClosedView}
+use Rattle.fx_model.proofs.Flushes.{flush-closed}
+use Rattle.fx_model.proofs.Leading.{closed-tables}
+use Rattle.fx_model.proofs.ViewClosed.{view_of-closed}
+use Rattle.fx_json.specs.declared.refusal.Refusal.{Refusal}
+use Rattle.fx_lines.specs.Lines.{lines_of}
+use Rattle.fx_lines.specs.declared.commands.Command.{Command}
+use Rattle.fx_lines.specs.declared.commands.Command.TheVariants as command
+use Rattle.felix_replay.specs.Output.{State, start, answer_of, next, step}
+use Rattle.felix_replay.specs.Closing.{views_in, views_along, IsWhole}
+use Rattle.felix_replay.proofs.EmptyView.{empty_view-closed}
+
+all_both : {A : Type 0} (P : A → Type 0) (xs ys : List A) → AllByRecursion P xs → AllByRecursion P ys → AllByRecursion P (xs ++ ys)
+all_both P [] ys p q = q
+all_both P (x ∷ xs) ys p q = (p.0, all_both P xs ys p.1 q)
+
+wholes : (vs : List View) → AllByRecursion IsClosedView vs → AllByRecursion IsWhole vs
+wholes [] all = tt
+wholes (v ∷ vs) all = (record { view = all.0; tables = closed-tables v all.0 }, wholes vs all.1)
+
+in_line : (s : State) (a : Result Command Refusal) → IsClosedView s.sent → AllByRecursion IsWhole (views_in s a)
+in_line s (Ok command.Blank) closed = tt
+in_line s (Ok command.Tables) closed = tt
+in_line s (Ok command.Flush) closed = wholes _ (flush-closed s.sent _ closed (view_of-closed s.resources))
+in_line s (Ok (command.Update u)) closed = tt
+in_line s (Err r) closed = tt
+
+after_line : (s : State) (a : Result Command Refusal) → IsClosedView s.sent → IsClosedView (step s a).sent
+after_line s (Ok command.Blank) closed = closed
+after_line s (Ok command.Tables) closed = closed
+after_line s (Ok command.Flush) closed = view_of-closed s.resources
+after_line s (Ok (command.Update u)) closed = closed
+after_line s (Err r) closed = closed
+
+along : (s : State) (lines : List (List ℕ)) → IsClosedView s.sent → AllByRecursion IsWhole (views_along s lines)
+unfolding views_along
+along s [] closed = tt
+along s (line ∷ lines) closed =
+    all_both IsWhole (views_in s (answer_of s line)) (views_along (next s line) lines) (in_line s (answer_of s line) closed) (along (next s line) lines (after_line s (answer_of s line) closed))
+
+pub run_stays_whole : (node input : List ℕ) → AllByRecursion IsWhole (views_along (start node) (lines_of input))
+run_stays_whole node input = along (start node) (lines_of input) empty_view-closed

@@ -1,0 +1,28 @@
+-- The views that are sent along a run, one after each single message, and what is asked of each.
+use Rattle.std.specs.Prelude.{ℕ, List, [], ◌∷◌, ◌++◌, Result, Ok, Err}
+use Rattle.fx_model.specs.declared.view.View.{View}
+use Rattle.fx_model.specs.Views.{view_of}
+use Rattle.fx_model.specs.Tables.{tables_of}
+use Rattle.fx_model.specs.Closed.{IsClosedView, AreClosedTables}
+use Rattle.fx_model.specs.Messages.{flush, sent_views}
+use Rattle.fx_json.specs.declared.refusal.Refusal.{Refusal}
+use Rattle.fx_lines.specs.declared.commands.Command.{Command}
+use Rattle.fx_lines.specs.declared.commands.Command.TheVariants as command
+use Rattle.felix_replay.specs.Output.{State, answer_of, next}
+
+-- only a flush sends
+abbrev pub views_in : State → Result Command Refusal → List View
+views_in s (Ok command.Blank) = []
+views_in s (Ok command.Tables) = []
+views_in s (Ok command.Flush) = sent_views (flush s.sent (view_of s.resources)) s.sent (view_of s.resources)
+views_in s (Ok (command.Update u)) = []
+views_in s (Err r) = []
+
+unfoldable pub views_along : State → List (List ℕ) → List View
+views_along s [] = []
+views_along s (line ∷ lines) = views_in s (answer_of s line) ++ views_along (next s line) lines
+
+-- nothing that is named is missing, in the view and in its tables
+pub record IsWhole (v : View) : Type 0 where
+  pub view : IsClosedView v
+  pub tables : AreClosedTables (tables_of v)

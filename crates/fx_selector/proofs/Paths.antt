@@ -1,0 +1,77 @@
+-- Which way a reader goes.
+use Rattle.std.proofs.Common.{◌≡◌, ◌≢◌, ℕ, zero, suc, ◌-◌, true, false, cond, eqb, List, [], ◌∷◌, length, refl, sym, ap, ◌∙◌, arith}
+use Rattle.fx_selector.specs.Reading.{unexpected, deep, Res, Got, Stop, bind, choose, mapped, mark, skip, word, led, begins_with}
+use Rattle.fx_selector.specs.Tree.{Tree, negated}
+use Rattle.fx_selector.specs.Reader.{call, test, word_test, atom, or_of, not_of, at_end, from_start, parsed}
+
+pub choose_yes : {A : Type 0} (b : ℕ) (r s : List ℕ → Res A) (text : List ℕ) → begins_with b text ≡ true → choose (λ c. eqb c b) r s text ≡ r text
+choose_yes b r s [] e = cc
+choose_yes b r s (c ∷ cs) e = ap (λ x. cond x (r (c ∷ cs)) (s (c ∷ cs))) e
+
+pub choose_no : {A : Type 0} (b : ℕ) (r s : List ℕ → Res A) (text : List ℕ) → begins_with b text ≡ false → choose (λ c. eqb c b) r s text ≡ s text
+choose_no b r s [] e = refl
+choose_no b r s (c ∷ cs) e = ap (λ x. cond x (r (c ∷ cs)) (s (c ∷ cs))) e
+
+-- at no `=` and no `!`
+pub test_word : (n : ℕ) (k rest : List ℕ) → begins_with 61 rest ≡ false → begins_with 33 rest ≡ false → test n k rest ≡ word_test n k rest
+test_word n k [] e f = refl
+test_word n k (c ∷ cs) e f = rw (e, f) refl
+
+module _ (limit n : ℕ) (rest w behind after : List ℕ) (read : word limit rest ≡ Got w behind) (past : after ≡ skip behind) where
+  pub atom_follow : atom limit n rest ≡ choose (λ c. eqb c 40) (call limit w) (test n w) after
+  atom_follow = ap (λ x. bind x (λ w. led (choose (λ c. eqb c 40) (call limit w) (test n w)))) read ∙ ap (choose (λ c. eqb c 40) (call limit w) (test n w)) (sym past)
+
+  pub atom_call : begins_with 40 after ≡ true → atom limit n rest ≡ call limit w after
+  atom_call e = atom_follow ∙ choose_yes 40 (call limit w) (test n w) after e
+
+  pub atom_test : begins_with 40 after ≡ false → atom limit n rest ≡ test n w after
+  atom_test e = atom_follow ∙ choose_no 40 (call limit w) (test n w) after e
+
+-- at a `!` or a `(`
+module _ (limit n : ℕ) where
+  pub bang_here : (d : ℕ) (rest : List ℕ) → begins_with 33 rest ≡ true → not_of limit n (suc d) rest ≡ bind (mark (33 ∷ []) rest) (λ _. mapped negated (not_of limit n d))
+  bang_here d [] e = cc
+  bang_here d (c ∷ cs) e = rw e refl
+
+  pub group_here : (d : ℕ) (rest : List ℕ) → begins_with 33 rest ≡ false → begins_with 40 rest ≡ true → not_of limit n (suc d) rest ≡ bind (mark (40 ∷ []) rest) (λ _. λ y. bind (or_of (not_of limit n d) n y) (λ t. mapped (λ _. t) (mark (41 ∷ []))))
+  group_here d [] e f = cc
+  group_here d (c ∷ cs) e f = rw (e, f) refl
+
+  pub not_bang : (depth : ℕ) (rest : List ℕ) → depth ≢ 0 → begins_with 33 rest ≡ true → not_of limit n depth rest ≡ bind (mark (33 ∷ []) rest) (λ _. mapped negated (not_of limit n (depth - 1)))
+  not_bang depth rest h e = let k : depth ≡ suc (depth - 1) = omega arith in ap (λ x. not_of limit n x rest) k ∙ bang_here (depth - 1) rest e
+
+  pub not_group : (depth : ℕ) (rest : List ℕ) → depth ≢ 0 → begins_with 33 rest ≡ false → begins_with 40 rest ≡ true → not_of limit n depth rest ≡ bind (mark (40 ∷ []) rest) (λ _. λ y. bind (or_of (not_of limit n (depth - 1)) n y) (λ t. mapped (λ _. t) (mark (41 ∷ []))))
+  not_group depth rest h e f = let k : depth ≡ suc (depth - 1) = omega arith in ap (λ x. not_of limit n x rest) k ∙ group_here (depth - 1) rest e f
+
+  pub not_atom : (depth : ℕ) (rest : List ℕ) → begins_with 33 rest ≡ false → begins_with 40 rest ≡ false → not_of limit n depth rest ≡ atom limit n rest
+  not_atom zero [] e f = refl
+  not_atom (suc d) [] e f = refl
+  not_atom zero (c ∷ cs) e f = rw (e, f) refl
+  not_atom (suc d) (c ∷ cs) e f = rw (e, f) refl
+
+  pub deep_bang : (depth : ℕ) (rest : List ℕ) → depth ≡ 0 → begins_with 33 rest ≡ true → not_of limit n depth rest ≡ Stop deep rest
+  deep_bang zero [] h e = cc
+  deep_bang zero (c ∷ cs) h e = rw e refl
+  deep_bang (suc d) rest h e = absurd (omega arith)
+
+  pub deep_group : (depth : ℕ) (rest : List ℕ) → depth ≡ 0 → begins_with 33 rest ≡ false → begins_with 40 rest ≡ true → not_of limit n depth rest ≡ Stop deep rest
+  deep_group zero [] h e f = cc
+  deep_group zero (c ∷ cs) h e f = rw (e, f) refl
+  deep_group (suc d) rest h e f = absurd (omega arith)
+
+-- behind the whole text's blanks
+module _ (limit n depth : ℕ) (text start : List ℕ) (past : start ≡ skip text) where
+  pub parsed_filled : length start ≢ 0 → parsed limit n depth text ≡ at_end (or_of (not_of limit n depth) n start)
+  parsed_filled h = ap (from_start (or_of (not_of limit n depth) n)) (sym past) ∙ filled start h
+    where
+      filled : (x : List ℕ) → length x ≢ 0 → from_start (or_of (not_of limit n depth) n) x ≡ at_end (or_of (not_of limit n depth) n x)
+      filled [] h = absurd (h refl)
+      filled (c ∷ cs) h = refl
+
+pub end_here : (t : Tree) (rest : List ℕ) → length rest ≡ 0 → at_end (Got t rest) ≡ Got t []
+end_here t [] h = refl
+end_here t (c ∷ cs) h = absurd (omega arith)
+
+pub more_here : (t : Tree) (rest : List ℕ) → length rest ≢ 0 → at_end (Got t rest) ≡ Stop unexpected rest
+more_here t [] h = absurd (h refl)
+more_here t (c ∷ cs) h = refl

@@ -1,0 +1,16 @@
+pub mod Phrase
+pub mod Tree
+pub mod TreeCode
+pub mod Nodes
+pub mod Truth
+pub mod Asked
+pub mod Language
+pub mod Canonical
+pub mod Places
+pub mod Reading
+pub mod Reader
+pub mod Gives
+pub mod Going
+pub mod SameTree
+pub mod Rewriting
+pub mod Parsing

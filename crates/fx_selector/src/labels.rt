@@ -1,0 +1,98 @@
+//! The labels of an item, seen as a finite map from texts to texts.
+ghost use Rattle.std.specs.Prelude.{◌≡◌, ◌&&◌, OnOk, nat_eq};
+ghost use Rattle.std.specs.Option.{option_copied};
+ghost use Rattle.std.specs.FinMap as map;
+ghost use Rattle.std.specs.Cmp.{on_per, and_per, on_equiv, and_equiv, partial_equiv_from_equiv};
+ghost use Rattle.std.specs.Cmp.Lexicographic.{pointwise, lists_per, lists_equiv, nat_list_eq_equiv};
+ghost use Rattle.fx_base.specs.Same.{same_bytes, same_finite};
+
+use fx_base::{Exact, Memory, Text};
+use std::alloc::{AllocError, Global};
+use std::collections::BTreeMap;
+use std::marker::Model;
+
+/// Label values by their keys, both texts of any bytes.
+#[derive(Drop)]
+pub struct Labels {
+    alloc: Global,
+    held: BTreeMap<Vec<u8>, Text>,
+}
+
+impl Model for Labels {
+    ghost use Rattle.std.specs.Prelude.{ℕ, List};
+    ghost use Rattle.std.specs.Ordering.{nat_cmp};
+    ghost use Rattle.std.specs.Cmp.Lexicographic.{slice_cmp};
+    ghost use Rattle.std.specs.BTreeMap.{IsOrdered};
+    ghost use Rattle.std.specs.FinMap as map;
+    ghost use Rattle.std.specs.Coded.{coded_ℕ, coded_list};
+    ghost use Rattle.fx_base.specs.Keyed.{keyed};
+
+    ghost Value = { map.FinMap (slice_cmp nat_cmp) (List ℕ) };
+
+    ghost coded = { map.code (coded_list coded_ℕ) (coded_list coded_ℕ) };
+
+    ghost view = { λ a. map.from_entries (keyed (λ k. k.items) a.held.entries) };
+
+    ghost invariant = { λ a. IsOrdered (λ x y. slice_cmp nat_cmp x.items y.items) a.held };
+}
+
+impl Labels {
+    pub fn new(alloc: Global) -> Self
+        ensures { result ≡ map.empty }
+    {
+        Labels {
+            alloc,
+            held: BTreeMap::new(alloc),
+        }
+    }
+
+    /// Sets the value at a key. After want of memory the labels are not used again.
+    pub fn put(&mut self, key: &[u8], value: &[u8]) -> Result<(), Memory>
+        ensures { OnOk result (self.new ≡ map.insert self.old key.now value.now) }
+    {
+        let key = Vec::from_slice(self.alloc, key)?;
+        let value = Text::new(self.alloc, value)?;
+        self.held.insert(key, value)?;
+        Ok(())
+    }
+
+    pub fn get(&self, key: &[u8]) -> Option<&[u8]>
+        ensures { option_copied result ≡ map.get self.now key.now }
+    {
+        match self.held.get(key) {
+            Some(value) => Some(value.bytes()),
+            None => None,
+        }
+    }
+}
+
+impl Clone for Labels {
+    ghost is_clone = { λ m n. n ≡ m };
+
+    fn clone(&self) -> Result<Self, AllocError> {
+        Ok(Labels {
+            alloc: self.alloc,
+            held: self.held.clone()?,
+        })
+    }
+}
+
+impl PartialEq for Labels {
+    ghost eq = { λ m n. pointwise (λ p q. pointwise nat_eq p.0 q.0 && pointwise nat_eq p.1 q.1) (map.entries m) (map.entries n) };
+
+    ghost laws = { on_per map.entries (lists_per (and_per (on_per (λ p. p.0) (partial_equiv_from_equiv nat_list_eq_equiv)) (on_per (λ p. p.1) (partial_equiv_from_equiv nat_list_eq_equiv)))) };
+
+    fn eq(&self, other: &Self) -> bool {
+        self.held == other.held
+    }
+}
+
+impl Eq for Labels {
+    ghost laws = { on_equiv map.entries (lists_equiv (and_equiv (on_equiv (λ p. p.0) nat_list_eq_equiv) (on_equiv (λ p. p.1) nat_list_eq_equiv))) };
+}
+
+impl Exact for Labels {
+    ghost same = { same_finite (pointwise nat_eq) (pointwise nat_eq) same_bytes same_bytes };
+
+    ghost copies = { λ m n h. h };
+}

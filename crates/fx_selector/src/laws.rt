@@ -1,0 +1,23 @@
+//! The laws of the language, each the contract of a function that does nothing.
+ghost use Rattle.std.specs.Prelude.{◌≡◌, ◌≢◌, ℕ, List};
+ghost use Rattle.fx_selector.specs.Tree.{Tree, IsTree};
+ghost use Rattle.fx_selector.specs.Canonical.{canonical_text};
+ghost use Rattle.fx_selector.specs.Places.{Spells, IsFault};
+
+use crate::fault::SelectorFault;
+
+/// A text spells at most one tree.
+pub fn one_tree()
+    ensures { (text : List ℕ) (t u : Tree) → Spells text t → Spells text u → t ≡ u }
+{}
+
+/// A text has at most one fault, and so at most one place of a fault.
+pub fn one_fault()
+    ensures { (text : List ℕ) (f g : SelectorFault) → f ≢ SelectorFault.Memory → g ≢ SelectorFault.Memory →
+        IsFault text f → IsFault text g → f ≡ g }
+{}
+
+/// The canonical text of a tree spells it. So equal canonical texts mean equal trees.
+pub fn canonical_text_spells()
+    ensures { (t : Tree) → IsTree t → Spells (canonical_text t) t }
+{}
