@@ -1,12 +1,12 @@
 //! Each form of a written line once.
 use crate::messages::message_text;
 use crate::packets::{Hop, packet_texts};
-use fx_json::Refusal;
 use crate::tables::tables_text;
 use crate::texts::{flushed_text, refusal_text, usage_text};
 use fx_base::{
     ChainMap, ChainName, Ipv4, Memory, NameKey, Net, Proto, Seq, SetKind, SetMap, SetName, Text,
 };
+use fx_json::Refusal;
 use fx_model::{
     Action, ChainRule, End, Match, Member, MemberList, MemberSet, Message, Packet, PolicyId,
     Reason, State, Tag, Target, Verdict, ViewEndpoint, ViewPolicy, ViewProfile, ViewRule, ViewTier,

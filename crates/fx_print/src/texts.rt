@@ -2,8 +2,8 @@
 ghost use Rattle.std.specs.Prelude.{◌≡◌, ◌++◌, ◌∷◌, OnOk, IfOk, decimal};
 ghost use Rattle.fx_print.specs.Texts.{detail_of, refusal_line, flushed_line, usage_line};
 
-use fx_json::Refusal;
 use fx_base::{Memory, Text};
+use fx_json::Refusal;
 use itoa::Buffer;
 use std::alloc::Global;
 
