@@ -6,3 +6,4 @@ pub mod Writings
 pub mod Replay
 pub mod EmptyView
 pub mod ClosingLemmas
+pub mod Lone

@@ -1,19 +1,15 @@
 -- What became of a packet as text, each line with its newline. Chains and places are those of iptables(8).
-use Rattle.std.specs.Prelude.{ℕ, List, [], ◌∷◌, ◌++◌, Option, Some, None, codes, decimal, map}
+use Rattle.std.specs.Prelude.{ℕ, List, [], ◌∷◌, ◌++◌, Option, Some, None, codes, decimal}
 use Rattle.std.specs.List.{flat_map}
 use Rattle.fx_model.specs.declared.chain.Reason.{Reason}
 use Rattle.fx_model.specs.declared.chain.Reason.TheVariants as reason
 use Rattle.fx_model.specs.declared.packet.Verdict.{Verdict}
 use Rattle.fx_model.specs.declared.packet.Verdict.TheVariants.{Allow, Deny}
-use Rattle.fx_print.specs.declared.packets.Hop.{Hop}
 use Rattle.fx_print.specs.MessageTexts.{id_text}
 
 -- ---- the path
 
--- a path as chains and places, from 1
-abbrev pub hops_of : List Hop → List (List ℕ × ℕ)
-hops_of path = map (λ h. (h.chain, h.place)) path
-
+-- a chain and a place there, from 1
 abbrev pub hop_text : List ℕ × ℕ → List ℕ
 hop_text h = codes " " ++ (h.0 ++ (codes ":" ++ decimal h.1))
 

@@ -2,7 +2,7 @@
 #![tactic(auto, using(fx_base::proofs::AtKey::reads))]
 
 pub use messages::message_text;
-pub use packets::{Hop, packet_texts};
+pub use packets::packet_texts;
 pub use tables::tables_text;
 pub use texts::{flushed_text, refusal_text, usage_text};
 

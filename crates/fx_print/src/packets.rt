@@ -1,21 +1,16 @@
 //! What became of a packet as text.
 ghost use Rattle.std.specs.Prelude.{◌≡◌, ◌++◌, ◌∷◌, OnOk, IfOk, codes, decimal};
 ghost use Rattle.std.specs.Option.{option_copied};
+ghost use Rattle.fx_walk.specs.Stops.{hops_of};
 ghost use Rattle.fx_print.specs.MessageTexts.{id_text};
-ghost use Rattle.fx_print.specs.PacketTexts.{hops_of, hop_text, hops_text, path_line, reason_text, side_line, side_lines, verdict_line, packet_lines};
+ghost use Rattle.fx_print.specs.PacketTexts.{hop_text, hops_text, path_line, reason_text, side_line, side_lines, verdict_line, packet_lines};
 
 use crate::messages::push_id;
 use crate::texts::{push_both, push_decimal};
-use fx_base::{ChainName, Memory, Text};
+use fx_base::{Memory, Text};
 use fx_model::{Packet, PolicyId, Reason, Verdict};
+use fx_walk::Hop;
 use std::alloc::Global;
-
-/// A rule on a packet's path: its chain, and its place there, from 1.
-#[derive(Clone, Copy, Debug)]
-pub struct Hop {
-    pub chain: ChainName,
-    pub place: u64,
-}
 
 /// The lines of a packet. A side has a line where it has a reason.
 pub fn packet_texts(

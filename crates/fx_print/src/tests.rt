@@ -1,6 +1,6 @@
 //! Each form of a written line once.
 use crate::messages::message_text;
-use crate::packets::{Hop, packet_texts};
+use crate::packets::packet_texts;
 use crate::tables::tables_text;
 use crate::texts::{flushed_text, refusal_text, usage_text};
 use fx_base::{
@@ -11,6 +11,7 @@ use fx_model::{
     Action, ChainRule, End, Match, Member, MemberList, MemberSet, Message, Packet, PolicyId,
     Reason, State, Tag, Target, Verdict, ViewEndpoint, ViewPolicy, ViewProfile, ViewRule, ViewTier,
 };
+use fx_walk::Hop;
 use std::alloc::Global;
 use std::process::Abort;
 use std::test::Fail;
