@@ -23,7 +23,11 @@ is_name s = has_length 1 253 s && list_all is_name_byte s
 abbrev pub is_namespace : List ℕ → Bool
 is_namespace s = has_length 1 63 s && list_all is_namespace_byte s
 
--- an interface's name has 1 to 15 bytes; that of a workload begins with `cali`
+-- an interface's name has 1 to 15 bytes
+abbrev pub is_interface : List ℕ → Bool
+is_interface s = has_length 1 15 s && list_all is_name_byte s
+
+-- that of a workload begins with `cali`
 abbrev pub is_workload_interface : List ℕ → Bool
 is_workload_interface s = has_length 1 15 s && list_all is_name_byte s && starts_with nat_eq s (codes "cali")
 

@@ -1,4 +1,5 @@
 pub mod Forms
 pub mod Fields
+pub mod Packets
 pub mod Puts
 pub mod Refusals

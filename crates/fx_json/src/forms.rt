@@ -1,7 +1,7 @@
 //! The forms of names, interfaces and addresses.
 ghost use Rattle.std.specs.Prelude.{◌≡◌, ◌<◌, ◌-◌, ◌==◌, length, IfSome, option_map, position};
 ghost use Rattle.std.specs.List.{list_all};
-ghost use Rattle.fx_json.specs.Forms.{is_name_byte, is_namespace_byte, has_length, is_name, is_namespace, is_workload_interface, is_plain_name, is_octet, at_dot, is_address, is_host};
+ghost use Rattle.fx_json.specs.Forms.{is_name_byte, is_namespace_byte, has_length, is_name, is_namespace, is_interface, is_workload_interface, is_plain_name, is_octet, at_dot, is_address, is_host};
 
 pub fn is_name(text: &[u8]) -> bool
     ensures { result ≡ is_name text.now }
@@ -21,14 +21,21 @@ pub fn is_namespace(text: &[u8]) -> bool
     are_namespace_bytes(text)
 }
 
-/// Whether a workload's interface may have this name.
-pub fn is_workload_interface(text: &[u8]) -> bool
-    ensures { result ≡ is_workload_interface text.now }
+/// Whether an interface may have this name.
+pub fn is_interface(text: &[u8]) -> bool
+    ensures { result ≡ is_interface text.now }
 {
     if !has_length(text, 1, 15) {
         return false;
     }
-    if !are_name_bytes(text) {
+    are_name_bytes(text)
+}
+
+/// Whether a workload's interface may have this name.
+pub fn is_workload_interface(text: &[u8]) -> bool
+    ensures { result ≡ is_workload_interface text.now }
+{
+    if !is_interface(text) {
         return false;
     }
     text.starts_with(b"cali")
