@@ -27,6 +27,7 @@ in_line s (Ok command.Blank) closed = tt
 in_line s (Ok command.Tables) closed = tt
 in_line s (Ok command.Flush) closed = wholes _ (flush-closed s.sent _ closed (view_of-closed s.resources))
 in_line s (Ok (command.Update u)) closed = tt
+in_line s (Ok (command.Packet a)) closed = tt
 in_line s (Err r) closed = tt
 
 after_line : (s : State) (a : Result Command Refusal) → IsClosedView s.sent → IsClosedView (step s a).sent
@@ -34,6 +35,7 @@ after_line s (Ok command.Blank) closed = closed
 after_line s (Ok command.Tables) closed = closed
 after_line s (Ok command.Flush) closed = view_of-closed s.resources
 after_line s (Ok (command.Update u)) closed = closed
+after_line s (Ok (command.Packet a)) closed = closed
 after_line s (Err r) closed = closed
 
 along : (s : State) (lines : List (List ℕ)) → IsClosedView s.sent → AllByRecursion IsWhole (views_along s lines)

@@ -7,3 +7,4 @@ pub mod Replay
 pub mod EmptyView
 pub mod ClosingLemmas
 pub mod Lone
+pub mod Policing

@@ -70,4 +70,5 @@ step-lines s (Ok command.Blank) = refl
 step-lines s (Ok command.Tables) = refl
 step-lines s (Ok command.Flush) = refl
 step-lines s (Ok (command.Update u)) = refl
+step-lines s (Ok (command.Packet a)) = refl
 step-lines s (Err r) = refl

@@ -16,6 +16,7 @@ views_in s (Ok command.Blank) = []
 views_in s (Ok command.Tables) = []
 views_in s (Ok command.Flush) = sent_views (flush s.sent (view_of s.resources)) s.sent (view_of s.resources)
 views_in s (Ok (command.Update u)) = []
+views_in s (Ok (command.Packet a)) = []
 views_in s (Err r) = []
 
 unfoldable pub views_along : State → List (List ℕ) → List View

@@ -1,9 +1,11 @@
 pub mod Rendering
 pub mod Words
 pub mod Run
+pub mod PacketRuns
 pub mod Output
 pub mod Stops
 pub mod Writing
 pub mod Engine
 pub mod Top
 pub mod Closing
+pub mod Policed

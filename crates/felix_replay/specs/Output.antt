@@ -23,6 +23,7 @@ use Rattle.fx_lines.specs.Commands.{command_of}
 use Rattle.fx_print.specs.Texts.{refusal_line, flushed_line}
 use Rattle.fx_print.specs.MessageTexts.{message_line}
 use Rattle.fx_print.specs.TableTexts.{table_lines}
+use Rattle.felix_replay.specs.PacketRuns.{packet_text}
 use Rattle.felix_replay.specs.Run.{state_after, written}
 
 -- what stands between two lines: the resources, the view that was sent, how many lines there were and whether one was refused
@@ -58,6 +59,7 @@ checked R (Ok command.Blank) = Ok command.Blank
 checked R (Ok command.Tables) = Ok command.Tables
 checked R (Ok command.Flush) = Ok command.Flush
 checked R (Ok (command.Update u)) = update_answer R u
+checked R (Ok (command.Packet a)) = Ok (command.Packet a)
 checked R (Err r) = Err r
 
 -- the command or the refusal of a line
@@ -71,6 +73,7 @@ accepted s command.Blank = s
 accepted s command.Tables = s
 accepted s command.Flush = record s { sent = view_of s.resources }
 accepted s (command.Update u) = record s { resources = after s.resources u }
+accepted s (command.Packet a) = s
 
 -- a refused line changes nothing but the numbers
 abbrev pub step : State → Result Command Refusal → State
@@ -103,6 +106,7 @@ command_text s command.Blank = []
 command_text s command.Tables = concat (table_lines (tables_of s.sent))
 command_text s command.Flush = flush_text s.sent (view_of s.resources)
 command_text s (command.Update u) = []
+command_text s (command.Packet a) = packet_text (tables_of s.sent) a
 
 abbrev pub answer_text : State → Result Command Refusal → List ℕ
 answer_text s (Ok c) = command_text s c

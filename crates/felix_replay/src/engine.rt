@@ -18,9 +18,10 @@ use crate::stop::Stop;
 use fx_base::{Memory, Sink, Text};
 use fx_json::Refusal;
 use fx_lines::{Command, read_command};
-use fx_model::{Item, ItemKey, Key, Resources, Update, View, view_of};
-use fx_print::{flushed_text, refusal_text, tables_text};
+use fx_model::{Item, ItemKey, Key, Packet, Resources, Update, View, view_of};
+use fx_print::{flushed_text, packet_texts, refusal_text, tables_text};
 use fx_tables::Tables;
+use fx_walk::trace;
 use std::alloc::Global;
 
 /// The resources of a node, the view that was sent and its tables, and the number of lines so far.
@@ -37,6 +38,7 @@ pub struct Engine {
 impl Engine {
     ghost use Rattle.felix_replay.specs.Engine.{state_of, IsKept};
 
+    #[tactic(auto, using(fx_base::proofs::AtKey::reads, crate::proofs::Policing::first_closed))]
     pub fn new(alloc: Global, node: Text) -> Result<Engine, Memory>
         ensures state { IfOk result (λ e. state_of e ≡ start node) }
         ensures kept { IfOk result IsKept }
@@ -80,6 +82,7 @@ impl Engine {
             Ok(Command::Tables) => self.put_tables(sink),
             Ok(Command::Flush) => self.flush(sink),
             Ok(Command::Update(update)) => Ok(self.apply(update)?),
+            Ok(Command::Packet(packet)) => self.put_packet(&packet, sink),
             Err(refusal) => self.refuse(&refusal, sink),
         }
     }
@@ -102,6 +105,25 @@ impl Engine {
         put_all(&lines, sink)
     }
 
+    // What the tables decide on a packet, and why.
+    #[tactic(auto, using(crate::proofs::Policing::kept_first, crate::proofs::Policing::kept_ranked, crate::proofs::Policing::run_text))]
+    fn put_packet<K: Sink>(&self, packet: &Packet, sink: &mut K) -> Result<(), Stop>
+        requires kept { IsKept self.now }
+        ensures writes { Writes (K.held sink.old) (K.held sink.new) (K.faults sink.old) (K.faults sink.new) (command_text (state_of self.now) (Command.Packet packet.now)) result }
+    {
+        let mut path = Vec::new(self.alloc);
+        let outcome = trace(&self.tables, packet, &mut path)?;
+        let lines = packet_texts(
+            self.alloc,
+            packet,
+            path.as_slice(),
+            outcome.egress,
+            outcome.ingress,
+            outcome.verdict,
+        )?;
+        put_all(&lines, sink)
+    }
+
     fn refuse<K: Sink>(&mut self, refusal: &Refusal, sink: &mut K) -> Result<(), Stop>
         ensures same { OnOk result (self.new ≡ record self.old { refused = true }) }
         ensures writes { Writes (K.held sink.old) (K.held sink.new) (K.faults sink.old) (K.faults sink.new) (refusal_line self.old.lines refusal.now) result }
@@ -112,6 +134,7 @@ impl Engine {
     }
 
     // Sends what the wanted view has and the sent view hasn't, and renders it.
+    #[tactic(auto, using(fx_base::proofs::AtKey::reads, crate::proofs::Policing::wanted_closed))]
     fn flush<K: Sink>(&mut self, sink: &mut K) -> Result<(), Stop>
         requires kept { IsKept self.old }
         ensures kept { OnOk result (IsKept self.new) }

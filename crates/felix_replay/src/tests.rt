@@ -152,3 +152,74 @@ fn a_failing_put_ends_the_run(rt: HostRuntime) -> Result<(), Fail> {
     assert_eq!(rt; held.as_slice(), b"flushed 0\n".as_slice());
     Ok(())
 }
+
+const PACKET: &str =
+    "{\"packet\":{\"in\":\"cali1\",\"out\":\"eth0\",\"src\":\"10.0.0.1\",\"dst\":\"192.0.2.1\",\"proto\":\"TCP\",\"sport\":40000,\"dport\":443}}\n";
+
+const STATES: &str =
+    "{\"packet\":{\"in\":\"cali1\",\"out\":\"eth0\",\"src\":\"10.0.0.1\",\"dst\":\"192.0.2.1\",\"proto\":\"TCP\",\"sport\":40000,\"dport\":443,\"state\":\"ESTABLISHED\"}}\n{\"packet\":{\"in\":\"cali1\",\"out\":\"eth0\",\"src\":\"10.0.0.1\",\"dst\":\"192.0.2.1\",\"proto\":\"TCP\",\"sport\":40000,\"dport\":443,\"state\":\"INVALID\"}}\n";
+
+const STRANGERS: &str =
+    "{\"packet\":{\"in\":\"cali9\",\"out\":\"eth0\",\"src\":\"10.0.0.1\",\"dst\":\"192.0.2.1\",\"proto\":\"TCP\",\"sport\":40000,\"dport\":443}}\n{\"packet\":{\"in\":\"eth0\",\"out\":\"eth0\",\"src\":\"10.0.0.1\",\"dst\":\"192.0.2.1\",\"proto\":\"TCP\",\"sport\":40000,\"dport\":443}}\n";
+
+const BOTH_SIDES: &str =
+    "{\"packet\":{\"in\":\"cali1\",\"out\":\"cali1\",\"src\":\"10.0.0.1\",\"dst\":\"10.0.0.1\",\"proto\":\"UDP\",\"sport\":53,\"dport\":53}}\n";
+
+#[test]
+fn each_packet_is_told_its_path_and_its_reasons(rt: HostRuntime) -> Result<(), Fail> {
+    let alloc = rt.alloc();
+    let input = joined(
+        alloc,
+        &[
+            OPEN, ENDPOINT, SYNC, PACKET, FLUSH, PACKET, STATES, STRANGERS, BOTH_SIDES,
+        ],
+    )?;
+    let (status, held) = replayed(alloc, input)?;
+    let want = joined(
+        alloc,
+        &[
+            "path cali-FORWARD:2 cali-from-wl-dispatch:1\negress cali1 unknown-interface\nverdict deny\n",
+            SENT,
+            "path cali-FORWARD:2 cali-from-wl-dispatch:1 cali-fw-cali1:4 cali-pro-open:1\negress cali1 profile open 1\nverdict allow\n",
+            "path cali-FORWARD:2 cali-from-wl-dispatch:1 cali-fw-cali1:1\negress cali1 established\nverdict allow\n",
+            "path cali-FORWARD:2 cali-from-wl-dispatch:1 cali-fw-cali1:2\negress cali1 invalid\nverdict deny\n",
+            "path cali-FORWARD:2 cali-from-wl-dispatch:2\negress cali9 unknown-interface\nverdict deny\n",
+            "path -\nverdict allow\n",
+            "path cali-FORWARD:2 cali-from-wl-dispatch:1 cali-fw-cali1:4 cali-pro-open:1 cali-FORWARD:3 cali-to-wl-dispatch:1 cali-tw-cali1:4 cali-pri-open:1\negress cali1 profile open 1\ningress cali1 profile open 1\nverdict allow\n",
+        ],
+    )?;
+    assert_eq!(rt; status, Status::Done);
+    assert_eq!(rt; held.as_slice(), want.as_slice());
+    Ok(())
+}
+
+#[test]
+fn a_profile_that_is_missing_lets_nothing_pass(rt: HostRuntime) -> Result<(), Fail> {
+    let alloc = rt.alloc();
+    let input = joined(alloc, &[ENDPOINT, SYNC, FLUSH, PACKET, OPEN, FLUSH])?;
+    let (status, held) = replayed(alloc, input)?;
+    let want = joined(
+        alloc,
+        &[
+            "profile open open missing\nendpoint cali1 a/w1 in - out - profiles open\nflushed 2\n",
+            "path cali-FORWARD:2 cali-from-wl-dispatch:1 cali-fw-cali1:4 cali-pro-open:1\negress cali1 missing-profile open\nverdict deny\n",
+            "profile open open in 1 out 1\nflushed 1\n",
+        ],
+    )?;
+    assert_eq!(rt; status, Status::Done);
+    assert_eq!(rt; held.as_slice(), want.as_slice());
+    Ok(())
+}
+
+#[test]
+fn a_packet_with_a_fault_is_refused(rt: HostRuntime) -> Result<(), Fail> {
+    let alloc = rt.alloc();
+    let input = joined(alloc, &["{\"packet\":{\"in\":\"eth0\"}}\n"])?;
+    let (status, held) = replayed(alloc, input)?;
+    assert_eq!(rt; status, Status::Refused);
+    assert_eq!(rt;
+        held.as_slice(),
+        b"refused 1 2 MissingField packet.out\n".as_slice()
+    );
+    Ok(())
+}

@@ -9,6 +9,7 @@ ghost use Rattle.std.specs.List.{AllByRecursion};
 ghost use Rattle.fx_lines.specs.Lines.{lines_of};
 ghost use Rattle.felix_replay.specs.Output.{output, start};
 ghost use Rattle.felix_replay.specs.Closing.{IsWhole, views_along};
+ghost use Rattle.felix_replay.specs.Policed.{KeepsPolicy};
 
 use crate::engine::Engine;
 use crate::stop::Stop;
@@ -32,7 +33,7 @@ pub enum Status {
 ///
 /// The words are those after the program's name: `--node` and a name of 1 to 253 bytes of `[A-Za-z0-9_.]` and, behind the
 /// first, `-`. A line is a JSON object with one member; each output line is written with its newline by one put.
-#[tactic(auto, using(fx_base::proofs::AtKey::reads, crate::proofs::ClosingLemmas::run_stays_whole))]
+#[tactic(auto, using(fx_base::proofs::AtKey::reads, crate::proofs::ClosingLemmas::run_stays_whole, crate::proofs::Policing::keeps_policy))]
 pub fn felix_replay<S: Source, K: Sink>(
     alloc: Global,
     words: &[Text],
@@ -54,6 +55,9 @@ pub fn felix_replay<S: Source, K: Sink>(
 
     // After each single message nothing that is named is missing, in the sent view and in its tables.
     ensures closed { (input : List ℕ) → AllByRecursion IsWhole (views_along (start (name_of words.now)) (lines_of input)) }
+
+    // A line with a first packet is answered as the policy reference says, where each accepted update was flushed.
+    ensures policy { KeepsPolicy (name_of words.now) }
 
     // Without a fault it is never anything else but want of memory.
     ensures complete { IsSome (node_of words.now) → ¬ Rose (S.faults source.old) (S.faults source.new) → ¬ Rose (K.faults sink.old) (K.faults sink.new)

@@ -1,0 +1,124 @@
+-- What a packet line writes, and that after a flush it is the policy reference's answer.
+use Rattle.std.proofs.Common.{◌≡◌, ℕ, List, [], ◌∷◌, Bool, true, false, Option, None, Some, Result, Ok, Err, refl, sym, ◌∙◌, ap, subst}
+use Rattle.std.specs.Prelude.{IfOk, if◌then◌else◌, codes}
+use Rattle.std.specs.List.{concat}
+use Rattle.std.specs.FinMap as maps
+use Rattle.fx_base.proofs.AtKey.{get_empty}
+use Rattle.fx_model.specs.declared.packet.Packet.{Packet}
+use Rattle.fx_model.specs.declared.packet.State.TheVariants.{New}
+use Rattle.fx_model.specs.declared.packet.Verdict.{Verdict}
+use Rattle.fx_model.specs.declared.chain.Reason.{Reason}
+use Rattle.fx_model.specs.declared.resources.Endpoint.{Endpoint}
+use Rattle.fx_model.specs.declared.resources.Resources.{Resources}
+use Rattle.fx_model.specs.declared.resources.Update.{Update}
+use Rattle.fx_model.specs.declared.view.View.{View}
+use Rattle.fx_model.specs.Formed.{are_formed, is_formed}
+use Rattle.fx_model.specs.Machine.{Trace, holds, hops_and_reasons, Decides, Traces}
+use Rattle.fx_model.specs.Policy.{Outcome, packet_verdict}
+use Rattle.fx_model.specs.Ranks.{IsRanked}
+use Rattle.fx_model.specs.Resources.{after}
+use Rattle.fx_model.specs.Tables.{ChainName, Tables, forward, tables_of}
+use Rattle.fx_model.specs.ViewPolicy.{HasLoneLocal, IsServable}
+use Rattle.fx_model.specs.Closed.{IsClosedView}
+use Rattle.fx_model.specs.Views.{view_of, empty_view}
+use Rattle.fx_model.specs.Walk.{Ended, verdict_of, noted_in}
+use Rattle.fx_model.proofs.FormedLemmas.{are_formed-after}
+use Rattle.fx_model.proofs.Leading.{ranked-tables}
+use Rattle.fx_model.proofs.ViewClosed.{view_of-closed}
+use Rattle.fx_walk.proofs.Agree.{policy_is_kept, traced_decides, run_has_one_end}
+use Rattle.fx_walk.proofs.Families.{first_there}
+use Rattle.fx_walk.proofs.Servable.{lone_local}
+use Rattle.fx_walk.proofs.Walks.{ended-run, one-end}
+use Rattle.fx_json.specs.declared.refusal.Refusal.{Refusal}
+use Rattle.fx_json.specs.declared.refusal.Refusal.TheVariants.{Unsupported}
+use Rattle.fx_lines.specs.declared.commands.Command.{Command}
+use Rattle.fx_lines.specs.declared.commands.Command.TheVariants as command
+use Rattle.fx_lines.specs.Commands.{command_of}
+use Rattle.fx_lines.specs.Formed.{is_formed_command}
+use Rattle.fx_lines.proofs.Kept.{command_of-formed}
+use Rattle.fx_print.specs.PacketTexts.{packet_lines}
+use Rattle.felix_replay.specs.Engine.{IsKept}
+use Rattle.felix_replay.specs.declared.engine.Engine.{Engine}
+use Rattle.felix_replay.specs.Run.{state_after}
+use Rattle.felix_replay.specs.PacketRuns.{nothing_traced, packet_run, run_lines, packet_text}
+use Rattle.felix_replay.specs.Output.{State, start, is_second_local, update_answer, checked, answer_of, step, next, command_text, answer_text, text}
+use Rattle.felix_replay.specs.Policed.{policy_lines, TellsPolicy, KeepsPolicy}
+use Rattle.felix_replay.proofs.EmptyView.{empty_view-closed, start-formed}
+use Rattle.felix_replay.proofs.Lone.{lone-after}
+
+-- ---- the engine
+
+pub first_closed : IsClosedView empty_view
+first_closed = empty_view-closed
+
+pub wanted_closed : (R : Resources) → IsClosedView (view_of R)
+wanted_closed = view_of-closed
+
+pub kept_first : (e : Engine) → IsKept e → maps.contains_key e.tables.chains forward ≡ true
+kept_first e kept = subst (λ (t : Tables). maps.contains_key t.chains forward ≡ true) (sym kept.rendered) (first_there e.sent)
+
+pub kept_ranked : (e : Engine) → IsKept e → IsRanked e.tables.chains
+kept_ranked e kept = subst (λ (t : Tables). IsRanked t.chains) (sym kept.rendered) (ranked-tables e.sent kept.closed)
+
+-- where a run ends so, the packet's text is this
+pub run_text : (tables : Tables) (a : Packet) → IsRanked tables.chains → (path : List (ChainName × ℕ)) (v : Verdict) (e i : Option Reason) → Traces tables a [] path v e i
+    → concat (packet_lines path a.iface_in a.iface_out e i v) ≡ packet_text tables a
+run_text tables a ranked path v e i run =
+    let end = one-end {S = Trace} hops_and_reasons (holds a) tables.chains run.1 (ended-run hops_and_reasons (holds a) tables.chains ranked nothing_traced) in
+    ap (λ (w : Verdict). concat (packet_lines path a.iface_in a.iface_out e i w)) end.0
+    ∙ ap (λ (t : Trace). concat (packet_lines t.hops a.iface_in a.iface_out t.reasons.egress t.reasons.ingress (verdict_of (packet_run tables a)))) end.1
+
+-- ---- what is accepted stays servable
+
+record IsSafe (R : Resources) : Type 0 where
+  formed : are_formed R ≡ true
+  lone : HasLoneLocal R
+
+nothing_there : {A : Type 0} (e : Endpoint) → None ≡ Some e → A
+nothing_there e is = cc
+
+start-safe : (node : List ℕ) → IsSafe (start node).resources
+start-safe node = record { formed = start-formed node; lone = λ k l e f there at s t. nothing_there e (sym (get_empty k) ∙ there) }
+
+updated-safe : (s : State) → IsSafe s.resources → (u : Update) → is_formed u ≡ true → (b : Bool) → is_second_local s.resources u ≡ b → IsSafe (step s (if b then Err (Unsupported (codes "put")) else Ok (command.Update u))).resources
+updated-safe s safe u formed true is = safe
+updated-safe s safe u formed false is = record { formed = are_formed-after s.resources safe.formed u formed; lone = lone-after s.resources safe.lone u is }
+
+stepped-safe : (s : State) → IsSafe s.resources → (said : Result Command Refusal) → IfOk said (λ c. is_formed_command c ≡ true) → IsSafe (step s (checked s.resources said)).resources
+stepped-safe s safe (Ok command.Blank) formed = safe
+stepped-safe s safe (Ok command.Tables) formed = safe
+stepped-safe s safe (Ok command.Flush) formed = safe
+stepped-safe s safe (Ok (command.Update u)) formed = updated-safe s safe u formed (is_second_local s.resources u) refl
+stepped-safe s safe (Ok (command.Packet a)) formed = safe
+stepped-safe s safe (Err r) formed = safe
+
+along-safe : (s : State) (lines : List (List ℕ)) → IsSafe s.resources → IsSafe (state_after next s lines).resources
+unfolding state_after
+along-safe s [] safe = safe
+along-safe s (line ∷ lines) safe = along-safe (next s line) lines (stepped-safe s safe (command_of line) (command_of-formed line))
+
+-- ---- after a flush
+
+told_policy : (s : State) → IsSafe s.resources → (line : List ℕ) (a : Packet) → answer_of s line ≡ Ok (command.Packet a) → a.state ≡ New → s.sent ≡ view_of s.resources → TellsPolicy s line a
+told_policy s safe line a said new same =
+    let run : Ended Trace = packet_run (tables_of s.sent) a in
+    let noted : Trace = noted_in run in
+    let answer : Outcome = packet_verdict s.resources a in
+    let ranked : IsRanked (tables_of s.sent).chains = subst (λ (v : View). IsRanked (tables_of v).chains) (sym same) (ranked-tables (view_of s.resources) (view_of-closed s.resources)) in
+    let traces : Traces (tables_of s.sent) a [] noted.hops (verdict_of run) noted.reasons.egress noted.reasons.ingress =
+    (noted.reasons.side, ended-run hops_and_reasons (holds a) (tables_of s.sent).chains ranked nothing_traced) in
+    let decides : Decides (tables_of s.sent) a (verdict_of run) noted.reasons.egress noted.reasons.ingress =
+    traced_decides (tables_of s.sent) a ranked [] noted.hops (verdict_of run) noted.reasons.egress noted.reasons.ingress traces in
+    let wanted : Decides (tables_of s.sent) a answer.verdict answer.egress answer.ingress =
+    subst (λ (v : View). Decides (tables_of v) a answer.verdict answer.egress answer.ingress) (sym same) (policy_is_kept s.resources a (lone_local s.resources safe.formed safe.lone) new) in
+    let one = run_has_one_end (tables_of s.sent) a (verdict_of run) answer.verdict noted.reasons.egress answer.egress noted.reasons.ingress answer.ingress decides wanted in
+    record {
+      path = noted.hops;
+      told = ap (answer_text s) said
+          ∙ ap (λ (v : Verdict). concat (packet_lines noted.hops a.iface_in a.iface_out noted.reasons.egress noted.reasons.ingress v)) one.0
+          ∙ ap (λ (e : Option Reason). concat (packet_lines noted.hops a.iface_in a.iface_out e noted.reasons.ingress answer.verdict)) one.1
+          ∙ ap (λ (i : Option Reason). concat (packet_lines noted.hops a.iface_in a.iface_out answer.egress i answer.verdict)) one.2;
+    }
+
+pub keeps_policy : (node : List ℕ) → KeepsPolicy node
+keeps_policy node lines line a said new same = told_policy (state_after next (start node) lines) (along-safe (start node) lines (start-safe node)) line a said new same
