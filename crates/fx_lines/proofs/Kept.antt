@@ -1,25 +1,22 @@
 -- Each update that is read is formed.
-use Rattle.std.proofs.Common.{◌≡◌, ℕ, List, [], ◌∷◌, length, Bool, true, false, ◌&&◌, ◌==◌, not, nat_eq, nat_le, slice_index, cond, Option, Some, None, Result, Ok, Err, IfOk, refl, sym, ◌∙◌, ap, subst}
+use Rattle.std.proofs.Common.{◌≡◌, ℕ, List, ◌∷◌, length, Bool, true, false, ◌&&◌, ◌==◌, not, nat_eq, nat_le, slice_index, Option, Some, None, Result, Ok, Err, IfOk, refl, sym, ◌∙◌, ap, subst}
 use Rattle.std.specs.Prelude.{codes, IfSome, if◌then◌else◌}
 use Rattle.std.specs.List.{list_all, starts_with}
 use Rattle.serde_json.specs.Data.{Data, Items, no_items, item}
 use Rattle.serde_json.specs.Find.{as_str}
-use Rattle.fx_model.specs.declared.ids.ItemKey.{ItemKey}
-use Rattle.fx_model.specs.declared.ids.ItemKey.TheVariants as item_key
-use Rattle.fx_model.specs.declared.ids.Key.TheVariants as key
-use Rattle.fx_model.specs.declared.resources.Item.TheVariants as item_of
+use Rattle.fx_model.specs.declared.packet.Packet.{Packet}
 use Rattle.fx_model.specs.declared.resources.Update.{Update}
-use Rattle.fx_model.specs.declared.resources.Update.TheVariants as update
 use Rattle.fx_model.specs.declared.resources.Endpoint.{Endpoint}
-use Rattle.fx_json.specs.Forms.{is_name, is_namespace, is_name_byte, has_length, is_plain_name, is_workload_interface}
+use Rattle.fx_json.specs.Forms.{is_name, is_name_byte, has_length, is_plain_name, is_workload_interface}
 use Rattle.fx_json.specs.Fields.{and_then, guarded, formed, all_of, each_item, section, text_at, list_at, has_text, field, is_absent, is_object, has_members}
-use Rattle.fx_json.specs.Puts.{plain_name_of, are_labels, is_network, profile_names_of, profile_of, profile_put, endpoint_key_of, endpoint_of, endpoint_put, put_of}
+use Rattle.fx_json.specs.Packets.{packet_of}
+use Rattle.fx_json.specs.Puts.{plain_name_of, is_network, profile_names_of, profile_of, profile_put, endpoint_key_of, endpoint_of, endpoint_put, put_of}
 use Rattle.fx_model.specs.Formed.{is_formed_profile_name, is_formed_endpoint, is_formed}
 use Rattle.fx_lines.specs.Formed.{is_formed_command}
 use Rattle.fx_lines.specs.declared.commands.Command.{Command}
 use Rattle.fx_lines.specs.declared.commands.Command.TheVariants.{Blank}
 use Rattle.fx_json.specs.declared.refusal.Refusal.{Refusal}
-use Rattle.fx_lines.specs.Commands.{is_blank_byte, value_of, is_true, shaped, at_member, put_answer, by_name, of_value, command_of}
+use Rattle.fx_lines.specs.Commands.{is_blank_byte, value_of, is_true, shaped, at_member, put_answer, packet_answer, by_name, of_value, command_of}
 
 -- ---- what a reading says of what it gives
 
@@ -162,13 +159,17 @@ put_answer-if : (o : Option Update) → IfSome o (λ u. is_formed u ≡ true) �
 put_answer-if None holds = tt
 put_answer-if (Some u) holds = holds
 
+packet_answer-if : (answer : Result Packet Refusal) → IfOk (packet_answer answer) (λ c. is_formed_command c ≡ true)
+packet_answer-if (Ok p) = refl
+packet_answer-if (Err refusal) = tt
+
 by_name-formed : (d : Data) → IfOk (by_name d) (λ c. is_formed_command c ≡ true)
 by_name-formed d =
     at_member-if P (field (codes "put") d) _ _ (λ v. shaped-if P (is_object v) _ (put_answer-if (put_of v) (put_of-formed v)))
     (at_member-if P (field (codes "delete") d) _ _ (λ v. shaped-if P (is_object v) _ tt)
     (at_member-if P (field (codes "inSync") d) _ _ (λ v. shaped-if P (is_true v) _ refl)
     (at_member-if P (field (codes "flush") d) _ _ (λ v. shaped-if P (has_members 0 v) _ refl)
-    (at_member-if P (field (codes "packet") d) _ _ (λ v. shaped-if P (is_object v) _ tt)
+    (at_member-if P (field (codes "packet") d) _ _ (λ v. shaped-if P (is_object v) _ (packet_answer-if (packet_of v)))
     (at_member-if P (field (codes "tables") d) _ _ (λ v. shaped-if P (is_true v) _ refl) tt)))))
   where
     P : Command → Type 0

@@ -1,10 +1,11 @@
 -- What a line says: a JSON text (RFC 8259) in UTF-8, as `serde_json` reads it, that is an object with exactly one member.
-use Rattle.std.specs.Prelude.{ℕ, List, Bool, true, false, ◌&&◌, ◌||◌, ◌==◌, if◌then◌else◌, Option, Some, None, Result, Ok, Err, codes}
+use Rattle.std.specs.Prelude.{ℕ, List, Bool, false, ◌||◌, ◌==◌, if◌then◌else◌, Option, Some, None, Result, Ok, Err, codes}
 use Rattle.std.specs.List.{list_all}
 use Rattle.std.specs.Str.{is_utf8}
 use Rattle.serde_json.specs.Data.{Data}
 use Rattle.serde_json.specs.Read.{read}
 use Rattle.serde_json.specs.Find.{as_bool}
+use Rattle.fx_model.specs.declared.packet.Packet.{Packet}
 use Rattle.fx_model.specs.declared.resources.Update.{Update}
 use Rattle.fx_model.specs.declared.resources.Update.TheVariants as update
 use Rattle.fx_lines.specs.declared.commands.Command.{Command}
@@ -12,6 +13,7 @@ use Rattle.fx_lines.specs.declared.commands.Command.TheVariants as command
 use Rattle.fx_json.specs.declared.refusal.Refusal.{Refusal}
 use Rattle.fx_json.specs.declared.refusal.Refusal.TheVariants.{BadJson, BadLine, Unsupported}
 use Rattle.fx_json.specs.Fields.{field, is_object, has_members}
+use Rattle.fx_json.specs.Packets.{packet_of}
 use Rattle.fx_json.specs.Puts.{put_of}
 
 -- spaces, tabs and carriage returns
@@ -43,6 +45,10 @@ abbrev pub put_answer : Option Update → Result Command Refusal
 put_answer None = Err (Unsupported (codes "put"))
 put_answer (Some u) = Ok (command.Update u)
 
+abbrev pub packet_answer : Result Packet Refusal → Result Command Refusal
+packet_answer (Ok p) = Ok (command.Packet p)
+packet_answer (Err refusal) = Err refusal
+
 -- by the name of the one member
 abbrev pub by_name : Data → Result Command Refusal
 by_name d =
@@ -50,7 +56,7 @@ by_name d =
     (at_member (field (codes "delete") d) (λ v. shaped (is_object v) (Err (Unsupported (codes "delete"))))
     (at_member (field (codes "inSync") d) (λ v. shaped (is_true v) (Ok (command.Update update.InSync)))
     (at_member (field (codes "flush") d) (λ v. shaped (has_members 0 v) (Ok command.Flush))
-    (at_member (field (codes "packet") d) (λ v. shaped (is_object v) (Err (Unsupported (codes "packet"))))
+    (at_member (field (codes "packet") d) (λ v. shaped (is_object v) (packet_answer (packet_of v)))
     (at_member (field (codes "tables") d) (λ v. shaped (is_true v) (Ok command.Tables))
     (Err BadLine))))))
 

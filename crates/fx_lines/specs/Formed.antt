@@ -9,3 +9,4 @@ is_formed_command command.Blank = true
 is_formed_command command.Tables = true
 is_formed_command command.Flush = true
 is_formed_command (command.Update u) = is_formed u
+is_formed_command (command.Packet p) = true

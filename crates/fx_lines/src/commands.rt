@@ -3,13 +3,14 @@ ghost use Rattle.std.specs.Prelude.{◌≡◌, IfOk, Some, Ok, Err, true};
 ghost use Rattle.std.specs.List.{list_all};
 ghost use Rattle.serde_json.specs.View.{view};
 ghost use Rattle.fx_json.specs.Fields.{is_object};
+ghost use Rattle.fx_json.specs.Packets.{packet_of};
 ghost use Rattle.fx_json.specs.Puts.{put_of};
-ghost use Rattle.fx_lines.specs.Commands.{is_blank_byte, is_true, by_name, command_of, shaped, of_value, put_answer};
+ghost use Rattle.fx_lines.specs.Commands.{is_blank_byte, is_true, by_name, command_of, shaped, of_value, put_answer, packet_answer};
 ghost use Rattle.fx_lines.specs.Formed.{is_formed_command};
 
 use fx_base::{Memory, Text};
-use fx_json::{Refusal, field, has_members, read_put};
-use fx_model::Update;
+use fx_json::{Refusal, field, has_members, read_packet, read_put};
+use fx_model::{Packet, Update};
 use serde_json::Value;
 use std::alloc::Global;
 
@@ -20,6 +21,7 @@ pub enum Command {
     Tables,
     Flush,
     Update(Update),
+    Packet(Packet),
 }
 
 /// The command of a line, or its refusal.
@@ -68,7 +70,7 @@ fn command_by_name(alloc: Global, value: &Value) -> Result<Result<Command, Refus
         return Ok(shaped(has_members(limits, 0), Command::Flush));
     }
     if let Some(packet) = field(value, "packet") {
-        return unsupported(alloc, packet.is_object(), b"packet");
+        return packet_command(alloc, packet);
     }
     if let Some(mark) = field(value, "tables") {
         return Ok(shaped(is_true(mark), Command::Tables));
@@ -85,6 +87,18 @@ fn put_command(alloc: Global, resource: &Value) -> Result<Result<Command, Refusa
     match read_put(alloc, resource)? {
         Some(update) => Ok(Ok(Command::Update(update))),
         None => unsupported(alloc, true, b"put"),
+    }
+}
+
+fn packet_command(alloc: Global, packet: &Value) -> Result<Result<Command, Refusal>, Memory>
+    ensures { IfOk result (λ answer. answer ≡ shaped (is_object (view packet.now)) (packet_answer (packet_of (view packet.now)))) }
+{
+    if !packet.is_object() {
+        return Ok(Err(Refusal::BadLine));
+    }
+    match read_packet(alloc, packet)? {
+        Ok(packet) => Ok(Ok(Command::Packet(packet))),
+        Err(refusal) => Ok(Err(refusal)),
     }
 }
 

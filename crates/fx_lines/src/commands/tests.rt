@@ -8,6 +8,7 @@ fn told(answer: &Result<Command, Refusal>) -> &'static str {
         Ok(Command::Blank) => "blank",
         Ok(Command::Tables) => "tables",
         Ok(Command::Flush) => "flush",
+        Ok(Command::Packet(_)) => "a packet",
         Ok(Command::Update(Update::InSync)) => "in sync",
         Ok(Command::Update(Update::Put { key: _, item })) => match item {
             Item::Profile(_) => "profile",
@@ -18,7 +19,6 @@ fn told(answer: &Result<Command, Refusal>) -> &'static str {
         Err(Refusal::Unsupported { path }) => match path.bytes() {
             b"put" => "put",
             b"delete" => "delete",
-            b"packet" => "packet",
             _ => "another path",
         },
         Err(Refusal::MissingField { .. } | Refusal::BadField { .. }) => "a field",
@@ -66,7 +66,11 @@ fn each_line_has_its_answer(rt: HostRuntime) -> Result<(), Fail> {
         ("{\"packet\":\"\"}", "bad line"),
         ("{\"put\":{}}", "put"),
         ("{\"delete\":{}}", "delete"),
-        ("{\"packet\":{\"in\":\"eth0\"}}", "packet"),
+        ("{\"packet\":{}}", "a field"),
+        (
+            "{\"packet\":{\"in\":\"eth0\",\"out\":\"cali1\",\"src\":\"10.0.0.1\",\"dst\":\"10.0.0.2\",\"proto\":\"udp\"}}",
+            "a packet",
+        ),
     ];
     for (line, want) in lines {
         let answer = read_command(alloc, line.as_bytes())?;

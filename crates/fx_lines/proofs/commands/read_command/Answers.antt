@@ -1,4 +1,4 @@
-use Rattle.std.proofs.Common.{◌≡◌, true, Some, Result, IfOk, sym, ◌∙◌, ap, subst}
+use Rattle.std.proofs.Common.{◌≡◌, true, Some, Result, IfOk, sym, ◌∙◌, subst}
 use Rattle.serde_json.specs.View.{view}
 use Rattle.fx_lines.specs.declared.commands.Command.{Command}
 use Rattle.fx_json.specs.declared.refusal.Refusal.{Refusal}
