@@ -3,7 +3,7 @@ use Rattle.std.proofs.Common.{◌≡◌, ℕ, List, [], ◌∷◌, Bool, true, f
 use Rattle.std.specs.Prelude.{IfOk, if◌then◌else◌, codes}
 use Rattle.std.specs.List.{concat}
 use Rattle.std.specs.FinMap as maps
-use Rattle.fx_base.proofs.AtKey.{get_empty}
+use Rattle.fx_model.specs.contracts.ids.ItemKeyOrd.TheImpl as item_cmp
 use Rattle.fx_model.specs.declared.packet.Packet.{Packet}
 use Rattle.fx_model.specs.declared.packet.State.TheVariants.{New}
 use Rattle.fx_model.specs.declared.packet.Verdict.{Verdict}
@@ -20,7 +20,7 @@ use Rattle.fx_model.specs.Resources.{after}
 use Rattle.fx_model.specs.Tables.{ChainName, Tables, forward, tables_of}
 use Rattle.fx_model.specs.ViewPolicy.{HasLoneLocal, IsServable}
 use Rattle.fx_model.specs.Closed.{IsClosedView}
-use Rattle.fx_model.specs.Views.{view_of, empty_view}
+use Rattle.fx_model.specs.Views.{view_of}
 use Rattle.fx_model.specs.Walk.{Ended, verdict_of, noted_in}
 use Rattle.fx_model.proofs.FormedLemmas.{are_formed-after}
 use Rattle.fx_model.proofs.Leading.{ranked-tables}
@@ -43,13 +43,10 @@ use Rattle.felix_replay.specs.Run.{state_after}
 use Rattle.felix_replay.specs.PacketRuns.{nothing_traced, packet_run, run_lines, packet_text}
 use Rattle.felix_replay.specs.Output.{State, start, is_second_local, update_answer, checked, answer_of, step, next, command_text, answer_text, text}
 use Rattle.felix_replay.specs.Policed.{policy_lines, TellsPolicy, KeepsPolicy}
-use Rattle.felix_replay.proofs.EmptyView.{empty_view-closed, start-formed}
+use Rattle.felix_replay.proofs.EmptyView.{start-formed}
 use Rattle.felix_replay.proofs.Lone.{lone-after}
 
 -- ---- the engine
-
-pub first_closed : IsClosedView empty_view
-first_closed = empty_view-closed
 
 pub wanted_closed : (R : Resources) → IsClosedView (view_of R)
 wanted_closed = view_of-closed
@@ -68,6 +65,11 @@ run_text tables a ranked path v e i run =
     ap (λ (w : Verdict). concat (packet_lines path a.iface_in a.iface_out e i w)) end.0
     ∙ ap (λ (t : Trace). concat (packet_lines t.hops a.iface_in a.iface_out t.reasons.egress t.reasons.ingress (verdict_of (packet_run tables a)))) end.1
 
+pub kept_text : (e : Engine) → IsKept e → (a : Packet) (path : List (ChainName × ℕ)) (v : Verdict) (egress ingress : Option Reason) → Traces e.tables a [] path v egress ingress
+    → concat (packet_lines path a.iface_in a.iface_out egress ingress v) ≡ packet_text (tables_of e.sent) a
+kept_text e kept a path v egress ingress run =
+    run_text e.tables a (kept_ranked e kept) path v egress ingress run ∙ ap (λ (t : Tables). packet_text t a) kept.rendered
+
 -- ---- what is accepted stays servable
 
 record IsSafe (R : Resources) : Type 0 where
@@ -78,7 +80,7 @@ nothing_there : {A : Type 0} (e : Endpoint) → None ≡ Some e → A
 nothing_there e is = cc
 
 start-safe : (node : List ℕ) → IsSafe (start node).resources
-start-safe node = record { formed = start-formed node; lone = λ k l e f there at s t. nothing_there e (sym (get_empty k) ∙ there) }
+start-safe node = record { formed = start-formed node; lone = λ k l e f there at s t. nothing_there e (sym (maps.get-empty item_cmp.cmp-value.it k) ∙ there) }
 
 updated-safe : (s : State) → IsSafe s.resources → (u : Update) → is_formed u ≡ true → (b : Bool) → is_second_local s.resources u ≡ b → IsSafe (step s (if b then Err (Unsupported (codes "put")) else Ok (command.Update u))).resources
 updated-safe s safe u formed true is = safe

@@ -1,6 +1,6 @@
 //! Answers one line after another.
 ghost use Rattle.std.specs.Prelude.{◌≡◌, ◌+◌, ◌-◌, ◌^◌, ◌<◌, ◌≤◌, ◌&&◌, not, OnOk, OnErr, IfOk, Ok, Err, true};
-ghost use Rattle.std.specs.List.{list_any};
+ghost use Rattle.std.specs.List.{concat, list_any};
 ghost use Rattle.std.specs.FinMap as maps;
 ghost use Rattle.fx_model.specs.Formed.{is_formed};
 ghost use Rattle.fx_model.specs.Resources.{after, is_local};
@@ -10,6 +10,7 @@ ghost use Rattle.fx_model.specs.contracts.ids.ItemKeyPartialEq.TheImpl as item_e
 ghost use Rattle.fx_print.specs.Texts.{refusal_line, flushed_line};
 ghost use Rattle.fx_lines.specs.Formed.{is_formed_command};
 ghost use Rattle.felix_replay.specs.Output.{start, next, text, checked, update_answer, step, answer_text, is_second_local, flush_text, command_text};
+ghost use Rattle.felix_replay.specs.PacketRuns.{packet_text};
 ghost use Rattle.felix_replay.specs.Writing.{Writes};
 
 use crate::driver::tables_of;
@@ -38,7 +39,6 @@ pub struct Engine {
 impl Engine {
     ghost use Rattle.felix_replay.specs.Engine.{state_of, IsKept};
 
-    #[tactic(auto, using(fx_base::proofs::AtKey::reads, crate::proofs::Policing::first_closed))]
     pub fn new(alloc: Global, node: Text) -> Result<Engine, Memory>
         ensures state { IfOk result (λ e. state_of e ≡ start node) }
         ensures kept { IfOk result IsKept }
@@ -105,23 +105,30 @@ impl Engine {
         put_all(&lines, sink)
     }
 
-    // What the tables decide on a packet, and why.
-    #[tactic(auto, using(crate::proofs::Policing::kept_first, crate::proofs::Policing::kept_ranked, crate::proofs::Policing::run_text))]
     fn put_packet<K: Sink>(&self, packet: &Packet, sink: &mut K) -> Result<(), Stop>
         requires kept { IsKept self.now }
         ensures writes { Writes (K.held sink.old) (K.held sink.new) (K.faults sink.old) (K.faults sink.new) (command_text (state_of self.now) (Command.Packet packet.now)) result }
     {
+        let lines = self.decided(packet)?;
+        put_all(&lines, sink)
+    }
+
+    // What the tables decide on a packet, and why.
+    #[tactic(auto, using(crate::proofs::Policing::kept_first, crate::proofs::Policing::kept_text))]
+    fn decided(&self, packet: &Packet) -> Result<Vec<Text>, Memory>
+        requires kept { IsKept self.now }
+        ensures { IfOk result (λ lines. concat lines.items ≡ packet_text (tables_of self.now.sent) packet.now) }
+    {
         let mut path = Vec::new(self.alloc);
         let outcome = trace(&self.tables, packet, &mut path)?;
-        let lines = packet_texts(
+        packet_texts(
             self.alloc,
             packet,
             path.as_slice(),
             outcome.egress,
             outcome.ingress,
             outcome.verdict,
-        )?;
-        put_all(&lines, sink)
+        )
     }
 
     fn refuse<K: Sink>(&mut self, refusal: &Refusal, sink: &mut K) -> Result<(), Stop>

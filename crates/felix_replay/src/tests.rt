@@ -165,61 +165,53 @@ const STRANGERS: &str =
 const BOTH_SIDES: &str =
     "{\"packet\":{\"in\":\"cali1\",\"out\":\"cali1\",\"src\":\"10.0.0.1\",\"dst\":\"10.0.0.1\",\"proto\":\"UDP\",\"sport\":53,\"dport\":53}}\n";
 
+const TOLD: [&str; 6] = [
+    "path cali-FORWARD:2 cali-from-wl-dispatch:1 cali-fw-cali1:4 cali-pro-open:1\negress cali1 profile open 1\nverdict allow\n",
+    "path cali-FORWARD:2 cali-from-wl-dispatch:1 cali-fw-cali1:1\negress cali1 established\nverdict allow\n",
+    "path cali-FORWARD:2 cali-from-wl-dispatch:1 cali-fw-cali1:2\negress cali1 invalid\nverdict deny\n",
+    "path cali-FORWARD:2 cali-from-wl-dispatch:2\negress cali9 unknown-interface\nverdict deny\n",
+    "path -\nverdict allow\n",
+    "path cali-FORWARD:2 cali-from-wl-dispatch:1 cali-fw-cali1:4 cali-pro-open:1 cali-FORWARD:3 cali-to-wl-dispatch:1 cali-tw-cali1:4 cali-pri-open:1\negress cali1 profile open 1\ningress cali1 profile open 1\nverdict allow\n",
+];
+
+const MISSING: &str =
+    "profile open open missing\nendpoint cali1 a/w1 in - out - profiles open\nflushed 2\npath cali-FORWARD:2 cali-from-wl-dispatch:1 cali-fw-cali1:4 cali-pro-open:1\negress cali1 missing-profile open\nverdict deny\n";
+
 #[test]
 fn each_packet_is_told_its_path_and_its_reasons(rt: HostRuntime) -> Result<(), Fail> {
     let alloc = rt.alloc();
-    let input = joined(
-        alloc,
-        &[
-            OPEN, ENDPOINT, SYNC, PACKET, FLUSH, PACKET, STATES, STRANGERS, BOTH_SIDES,
-        ],
-    )?;
-    let (status, held) = replayed(alloc, input)?;
-    let want = joined(
-        alloc,
-        &[
-            "path cali-FORWARD:2 cali-from-wl-dispatch:1\negress cali1 unknown-interface\nverdict deny\n",
-            SENT,
-            "path cali-FORWARD:2 cali-from-wl-dispatch:1 cali-fw-cali1:4 cali-pro-open:1\negress cali1 profile open 1\nverdict allow\n",
-            "path cali-FORWARD:2 cali-from-wl-dispatch:1 cali-fw-cali1:1\negress cali1 established\nverdict allow\n",
-            "path cali-FORWARD:2 cali-from-wl-dispatch:1 cali-fw-cali1:2\negress cali1 invalid\nverdict deny\n",
-            "path cali-FORWARD:2 cali-from-wl-dispatch:2\negress cali9 unknown-interface\nverdict deny\n",
-            "path -\nverdict allow\n",
-            "path cali-FORWARD:2 cali-from-wl-dispatch:1 cali-fw-cali1:4 cali-pro-open:1 cali-FORWARD:3 cali-to-wl-dispatch:1 cali-tw-cali1:4 cali-pri-open:1\negress cali1 profile open 1\ningress cali1 profile open 1\nverdict allow\n",
-        ],
-    )?;
-    assert_eq!(rt; status, Status::Done);
-    assert_eq!(rt; held.as_slice(), want.as_slice());
-    Ok(())
-}
-
-#[test]
-fn a_profile_that_is_missing_lets_nothing_pass(rt: HostRuntime) -> Result<(), Fail> {
-    let alloc = rt.alloc();
-    let input = joined(alloc, &[ENDPOINT, SYNC, FLUSH, PACKET, OPEN, FLUSH])?;
-    let (status, held) = replayed(alloc, input)?;
-    let want = joined(
-        alloc,
-        &[
-            "profile open open missing\nendpoint cali1 a/w1 in - out - profiles open\nflushed 2\n",
-            "path cali-FORWARD:2 cali-from-wl-dispatch:1 cali-fw-cali1:4 cali-pro-open:1\negress cali1 missing-profile open\nverdict deny\n",
-            "profile open open in 1 out 1\nflushed 1\n",
-        ],
-    )?;
-    assert_eq!(rt; status, Status::Done);
-    assert_eq!(rt; held.as_slice(), want.as_slice());
-    Ok(())
-}
-
-#[test]
-fn a_packet_with_a_fault_is_refused(rt: HostRuntime) -> Result<(), Fail> {
-    let alloc = rt.alloc();
-    let input = joined(alloc, &["{\"packet\":{\"in\":\"eth0\"}}\n"])?;
-    let (status, held) = replayed(alloc, input)?;
-    assert_eq!(rt; status, Status::Refused);
-    assert_eq!(rt;
-        held.as_slice(),
-        b"refused 1 2 MissingField packet.out\n".as_slice()
-    );
+    let rows = [
+        (
+            joined(
+                alloc,
+                &[
+                    OPEN, ENDPOINT, SYNC, FLUSH, PACKET, STATES, STRANGERS, BOTH_SIDES,
+                ],
+            )?,
+            Status::Done,
+            joined(
+                alloc,
+                &[SENT, TOLD[0], TOLD[1], TOLD[2], TOLD[3], TOLD[4], TOLD[5]],
+            )?,
+        ),
+        (
+            joined(alloc, &[ENDPOINT, SYNC, FLUSH, PACKET, OPEN, FLUSH])?,
+            Status::Done,
+            joined(
+                alloc,
+                &[MISSING, "profile open open in 1 out 1\nflushed 1\n"],
+            )?,
+        ),
+        (
+            joined(alloc, &["{\"packet\":{\"in\":\"eth0\"}}\n"])?,
+            Status::Refused,
+            joined(alloc, &["refused 1 2 MissingField packet.out\n"])?,
+        ),
+    ];
+    for (input, status, want) in rows {
+        let (found, held) = replayed(alloc, input)?;
+        assert_eq!(rt; found, status);
+        assert_eq!(rt; held.as_slice(), want.as_slice());
+    }
     Ok(())
 }

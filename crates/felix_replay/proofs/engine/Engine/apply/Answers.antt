@@ -6,5 +6,6 @@ use Rattle.felix_replay.proofs.engine.Engine.apply.Goals as goal
 pub returns-clause-kept : goal.returns-clause-kept
 returns-clause-kept c = record {
   formed = ap are_formed c.in_ok-apply.ensures.ok ∙ are_formed-after c.args.self.now.resources c.requires.kept.formed c.args.update c.requires.formed;
+  closed = c.requires.kept.closed;
   rendered = c.requires.kept.rendered;
 }

@@ -13,5 +13,6 @@ tables_of-requires-clause-formed c = ap is_formed_view c.new-sent.ensures ∙ em
 pub returns-clause-kept : goal.returns-clause-kept
 returns-clause-kept c = record {
   formed = ap are_formed c.new.ensures ∙ start-formed c.args.node;
+  closed = rw c.new-sent.ensures empty_view-closed;
   rendered = c.in_ok-tables.ensures;
 }
