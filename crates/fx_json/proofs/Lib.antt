@@ -1,1 +1,2 @@
 pub mod AllOf
+mod ShortTexts

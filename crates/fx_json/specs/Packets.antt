@@ -2,7 +2,7 @@
 -- Calico's resource reference, protocols as its policies name them or by their numbers in IANA's list, ICMP's types and codes by their
 -- numbers (RFC 792), and the states of connections as in iptables-extensions(8). A number is a JSON number that is written as an
 -- integer. Members that aren't named here are ignored.
-use Rattle.std.specs.Prelude.{◌++◌, ◌&&◌, ◌≡◌, ℕ, List, length, nat_le, if◌then◌else◌, Option, Some, None, option_map, Result, Ok, Err, codes, ⊤}
+use Rattle.std.specs.Prelude.{◌++◌, ◌&&◌, ◌≡◌, ℕ, List, nat_le, if◌then◌else◌, Option, Some, None, option_map, Result, Ok, Err, codes, ⊤}
 use Rattle.std.specs.Str.{bytes_eq}
 use Rattle.serde_json.specs.Data.{Data}
 use Rattle.serde_json.specs.Find.{as_str, as_number, as_u64}
@@ -24,17 +24,13 @@ use Rattle.fx_json.specs.Fields.{and_then, guarded, field, formed}
 abbrev pub interface_of : Data → Option (List ℕ)
 interface_of d = formed is_interface (as_str d)
 
--- an IPv4 address, which has at most 15 bytes
+-- an IPv4 address
 abbrev pub ipv4_of : Data → Option Ipv4
-ipv4_of d = and_then (as_str d) (λ s. guarded (nat_le (length s) 15) (option_map (λ n. record { 0 = n }) (address_of s)))
+ipv4_of d = and_then (as_str d) (λ s. option_map (λ n. record { 0 = n }) (address_of s))
 
 -- a whole number of a range
 abbrev pub whole_of : ℕ → ℕ → Data → Option ℕ
 whole_of low high d = and_then (and_then (as_number d) as_u64) (λ n. guarded (nat_le low n && nat_le n high) (Some n))
-
--- the name of a protocol, which has at most 7 bytes
-abbrev pub named_proto : List ℕ → Option ℕ
-named_proto s = guarded (nat_le (length s) 7) (protocol_of s)
 
 -- a text is a protocol's name, and a number its number
 abbrev pub proto_of : Data → Option Proto
@@ -42,7 +38,7 @@ proto_of d = option_map (λ n. record { 0 = n }) (by_text (as_str d))
   where
     by_text : Option (List ℕ) → Option ℕ
     by_text None = whole_of 1 255 d
-    by_text (Some s) = named_proto s
+    by_text (Some s) = protocol_of s
 
 abbrev pub port_of : Data → Option ℕ
 port_of = whole_of 0 65535

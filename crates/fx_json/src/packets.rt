@@ -1,10 +1,11 @@
 //! Reads the packet that a line asks about, and tells its first fault.
 ghost use Rattle.std.specs.Prelude.{◌≡◌, ◌≤◌, Ok, IfOk, IfSome, MatchResult, option_map};
 ghost use Rattle.serde_json.specs.View.{view};
+ghost use Rattle.fx_base.specs.TextValues.{protocol_of};
 ghost use Rattle.fx_model.specs.declared.packet.State.TheVariants.{New};
 ghost use Rattle.fx_json.specs.declared.packets.Fault.TheVariants as fault;
 ghost use Rattle.fx_json.specs.declared.refusal.Refusal.TheVariants.{MissingField, BadField};
-ghost use Rattle.fx_json.specs.Packets.{interface_of, ipv4_of, whole_of, proto_of, named_proto, port_of, icmp_of, state_of, state_named, packet_path, required, optional, packet_of, IsFault};
+ghost use Rattle.fx_json.specs.Packets.{interface_of, ipv4_of, whole_of, proto_of, port_of, icmp_of, state_of, state_named, packet_path, required, optional, packet_of, IsFault};
 
 use crate::fields::field;
 use crate::forms::is_interface;
@@ -14,6 +15,7 @@ use fx_model::{Packet, State};
 use serde_json::Value;
 use std::alloc::Global;
 
+// Why a member isn't read.
 enum Fault {
     Refused(Refusal),
     Memory,
@@ -22,7 +24,7 @@ enum Fault {
 impl From<Memory> for Fault {
     ghost from_gives = { λ _ e. e ≡ fault.Memory };
 
-    fn from(_wanted: Memory) -> Self {
+    fn from(_memory: Memory) -> Self {
         Fault::Memory
     }
 }
@@ -163,6 +165,7 @@ fn packet_path(alloc: Global, key: &str) -> Result<Text, Memory>
 }
 
 // ---- values
+// A text is read only up to the length of the longest one of its form, since the readers are for less than 2^32 bytes.
 
 fn interface(value: &Value) -> Option<&str>
     ensures { option_map (λ text. text.now) result ≡ interface_of (view value.now) }
@@ -175,6 +178,7 @@ fn interface(value: &Value) -> Option<&str>
     }
 }
 
+#[tactic(auto, using(crate::proofs::ShortTexts::long_address))]
 fn ipv4(value: &Value) -> Option<Ipv4>
     ensures { result ≡ ipv4_of (view value.now) }
 {
@@ -195,8 +199,9 @@ fn proto(value: &Value) -> Option<Proto>
     }
 }
 
+#[tactic(auto, using(crate::proofs::ShortTexts::long_protocol))]
 fn named_proto(name: &[u8]) -> Option<Proto>
-    ensures { option_map (λ proto. proto.0) result ≡ named_proto name.now }
+    ensures { option_map (λ proto. proto.0) result ≡ protocol_of name.now }
 {
     if name.len() <= 7 {
         Proto::read(name).ok()
