@@ -1,9 +1,7 @@
 -- The empty view names nothing.
-use Rattle.std.proofs.Common.{◌≡◌, ℕ, List, true, None, Some, sym, ◌∙◌, ap, refl}
-use Rattle.std.specs.List.{list_all}
+use Rattle.std.proofs.Common.{◌≡◌, ℕ, List, true, None, Some, sym, ◌∙◌, refl}
 use Rattle.std.specs.Ordering.{nat_cmp}
 use Rattle.std.specs.Cmp.Lexicographic.{slice_cmp}
-use Rattle.std.specs.FinMap as maps
 use Rattle.fx_base.proofs.AtKey.{get_empty}
 use Rattle.fx_base.proofs.Entries.{entries-empty}
 use Rattle.fx_model.specs.declared.view.ViewEndpoint.{ViewEndpoint}

@@ -16,9 +16,8 @@ use Rattle.fx_model.specs.Formed.{are_formed, is_formed}
 use Rattle.fx_model.specs.Machine.{Trace, holds, hops_and_reasons, Decides, Traces}
 use Rattle.fx_model.specs.Policy.{Outcome, packet_verdict}
 use Rattle.fx_model.specs.Ranks.{IsRanked}
-use Rattle.fx_model.specs.Resources.{after}
 use Rattle.fx_model.specs.Tables.{ChainName, Tables, forward, tables_of}
-use Rattle.fx_model.specs.ViewPolicy.{HasLoneLocal, IsServable}
+use Rattle.fx_model.specs.ViewPolicy.{HasLoneLocal}
 use Rattle.fx_model.specs.Closed.{IsClosedView}
 use Rattle.fx_model.specs.Views.{view_of}
 use Rattle.fx_model.specs.Walk.{Ended, verdict_of, noted_in}
@@ -40,9 +39,9 @@ use Rattle.fx_print.specs.PacketTexts.{packet_lines}
 use Rattle.felix_replay.specs.Engine.{IsKept}
 use Rattle.felix_replay.specs.declared.engine.Engine.{Engine}
 use Rattle.felix_replay.specs.Run.{state_after}
-use Rattle.felix_replay.specs.PacketRuns.{nothing_traced, packet_run, run_lines, packet_text}
-use Rattle.felix_replay.specs.Output.{State, start, is_second_local, update_answer, checked, answer_of, step, next, command_text, answer_text, text}
-use Rattle.felix_replay.specs.Policed.{policy_lines, TellsPolicy, KeepsPolicy}
+use Rattle.felix_replay.specs.PacketRuns.{nothing_traced, packet_run, packet_text}
+use Rattle.felix_replay.specs.Output.{State, start, is_second_local, checked, answer_of, step, next, answer_text}
+use Rattle.felix_replay.specs.Policed.{TellsPolicy, KeepsPolicy}
 use Rattle.felix_replay.proofs.EmptyView.{start-formed}
 use Rattle.felix_replay.proofs.Lone.{lone-after}
 

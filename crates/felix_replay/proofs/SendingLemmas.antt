@@ -1,15 +1,12 @@
 -- How a flush goes on by one message.
-use Rattle.std.proofs.Common.{◌≡◌, ℕ, ◌+◌, ◌-◌, ◌^◌, ◌<◌, ◌≤◌, min, List, [], ◌∷◌, ◌++◌, length, map, Bool, true, false, Option, Some, None, is_some, refl, sym, ◌∙◌, ap, arith, append_assoc, subst}
+use Rattle.std.proofs.Common.{◌≡◌, ◌+◌, [], ◌++◌, length, map, true, false, Option, Some, None, is_some, refl, ap, arith}
 use Rattle.std.specs.List.{concat}
-use Rattle.std.specs.Io.KnownBytes.{Appends}
-use Rattle.fx_base.specs.Streams.{AppendsFront}
-use Rattle.fx_base.proofs.Compose.{Appends-more, AppendsFront-after, AppendsFront-longer}
 use Rattle.fx_model.specs.declared.view.View.{View}
-use Rattle.fx_model.specs.Messages.{Change, flush, next_message, step, step_by, step_at, differences}
+use Rattle.fx_model.specs.Messages.{Change, flush, next_message, step, step_by, differences}
 use Rattle.fx_model.proofs.Flushes.{flush-none, flush-some}
 use Rattle.fx_model.proofs.Nearer.{no_message, step-nearer}
 use Rattle.fx_print.specs.MessageTexts.{message_line}
-use Rattle.felix_replay.specs.Output.{first_text, messages_text, told_count}
+use Rattle.felix_replay.specs.Output.{first_text, messages_text}
 
 -- the first message's line and those of the rest
 messages-first : (s w : View) (o : Option Change) → next_message s w ≡ o → messages_text s w ≡ first_text o ++ messages_text (step_by o s w) w

@@ -1,5 +1,5 @@
 -- The parts of an endpoint's chain, joined.
-use Rattle.std.proofs.Common.{◌≡◌, ℕ, List, [], ◌∷◌, ◌++◌, refl, sym, ◌∙◌, ap, append_assoc}
+use Rattle.std.proofs.Common.{◌≡◌, ℕ, List, [], ◌∷◌, ◌++◌, refl, ◌∙◌, ap, append_assoc}
 use Rattle.std.specs.List.{flat_map}
 use Rattle.fx_model.specs.declared.view.ViewTier.{ViewTier}
 use Rattle.fx_model.specs.declared.view.ViewEndpoint.{ViewEndpoint}

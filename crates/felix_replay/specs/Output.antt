@@ -1,6 +1,6 @@
 -- The output of a replay: what each line writes, and what stands between two lines. The rules that it follows are told in the
 -- repository's README.
-use Rattle.std.specs.Prelude.{ℕ, ◌+◌, ◌-◌, ◌^◌, min, List, [], ◌∷◌, ◌++◌, map, length, Bool, true, false, ◌&&◌, not, Option, Some, None, Result, Ok, Err, codes, if◌then◌else◌}
+use Rattle.std.specs.Prelude.{ℕ, ◌+◌, ◌-◌, ◌^◌, min, List, [], ◌++◌, map, length, Bool, true, false, ◌&&◌, not, Option, Some, None, Result, Ok, Err, codes, if◌then◌else◌}
 use Rattle.std.specs.List.{concat, list_any}
 use Rattle.std.specs.FinMap as maps
 use Rattle.fx_model.specs.contracts.ids.ItemKeyPartialEq.TheImpl as item_eq

@@ -7,7 +7,7 @@ use Rattle.fx_model.specs.declared.chain.Target.TheVariants as target
 use Rattle.fx_model.specs.declared.chain.Reason.{Reason}
 use Rattle.fx_model.specs.declared.chain.Reason.TheVariants as reason
 use Rattle.fx_model.specs.declared.chain.ChainRule.{ChainRule}
-use Rattle.fx_model.specs.Tables.{plain, told, set_mark, clear_mark, is_set, is_clear, accept_mark, pass_mark, policy_chain, policy_jumps, profile_chain, endpoint_chain, end_of}
+use Rattle.fx_model.specs.Tables.{plain, told, clear_mark, is_set, is_clear, accept_mark, pass_mark, policy_chain, policy_jumps, profile_chain, endpoint_chain, end_of}
 use Rattle.felix_replay.specs.declared.rules.Owner.{Owner}
 use Rattle.felix_replay.specs.declared.rules.Owner.TheVariants.{Policy, Profile}
 

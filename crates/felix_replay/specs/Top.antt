@@ -1,5 +1,5 @@
 -- What a run of the program did.
-use Rattle.std.specs.Prelude.{if◌then◌else◌, ◌≡◌, ℕ, List, Bool, true, Option, ◌++◌}
+use Rattle.std.specs.Prelude.{if◌then◌else◌, ◌≡◌, ℕ, List, Bool, true, Option}
 use Rattle.std.specs.Io.KnownBytes.{Appends, IsAtEnd}
 use Rattle.fx_base.specs.Streams.{Gives, AppendsFront}
 use Rattle.felix_replay.specs.declared.top.Status.{Status}

@@ -1,7 +1,6 @@
 use Rattle.std.proofs.Common.{◌≡◌, ◌++◌, drop}
-use Rattle.std.specs.List.{flat_map}
 use Rattle.fx_model.specs.Tables.{policy_jumps}
-use Rattle.felix_replay.specs.Rendering.{direction_of, one_tier, profile_jump}
+use Rattle.felix_replay.specs.Rendering.{direction_of}
 use Rattle.felix_replay.proofs.chains.push_policy_jumps.Given as goal
 
 -- with those that are left behind it, the chain is whole

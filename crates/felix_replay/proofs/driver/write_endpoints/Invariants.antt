@@ -2,7 +2,7 @@ use Rattle.std.proofs.Common.{◌≡◌, true}
 use Rattle.std.specs.List.{flat_map, list_all}
 use Rattle.std.specs.FinMap.{entries}
 use Rattle.fx_base.specs.Extended.{extended}
-use Rattle.fx_model.specs.Formed.{is_formed_view_endpoint, is_formed_view_profile}
+use Rattle.fx_model.specs.Formed.{is_formed_view_endpoint}
 use Rattle.fx_model.specs.Tables.{endpoint_chains}
 use Rattle.fx_model.specs.Writing.{CanBeWritten}
 use Rattle.felix_replay.proofs.driver.write_endpoints.Given as goal

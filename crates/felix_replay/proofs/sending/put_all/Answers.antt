@@ -1,9 +1,6 @@
-use Rattle.std.proofs.Common.{◌≡◌, ◌++◌, List, ℕ, sym, subst, arith, drop, ◌+◌}
-use Rattle.std.specs.List.{concat}
-use Rattle.std.specs.Io.KnownBytes.{Appends}
+use Rattle.std.proofs.Common.{arith}
 use Rattle.std.proofs.lemmas.Result.{err_from_is_err_and}
 use Rattle.fx_base.proofs.Compose.{Appends-more}
-use Rattle.felix_replay.specs.Writing.{Writes}
 use Rattle.felix_replay.proofs.Writings.{Writes-stopped, concat-take, concat-split}
 use Rattle.felix_replay.proofs.sending.put_all.Goals as goal
 

@@ -1,12 +1,9 @@
-use Rattle.std.proofs.Common.{◌≡◌, ◌++◌, ◌+◌, ◌-◌, ◌^◌, ◌≤◌, min, length, List, ℕ, [], sym, ◌∙◌, ap, subst, arith, append_assoc, true, false, is_some}
-use Rattle.std.specs.Io.KnownBytes.{Appends}
-use Rattle.std.proofs.lemmas.List.{append-nil}
+use Rattle.std.proofs.Common.{◌≡◌, ◌++◌, length, List, ℕ, sym, ◌∙◌, ap, arith, append_assoc, true, false, is_some}
 use Rattle.std.proofs.lemmas.Result.{err_from_is_err_and}
 use Rattle.fx_base.proofs.Compose.{Appends-more}
 use Rattle.fx_model.specs.declared.view.View.{View}
 use Rattle.fx_model.specs.Messages.{flush, step, next_message, differences}
-use Rattle.felix_replay.specs.Output.{messages_text, first_text, told_count}
-use Rattle.felix_replay.specs.Writing.{Writes}
+use Rattle.felix_replay.specs.Output.{messages_text, first_text}
 use Rattle.felix_replay.proofs.Writings.{Writes-stopped}
 use Rattle.felix_replay.proofs.SendingLemmas.{messages_step, messages_end, reached, none_left, one_fewer, nearer, stays, nothing_told}
 use Rattle.felix_replay.proofs.sending.send.Goals as goal

@@ -1,8 +1,7 @@
-use Rattle.std.proofs.Common.{◌≡◌, ◌+◌, ◌<◌, List, ℕ, [], ◌∷◌, ◌++◌, Bool, true, false, Option, Some, None, refl, sym, ◌∙◌, ap, subst, arith, length}
+use Rattle.std.proofs.Common.{◌≡◌, List, ℕ, [], ◌∷◌, ◌++◌, true, sym, ◌∙◌, ap, subst, arith, length}
 use Rattle.std.specs.Io.KnownBytes.{Appends}
 use Rattle.fx_base.proofs.Compose.{Appends-none}
-use Rattle.fx_base.specs.Streams.{Gives}
-use Rattle.fx_lines.specs.Reading.{HasRead, IsNext}
+use Rattle.fx_lines.specs.Reading.{HasRead}
 use Rattle.fx_lines.specs.Held.{rest_of, line_of}
 use Rattle.fx_lines.proofs.Cuts.{HasRead-none, HasRead-more, HasRead-end, next_line, next_end, next_shrinks, OnErr-always}
 use Rattle.felix_replay.specs.Run.{state_after, written}

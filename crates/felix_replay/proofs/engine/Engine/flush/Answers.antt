@@ -1,4 +1,4 @@
-use Rattle.std.proofs.Common.{◌≡◌, sym, ◌∙◌, ap, subst, Err}
+use Rattle.std.proofs.Common.{◌∙◌, ap, subst, Err}
 use Rattle.std.proofs.lemmas.Result.{err_from_is_err_and}
 use Rattle.fx_model.specs.declared.view.View.{View}
 use Rattle.fx_model.specs.Formed.{is_formed_view}

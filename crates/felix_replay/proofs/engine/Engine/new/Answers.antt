@@ -1,5 +1,4 @@
-use Rattle.std.proofs.Common.{◌≡◌, true, sym, ◌∙◌, ap}
-use Rattle.fx_model.specs.declared.view.View.{View}
+use Rattle.std.proofs.Common.{◌∙◌, ap}
 use Rattle.fx_model.specs.Formed.{is_formed_view, are_formed}
 use Rattle.felix_replay.proofs.EmptyView.{empty_view-closed, empty_view-formed, start-formed}
 use Rattle.felix_replay.proofs.engine.Engine.new.Goals as goal
