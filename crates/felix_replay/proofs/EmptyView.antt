@@ -5,6 +5,8 @@ use Rattle.std.specs.Cmp.Lexicographic.{slice_cmp}
 use Rattle.fx_base.proofs.AtKey.{get_empty}
 use Rattle.fx_base.proofs.Entries.{entries-empty}
 use Rattle.fx_model.specs.declared.view.ViewEndpoint.{ViewEndpoint}
+use Rattle.fx_model.specs.declared.view.ViewPolicy.{ViewPolicy}
+use Rattle.fx_model.specs.declared.view.ViewProfile.{ViewProfile}
 use Rattle.fx_model.specs.Closed.{IsClosedView}
 use Rattle.fx_model.specs.Formed.{are_formed, is_formed_view}
 use Rattle.fx_model.specs.Views.{empty_view}
@@ -14,8 +16,18 @@ use Rattle.felix_replay.specs.Output.{start}
 nothing_there : {A : Type 0} (e : ViewEndpoint) → None ≡ Some e → A
 nothing_there e is = cc
 
+no_policy : {A : Type 0} (p : ViewPolicy) → None ≡ Some p → A
+no_policy p is = cc
+
+no_profile : {A : Type 0} (p : ViewProfile) → None ≡ Some p → A
+no_profile p is = cc
+
 pub empty_view-closed : IsClosedView empty_view
-empty_view-closed = record { endpoints = λ iface e is. nothing_there e (sym (get_empty iface) ∙ is) }
+empty_view-closed = record {
+  endpoints = λ iface e is. nothing_there e (sym (get_empty iface) ∙ is);
+  policies = λ d key p is. no_policy p (sym (get_empty key) ∙ is);
+  profiles = λ d key p is. no_profile p (sym (get_empty key) ∙ is);
+}
 
 pub empty_view-formed : is_formed_view empty_view ≡ true
 empty_view-formed = rw (entries-empty (slice_cmp nat_cmp), entries-empty (slice_cmp nat_cmp)) refl

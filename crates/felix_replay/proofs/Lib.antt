@@ -8,3 +8,4 @@ pub mod EmptyView
 pub mod ClosingLemmas
 pub mod Lone
 pub mod Policing
+pub mod Asked

@@ -18,6 +18,7 @@ use Rattle.fx_model.specs.declared.resources.Resources.{Resources}
 use Rattle.fx_model.specs.Resources.{after, is_local}
 use Rattle.fx_model.specs.ViewPolicy.{HasLoneLocal}
 use Rattle.fx_model.proofs.Orders.{item_total, exact_item}
+use Rattle.fx_model.proofs.Removing.{found_before}
 use Rattle.felix_replay.specs.Output.{is_second_local}
 
 nothing_there : {A : Type 0} (e : Endpoint) → None ≡ Some e → A
@@ -69,6 +70,9 @@ module _ (R : Resources) where
   lone-after lone (update.Put (key.Item k) (item.Profile p)) none = lone
   lone-after lone (update.Put (key.Profile name) (item.Endpoint e)) none = lone
   lone-after lone (update.Put (key.Profile name) (item.Profile p)) none = lone
+  lone-after lone (update.Delete (key.Profile name)) none = lone
+  lone-after lone (update.Delete (key.Item k)) none = λ i j f g at_i at_j local_f local_g.
+      lone i j f g (found_before item_total R.endpoints k i f at_i) (found_before item_total R.endpoints k j g at_j) local_f local_g
   lone-after lone (update.Put (key.Item k) (item.Endpoint e)) none = λ i j f g at_i at_j local_f local_g.
       elim (at_insert R.endpoints k e i f at_i) as (λ _. i ≡ j) [
         | inl new_i ↦ elim (at_insert R.endpoints k e j g at_j) as (λ _. i ≡ j) [

@@ -29,7 +29,8 @@ use Rattle.fx_walk.proofs.Families.{first_there}
 use Rattle.fx_walk.proofs.Servable.{lone_local}
 use Rattle.fx_walk.proofs.Walks.{ended-run, one-end}
 use Rattle.fx_json.specs.declared.refusal.Refusal.{Refusal}
-use Rattle.fx_json.specs.declared.refusal.Refusal.TheVariants.{Unsupported}
+use Rattle.fx_json.specs.declared.refusal.Refusal.TheVariants.{Read}
+use Rattle.fx_json.specs.declared.fault.ReadFault.TheVariants.{Unsupported}
 use Rattle.fx_lines.specs.declared.commands.Command.{Command}
 use Rattle.fx_lines.specs.declared.commands.Command.TheVariants as command
 use Rattle.fx_lines.specs.Commands.{command_of}
@@ -60,7 +61,7 @@ kept_ranked e kept = subst (λ (t : Tables). IsRanked t.chains) (sym kept.render
 pub run_text : (tables : Tables) (a : Packet) → IsRanked tables.chains → (path : List (ChainName × ℕ)) (v : Verdict) (e i : Option Reason) → Traces tables a [] path v e i
     → concat (packet_lines path a.iface_in a.iface_out e i v) ≡ packet_text tables a
 run_text tables a ranked path v e i run =
-    let end = one-end {S = Trace} hops_and_reasons (holds a) tables.chains run.1 (ended-run hops_and_reasons (holds a) tables.chains ranked nothing_traced) in
+    let end = one-end {S = Trace} hops_and_reasons (holds tables.sets a) tables.chains run.1 (ended-run hops_and_reasons (holds tables.sets a) tables.chains ranked nothing_traced) in
     ap (λ (w : Verdict). concat (packet_lines path a.iface_in a.iface_out e i w)) end.0
     ∙ ap (λ (t : Trace). concat (packet_lines t.hops a.iface_in a.iface_out t.reasons.egress t.reasons.ingress (verdict_of (packet_run tables a)))) end.1
 
@@ -81,7 +82,7 @@ nothing_there e is = cc
 start-safe : (node : List ℕ) → IsSafe (start node).resources
 start-safe node = record { formed = start-formed node; lone = λ k l e f there at s t. nothing_there e (sym (maps.get-empty item_cmp.cmp-value.it k) ∙ there) }
 
-updated-safe : (s : State) → IsSafe s.resources → (u : Update) → is_formed u ≡ true → (b : Bool) → is_second_local s.resources u ≡ b → IsSafe (step s (if b then Err (Unsupported (codes "put")) else Ok (command.Update u))).resources
+updated-safe : (s : State) → IsSafe s.resources → (u : Update) → is_formed u ≡ true → (b : Bool) → is_second_local s.resources u ≡ b → IsSafe (step s (if b then Err (Read (Unsupported (codes "spec.node"))) else Ok (command.Update u))).resources
 updated-safe s safe u formed true is = safe
 updated-safe s safe u formed false is = record { formed = are_formed-after s.resources safe.formed u formed; lone = lone-after s.resources safe.lone u is }
 
@@ -107,7 +108,7 @@ told_policy s safe line a said new same =
     let answer : Outcome = packet_verdict s.resources a in
     let ranked : IsRanked (tables_of s.sent).chains = subst (λ (v : View). IsRanked (tables_of v).chains) (sym same) (ranked-tables (view_of s.resources) (view_of-closed s.resources)) in
     let traces : Traces (tables_of s.sent) a [] noted.hops (verdict_of run) noted.reasons.egress noted.reasons.ingress =
-    (noted.reasons.side, ended-run hops_and_reasons (holds a) (tables_of s.sent).chains ranked nothing_traced) in
+    (noted.reasons.side, ended-run hops_and_reasons (holds (tables_of s.sent).sets a) (tables_of s.sent).chains ranked nothing_traced) in
     let decides : Decides (tables_of s.sent) a (verdict_of run) noted.reasons.egress noted.reasons.ingress =
     traced_decides (tables_of s.sent) a ranked [] noted.hops (verdict_of run) noted.reasons.egress noted.reasons.ingress traces in
     let wanted : Decides (tables_of s.sent) a answer.verdict answer.egress answer.ingress =

@@ -7,7 +7,8 @@ use Rattle.fx_model.specs.declared.chain.Target.TheVariants as target
 use Rattle.fx_model.specs.declared.chain.Reason.TheVariants as reason
 use Rattle.fx_model.specs.declared.chain.ChainRule.{ChainRule}
 use Rattle.fx_model.specs.Directions.{Direction}
-use Rattle.fx_model.specs.Tables.{plain, told, clear_mark, is_clear, pass_mark, tier_rules, profile_jumps, endpoint_rules, tiers_side, policy_jumps}
+use Rattle.fx_model.specs.Rendering.{plain, told, clear_mark, is_clear, pass_mark}
+use Rattle.fx_model.specs.Tables.{tier_rules, profile_jumps, endpoint_rules, tiers_side, policy_jumps}
 use Rattle.felix_replay.specs.Rendering.{one_tier, profile_jump, state_rules}
 
 abbrev tier_end : ViewTier → ChainRule

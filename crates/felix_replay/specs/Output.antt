@@ -15,7 +15,8 @@ use Rattle.fx_model.specs.Views.{view_of, empty_view}
 use Rattle.fx_model.specs.Tables.{tables_of}
 use Rattle.fx_model.specs.Messages.{Change, flush}
 use Rattle.fx_json.specs.declared.refusal.Refusal.{Refusal}
-use Rattle.fx_json.specs.declared.refusal.Refusal.TheVariants.{Unsupported}
+use Rattle.fx_json.specs.declared.refusal.Refusal.TheVariants.{Read}
+use Rattle.fx_json.specs.declared.fault.ReadFault.TheVariants.{Unsupported}
 use Rattle.fx_lines.specs.declared.commands.Command.{Command}
 use Rattle.fx_lines.specs.declared.commands.Command.TheVariants as command
 use Rattle.fx_lines.specs.Lines.{lines_of}
@@ -50,9 +51,10 @@ is_second_local R update.InSync = false
 is_second_local R (update.Put (key.Item k) (item.Endpoint e)) = is_local R e && list_any (λ x. is_local R x.1 && not (item_eq.eq-value.it x.0 k)) (maps.entries R.endpoints)
 is_second_local R (update.Put (key.Item k) (item.Profile p)) = false
 is_second_local R (update.Put (key.Profile name) x) = false
+is_second_local R (update.Delete k) = false
 
 abbrev pub update_answer : Resources → Update → Result Command Refusal
-update_answer R u = if is_second_local R u then Err (Unsupported (codes "put")) else Ok (command.Update u)
+update_answer R u = if is_second_local R u then Err (Read (Unsupported (codes "spec.node"))) else Ok (command.Update u)
 
 abbrev pub checked : Resources → Result Command Refusal → Result Command Refusal
 checked R (Ok command.Blank) = Ok command.Blank

@@ -15,7 +15,7 @@ abbrev pub nothing_traced : Trace
 nothing_traced = record { hops = []; reasons = nothing_noted }
 
 abbrev pub packet_run : Tables → Packet → Ended Trace
-packet_run tables a = over_chain hops_and_reasons (holds a) tables.chains deepest forward 0 nothing_traced
+packet_run tables a = over_chain hops_and_reasons (holds tables.sets a) tables.chains deepest forward 0 nothing_traced
 
 -- its path, the reason on each side, and the verdict
 abbrev pub run_lines : Packet → Ended Trace → List (List ℕ)

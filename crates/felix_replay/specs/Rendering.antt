@@ -1,26 +1,13 @@
--- How directions and owners of rules are told.
-use Rattle.std.specs.Prelude.{ℕ, List, [], ◌∷◌, ◌++◌, Bool, true, false}
-use Rattle.fx_model.specs.Directions.{Direction, Ingress, Egress}
+-- The parts of an endpoint's chain.
+use Rattle.std.specs.Prelude.{ℕ, List, [], ◌∷◌, ◌++◌, true, false}
+use Rattle.fx_model.specs.Directions.{Direction}
 use Rattle.fx_model.specs.declared.view.ViewTier.{ViewTier}
 use Rattle.fx_model.specs.declared.chain.Match.TheVariants as match
 use Rattle.fx_model.specs.declared.chain.Target.TheVariants as target
-use Rattle.fx_model.specs.declared.chain.Reason.{Reason}
 use Rattle.fx_model.specs.declared.chain.Reason.TheVariants as reason
 use Rattle.fx_model.specs.declared.chain.ChainRule.{ChainRule}
-use Rattle.fx_model.specs.Tables.{plain, told, clear_mark, is_set, is_clear, accept_mark, pass_mark, policy_chain, policy_jumps, profile_chain, endpoint_chain, end_of}
-use Rattle.felix_replay.specs.declared.rules.Owner.{Owner}
-use Rattle.felix_replay.specs.declared.rules.Owner.TheVariants.{Policy, Profile}
-
-abbrev pub direction_of : Bool → Direction
-direction_of true = Ingress
-direction_of false = Egress
-
--- the reason that a rule of this owner gives, by its place
-abbrev pub reason_at : Owner → ℕ → Reason
-reason_at (Policy id) place = reason.Policy id.now place
-reason_at (Profile name) place = reason.Profile name.now place
-
--- ---- the parts of an endpoint's chain
+use Rattle.fx_model.specs.Rendering.{plain, told, clear_mark, is_set, is_clear, accept_mark, pass_mark}
+use Rattle.fx_model.specs.Tables.{policy_chain, policy_jumps, profile_chain, endpoint_chain, end_of}
 
 abbrev pub policy_jump : Direction → List ℕ → List ChainRule
 policy_jump d key = plain (is_clear pass_mark ∷ []) (target.Jump (policy_chain d key)) ∷ plain (is_set accept_mark ∷ []) target.Return ∷ []

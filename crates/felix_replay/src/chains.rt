@@ -4,11 +4,12 @@ ghost use Rattle.std.specs.List.{list_all, flat_map};
 ghost use Rattle.std.specs.FinMap as maps;
 ghost use Rattle.fx_model.specs.Tables.{policy_jumps, endpoint_rules, dispatch_rules, forward, forward_rules, policy_chain, profile_chain, endpoint_chain, root_of};
 ghost use Rattle.fx_model.specs.Formed.{is_formed_profile_name, is_formed_view_endpoint};
-ghost use Rattle.felix_replay.specs.Rendering.{direction_of, policy_jump, one_tier, profile_jump, state_rules, dispatch_goto};
+ghost use Rattle.fx_rules.specs.Rules.{direction_of};
+ghost use Rattle.felix_replay.specs.Rendering.{policy_jump, one_tier, profile_jump, state_rules, dispatch_goto};
 
-use crate::rules::{ACCEPT, PASS, clear_mark, is_clear, one, plain, push_return, told};
 use fx_base::{ChainName, Memory, NameKey, Seq, Text, TextMap};
 use fx_model::{ChainRule, End, Match, Reason, Target, ViewEndpoint, ViewTier};
+use fx_rules::{ACCEPT, PASS, clear_mark, is_clear, one, plain, push_return, told};
 use std::alloc::Global;
 
 /// The name of a policy's chain.

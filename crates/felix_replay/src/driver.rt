@@ -12,9 +12,9 @@ use crate::chains::{
     dispatch_chain, endpoint_chain, endpoint_name, forward_chain, forward_name, policy_name,
     profile_name, root_name,
 };
-use crate::rules::{policy_chain, profile_chain};
 use fx_base::{Memory, NameKey, NameMap, Text, TextMap};
 use fx_model::{View, ViewEndpoint, ViewPolicy, ViewProfile};
+use fx_rules::{policy_chain, profile_chain};
 use fx_tables::Tables;
 use std::alloc::Global;
 
@@ -39,7 +39,7 @@ fn write_policies(
     policies: &NameMap<ViewPolicy>,
     tables: &mut Tables,
 ) -> Result<(), Memory>
-    requires { CanBeWritten tables.old.chains (flat_map policy_chains (maps.entries policies.now)) }
+    requires { CanBeWritten tables.old.sets tables.old.chains (flat_map policy_chains (maps.entries policies.now)) }
     ensures { OnOk result (tables.new ≡ record tables.old { chains = extended tables.old.chains (flat_map policy_chains (maps.entries policies.now)) }) }
 {
     for (key, policy) in policies.iter() {
@@ -54,7 +54,7 @@ fn write_policy(
     policy: &ViewPolicy,
     tables: &mut Tables,
 ) -> Result<(), Memory>
-    requires { CanBeWritten tables.old.chains (policy_chains (key.now, policy.now)) }
+    requires { CanBeWritten tables.old.sets tables.old.chains (policy_chains (key.now, policy.now)) }
     ensures { OnOk result (tables.new ≡ record tables.old { chains = extended tables.old.chains (policy_chains (key.now, policy.now)) }) }
 {
     let ingress = policy_chain(alloc, policy, true)?;
@@ -68,7 +68,7 @@ fn write_profiles(
     profiles: &NameMap<ViewProfile>,
     tables: &mut Tables,
 ) -> Result<(), Memory>
-    requires writable { CanBeWritten tables.old.chains (flat_map profile_chains (maps.entries profiles.now)) }
+    requires writable { CanBeWritten tables.old.sets tables.old.chains (flat_map profile_chains (maps.entries profiles.now)) }
     requires formed { list_all is_formed_view_profile (maps.entries profiles.now) ≡ true }
     ensures { OnOk result (tables.new ≡ record tables.old { chains = extended tables.old.chains (flat_map profile_chains (maps.entries profiles.now)) }) }
 {
@@ -84,7 +84,7 @@ fn write_profile(
     profile: &ViewProfile,
     tables: &mut Tables,
 ) -> Result<(), Memory>
-    requires writable { CanBeWritten tables.old.chains (profile_chains (key.now, profile.now)) }
+    requires writable { CanBeWritten tables.old.sets tables.old.chains (profile_chains (key.now, profile.now)) }
     requires formed { is_formed_view_profile (key.now, profile.now) ≡ true }
     ensures { OnOk result (tables.new ≡ record tables.old { chains = extended tables.old.chains (profile_chains (key.now, profile.now)) }) }
 {
@@ -99,7 +99,7 @@ fn write_endpoints(
     endpoints: &TextMap<ViewEndpoint>,
     tables: &mut Tables,
 ) -> Result<(), Memory>
-    requires writable { CanBeWritten tables.old.chains (flat_map endpoint_chains (maps.entries endpoints.now)) }
+    requires writable { CanBeWritten tables.old.sets tables.old.chains (flat_map endpoint_chains (maps.entries endpoints.now)) }
     requires formed { list_all is_formed_view_endpoint (maps.entries endpoints.now) ≡ true }
     ensures { OnOk result (tables.new ≡ record tables.old { chains = extended tables.old.chains (flat_map endpoint_chains (maps.entries endpoints.now)) }) }
 {
@@ -115,7 +115,7 @@ fn write_endpoint(
     endpoint: &ViewEndpoint,
     tables: &mut Tables,
 ) -> Result<(), Memory>
-    requires writable { CanBeWritten tables.old.chains (endpoint_chains (iface.now, endpoint.now)) }
+    requires writable { CanBeWritten tables.old.sets tables.old.chains (endpoint_chains (iface.now, endpoint.now)) }
     requires formed { is_formed_view_endpoint (iface.now, endpoint.now) ≡ true }
     ensures { OnOk result (tables.new ≡ record tables.old { chains = extended tables.old.chains (endpoint_chains (iface.now, endpoint.now)) }) }
 {
@@ -126,7 +126,7 @@ fn write_endpoint(
 }
 
 fn write_dispatch(alloc: Global, view: &View, tables: &mut Tables) -> Result<(), Memory>
-    requires writable { CanBeWritten tables.old.chains (dispatch_chains view.now) }
+    requires writable { CanBeWritten tables.old.sets tables.old.chains (dispatch_chains view.now) }
     requires formed { list_all is_formed_view_endpoint (maps.entries view.now.endpoints) ≡ true }
     ensures { OnOk result (tables.new ≡ record tables.old { chains = extended tables.old.chains (dispatch_chains view.now) }) }
 {

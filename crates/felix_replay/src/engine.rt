@@ -11,13 +11,15 @@ ghost use Rattle.fx_print.specs.Texts.{refusal_line, flushed_line};
 ghost use Rattle.fx_lines.specs.Formed.{is_formed_command};
 ghost use Rattle.felix_replay.specs.Output.{start, next, text, checked, update_answer, step, answer_text, is_second_local, flush_text, command_text};
 ghost use Rattle.felix_replay.specs.PacketRuns.{packet_text};
+ghost use Rattle.fx_lines.specs.Commands.{command_of};
+ghost use Rattle.felix_replay.specs.Stops.{wants_memory, is_memory};
 ghost use Rattle.felix_replay.specs.Writing.{Writes};
 
 use crate::driver::tables_of;
 use crate::sending::{put_all, put_one, send};
 use crate::stop::Stop;
 use fx_base::{Memory, Sink, Text};
-use fx_json::Refusal;
+use fx_json::{ReadFault, Refusal};
 use fx_lines::{Command, read_command};
 use fx_model::{Item, ItemKey, Key, Packet, Resources, Update, View, view_of};
 use fx_print::{flushed_text, packet_texts, refusal_text, tables_text};
@@ -63,7 +65,7 @@ impl Engine {
         ensures state { OnOk result (state_of self.new ≡ next (state_of self.old) line.now) }
         ensures writes { Writes (K.held sink.old) (K.held sink.new) (K.faults sink.old) (K.faults sink.new) (text (state_of self.old) line.now) result }
     {
-        let said = read_command(self.alloc, line)?;
+        let said = command_in(self.alloc, line)?;
         let answer = checked(self.alloc, &self.resources, said)?;
         self.obey(answer, sink)
     }
@@ -163,6 +165,41 @@ fn put_count<K: Sink>(alloc: Global, count: u64, sink: &mut K) -> Result<(), Sto
     put_one(&line, sink)
 }
 
+// The command of a line, or its refusal. Want of memory is neither.
+#[tactic(auto, using(crate::proofs::Asked::told_as_defined))]
+fn command_in(alloc: Global, line: &[u8]) -> Result<Result<Command, Refusal>, Memory>
+    ensures answer { IfOk result (λ said. said ≡ command_of line.now) }
+    ensures formed { IfOk result (λ said. IfOk said (λ c. is_formed_command c ≡ true)) }
+{
+    match read_command(alloc, line) {
+        Ok(command) => Ok(Ok(command)),
+        Err(refusal) => {
+            if wants_memory(&refusal) {
+                return Err(Memory);
+            }
+            Ok(Err(refusal))
+        }
+    }
+}
+
+fn wants_memory(refusal: &Refusal) -> bool
+    ensures { result ≡ wants_memory refusal.now }
+{
+    match refusal {
+        Refusal::Read(fault) => is_memory(fault),
+        Refusal::BadJson | Refusal::BadLine => false,
+    }
+}
+
+fn is_memory(fault: &ReadFault) -> bool
+    ensures { result ≡ is_memory fault.now }
+{
+    match fault {
+        ReadFault::Memory => true,
+        _ => false,
+    }
+}
+
 // A put of a second local endpoint is refused.
 fn checked(
     alloc: Global,
@@ -185,8 +222,8 @@ fn checked_update(
     ensures { IfOk result (λ answer. answer ≡ update_answer resources.now update) }
 {
     if is_second_local(resources, &update) {
-        let path = Text::new(alloc, b"put")?;
-        return Ok(Err(Refusal::Unsupported { path }));
+        let path = Text::new(alloc, b"spec.node")?;
+        return Ok(Err(Refusal::Read(ReadFault::Unsupported { path })));
     }
     Ok(Ok(Command::Update(update)))
 }

@@ -1,12 +1,19 @@
 //! Replays lines of updates: what is read, and what a node's dataplane becomes.
-#![tactic(auto, using(fx_base::proofs::AtKey::reads))]
+#![tactic(auto)]
 
 pub use top::{Status, felix_replay};
 
 mod chains;
 mod driver;
 mod engine;
-mod rules;
+#[cfg(test)]
+mod refusal_rows;
+#[cfg(test)]
+mod refusal_tests;
+#[cfg(test)]
+mod rule_rows;
+#[cfg(test)]
+mod rule_tests;
 mod sending;
 mod stop;
 #[cfg(test)]

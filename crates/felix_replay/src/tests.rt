@@ -16,8 +16,10 @@ const FLUSH: &str = "{\"flush\":{}}\n";
 
 const TABLES: &str = "{\"tables\":true}\n";
 
-const SENT: &str =
+pub const SENT: &str =
     "profile open open in 1 out 1\nendpoint cali1 a/w1 in - out - profiles open\nflushed 2\n";
+
+pub const BASE: [&str; 4] = [OPEN, ENDPOINT, SYNC, FLUSH];
 
 const USAGE: &[u8] = b"usage: felix-replay --node NAME [--soak SEED --count N]\n";
 
@@ -34,7 +36,7 @@ fn node_words(alloc: Global) -> Result<Vec<Text>, Fail> {
 }
 
 // The status of a run on these bytes, and what was written.
-fn replayed(alloc: Global, input: Vec<u8>) -> Result<(Status, Vec<u8>), Fail> {
+pub fn replayed(alloc: Global, input: Vec<u8>) -> Result<(Status, Vec<u8>), Fail> {
     let mut source = SureSource::new(input, 4096);
     let mut sink = MemSink::new(alloc, 1_048_576, Vec::new(alloc))?;
     let words = node_words(alloc)?;
@@ -102,7 +104,7 @@ fn each_refusal_is_told(rt: HostRuntime) -> Result<(), Fail> {
     let alloc = rt.alloc();
     let input = joined(alloc, &["{\n{\"tables\":false}\n{\"delete\":{}}\n"])?;
     let (status, held) = replayed(alloc, input)?;
-    let want = "refused 1 21 BadJson\nrefused 2 22 BadLine\nrefused 3 5 Unsupported delete\n";
+    let want = "refused 1 21 BadJson\nrefused 2 22 BadLine\nrefused 3 1 UnknownKind\n";
     assert_eq!(rt; status, Status::Refused);
     assert_eq!(rt; held.as_slice(), want.as_bytes());
     Ok(())

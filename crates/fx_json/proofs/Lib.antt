@@ -1,2 +1,6 @@
-pub mod AllOf
+pub mod PathTexts
+pub mod After
 mod ShortTexts
+pub mod NetLemmas
+pub mod PortLists
+pub mod FormedResources

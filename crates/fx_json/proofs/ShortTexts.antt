@@ -1,5 +1,5 @@
--- The texts of addresses have at most 15 bytes, and the names of protocols at most 7.
-use Rattle.std.proofs.Common.{◌≡◌, ◌<◌, ◌≤◌, ◌+◌, ℕ, suc, Bool, true, ◌&&◌, List, [], ◌∷◌, ◌++◌, length, Option, Some, None, refl, sym, ap, ◌∙◌, arith, inl, inr, lit<}
+-- The texts of addresses have at most 15 bytes, those of nets 18, of ports 11, and the names of protocols 7.
+use Rattle.std.proofs.Common.{◌≡◌, ◌<◌, ◌≤◌, ◌+◌, ◌^◌, ℕ, suc, Bool, true, ◌&&◌, List, [], ◌∷◌, ◌++◌, length, Option, Some, None, refl, sym, ap, ◌∙◌, arith, inl, inr, lit<}
 use Rattle.std.specs.Prelude.{nat_le}
 use Rattle.std.specs.Fmt.{decimal}
 use Rattle.std.specs.Char.{to_ascii_lowercase}
@@ -7,12 +7,14 @@ use Rattle.std.proofs.lemmas.Bool.Decides.{leb_tells}
 use Rattle.std.proofs.lemmas.Fmt.{length-decimal-le}
 use Rattle.std.proofs.lemmas.List.{length-append, length-map}
 use Rattle.fx_base.specs.Same.{both_pass}
-use Rattle.fx_base.specs.Addresses.{IsAddress}
+use Rattle.fx_base.specs.Addresses.{IsAddress, IsNet}
+use Rattle.fx_base.specs.Forms.{IsNumber, IsOptional}
+use Rattle.fx_base.specs.PortTexts.{IsPortRange}
 use Rattle.fx_base.specs.Protocols.{IsNamedIn, protocols}
-use Rattle.fx_base.specs.TextValues.{address_of, protocol_of}
-use Rattle.fx_base.proofs.ValueLemmas.{address_computes, protocol_computes}
+use Rattle.fx_base.specs.TextValues.{address_of, net_of, ports_of, protocol_of}
+use Rattle.fx_base.proofs.ValueLemmas.{address_computes, net_computes, ports_computes, protocol_computes}
 
-none_of : (o : Option ℕ) → ((n : ℕ) → o ≡ Some n → ⊥) → o ≡ None
+none_of : {A : Type 0} (o : Option A) → ((n : A) → o ≡ Some n → ⊥) → o ≡ None
 none_of None never = refl
 none_of (Some n) never = absurd (never n refl)
 
@@ -37,6 +39,32 @@ address_short s n is =
 
 pub long_address : (s : List ℕ) → 15 < length s → address_of s ≡ None
 long_address s long = none_of (address_of s) (λ n is. omega (arith, long, address_short s n (address_computes.from s n is)))
+
+-- ---- numbers, nets and ports
+
+number_short : (low high digits : ℕ) (s : List ℕ) (n : ℕ) → 0 < digits → high < 2 ^ 16 → high < 10 ^ digits → IsNumber low high s n → length s ≤ digits
+number_short low high digits s n some few small is =
+    let d : length (decimal n) ≤ digits = length-decimal-le digits n some (omega (arith, few, is.most)) (omega (arith, small, is.most)) in
+    omega (arith, ap length is.digits, d)
+
+optional_short : (absent mark low high digits : ℕ) (s : List ℕ) (n : ℕ) → 0 < digits → high < 2 ^ 16 → high < 10 ^ digits → IsOptional absent mark low high s n → length s ≤ digits + 1
+optional_short absent mark low high digits s n some few small (inl none) = omega (arith, ap length none.0)
+optional_short absent mark low high digits s n some few small (inr there) = omega (arith, ap length there.1, number_short low high digits there.0 n some few small there.2)
+
+net_short : (s : List ℕ) (net : ℕ × ℕ) → IsNet s net → length s ≤ 18
+net_short s net is =
+    let cidr = is.1 in
+    omega (arith, ap length cidr.written, length-append cidr.front cidr.rest, address_short cidr.front is.0 cidr.address, optional_short 32 47 0 32 2 cidr.rest net.1 (lit< tt) (lit< tt) (lit< tt) cidr.length)
+
+pub long_net : (s : List ℕ) → 18 < length s → net_of s ≡ None
+long_net s long = none_of (net_of s) (λ n is. omega (arith, long, net_short s n (net_computes.from s n is)))
+
+ports_short : (s : List ℕ) (ports : ℕ × ℕ) → IsPortRange s ports → length s ≤ 11
+ports_short s ports is =
+    omega (arith, ap length is.whole, length-append is.front is.rest, number_short 0 65535 5 is.front is.number (lit< tt) (lit< tt) (lit< tt) is.is, optional_short is.number 58 is.number 65535 5 is.rest ports.1 (lit< tt) (lit< tt) (lit< tt) is.after.1)
+
+pub long_ports : (s : List ℕ) → 11 < length s → ports_of s ≡ None
+long_ports s long = none_of (ports_of s) (λ n is. omega (arith, long, ports_short s n (ports_computes.from s n is)))
 
 -- ---- protocols
 

@@ -1,17 +1,14 @@
--- The members of a JSON object, as `serde_json` reads one. A member whose value is null counts as absent, as in Kubernetes' API
--- conventions, and an absent object is empty.
-use Rattle.std.specs.Prelude.{◌+◌, ℕ, List, [], ◌∷◌, Bool, true, false, ◌&&◌, ◌==◌, if◌then◌else◌, Option, Some, None, is_some, is_none, option_and_then}
-use Rattle.std.specs.Str.{bytes_eq}
+-- The members of a JSON object and the items of a list, as `serde_json` reads them, and how they are read one after another.
+-- A member whose value is null counts as absent, as in Kubernetes' API conventions, and an absent object is empty. A null in a list is
+-- a value like any other.
+use Rattle.std.specs.Prelude.{◌+◌, ℕ, List, [], ◌∷◌, Bool, false, ◌==◌, if◌then◌else◌, Option, Some, None, is_some, is_none, Result, Ok, Err}
 use Rattle.serde_json.specs.Data.{Data, null, boolean, number, string, array, object, Items, no_items, item, Members, no_members, member}
-use Rattle.serde_json.specs.Find.{get, as_null, as_str, as_array, as_object}
+use Rattle.serde_json.specs.Find.{get, as_null, as_array, as_object}
+use Rattle.fx_json.specs.declared.fault.ReadFault.{ReadFault}
+use Rattle.fx_json.specs.declared.fault.ReadFault.TheVariants.{MissingField, BadField, Unsupported}
+use Rattle.fx_json.specs.Paths.{member_path, item_path}
 
--- what comes next, where there is something
-abbrev pub and_then : {A B : Type 0} → Option A → (A → Option B) → Option B
-and_then o next = option_and_then next o
-
--- what comes next, where the test passes
-abbrev pub guarded : {A : Type 0} → Bool → Option A → Option A
-guarded test next = if test then next else None
+-- ---- members
 
 abbrev pub present : Option Data → Option Data
 present None = None
@@ -48,49 +45,73 @@ has_members n d = is_count n (as_object d)
     is_count n None = false
     is_count n (Some ms) = member_count ms == n
 
--- the object of this name; null stands for the empty object
-abbrev pub section_of : Option Data → Option Data
-section_of None = Some null
-section_of (Some d) = guarded (is_object d) (Some d)
+-- ---- one after another
 
-abbrev pub section : List ℕ → Data → Option Data
-section key d = section_of (field key d)
+-- the first fault, or what is read next
+infixl 10 ◌>>=◌
+abbrev pub ◌>>=◌ : {A B : Type 0} → Result A ReadFault → (A → Result B ReadFault) → Result B ReadFault
+Ok x >>= next = next x
+Err fault >>= next = Err fault
 
--- the list of this name
-abbrev pub list_of : Option Data → Option Items
-list_of None = Some no_items
-list_of (Some d) = as_array d
+-- How a value at a path is read.
+abbrev pub Reader : Type 0 → Type 0
+Reader A = List ℕ → Data → Result A ReadFault
 
-abbrev pub list_at : List ℕ → Data → Option Items
-list_at key d = list_of (field key d)
+-- a value at a path that has to be in a form
+abbrev pub formed : {A : Type 0} → List ℕ → Option A → Result A ReadFault
+formed path None = Err (BadField path)
+formed path (Some x) = Ok x
 
--- the text of this name
-abbrev pub text_at : List ℕ → Data → Option (List ℕ)
-text_at key d = and_then (field key d) as_str
-
--- this very text stands at this name
-abbrev pub has_text : List ℕ → List ℕ → Data → Bool
-has_text key text d = is_text text (text_at key d)
+-- the member of this name, which has to be there
+unfoldable pub required : {A : Type 0} → Reader A → List ℕ → List ℕ → Data → Result A ReadFault
+required {A = A} read path key d = of_member (field key d)
   where
-    is_text : List ℕ → Option (List ℕ) → Bool
-    is_text text None = false
-    is_text text (Some s) = bytes_eq s text
+    of_member : Option Data → Result A ReadFault
+    of_member None = Err (MissingField (member_path path key))
+    of_member (Some v) = read (member_path path key) v
 
--- the text, where it is of the form
-abbrev pub formed : (List ℕ → Bool) → Option (List ℕ) → Option (List ℕ)
-formed form o = and_then o (λ s. guarded (form s) (Some s))
+-- the member of this name, or what stands for it where it is absent
+unfoldable pub defaulted : {A : Type 0} → A → Reader A → List ℕ → List ℕ → Data → Result A ReadFault
+defaulted {A = A} absent read path key d = of_member (field key d)
+  where
+    of_member : Option Data → Result A ReadFault
+    of_member None = Ok absent
+    of_member (Some v) = read (member_path path key) v
 
--- what each item is read as, in order
-abbrev pub all_of : {A : Type 0} → (Data → Option A) → Items → Option (List A)
-all_of read no_items = Some []
-all_of read (item d ds) = and_then (read d) (λ x. and_then (all_of read ds) (λ xs. Some (x ∷ xs)))
+-- the member of this name, if it is there
+unfoldable pub optional : {A : Type 0} → Reader A → List ℕ → List ℕ → Data → Result (Option A) ReadFault
+optional {A = A} read path key d = of_member (field key d)
+  where
+    of_member : Option Data → Result (Option A) ReadFault
+    of_member None = Ok None
+    of_member (Some v) = read (member_path path key) v >>= λ x. Ok (Some x)
 
--- each item passes
-abbrev pub each_item : (Data → Bool) → Items → Bool
-each_item test no_items = true
-each_item test (item d ds) = test d && each_item test ds
+-- a value that isn't read yet
+abbrev pub unread : Reader (Unit {0})
+unread path d = Err (Unsupported path)
 
--- each member's value passes
-abbrev pub each_member : (Data → Bool) → Members → Bool
-each_member test no_members = true
-each_member test (member k d ms) = test d && each_member test ms
+-- ---- objects and lists
+
+unfoldable pub object_at : Reader Data
+object_at path d = formed path (if is_object d then Some d else None)
+
+-- the object of this name, which stands at this path; null stands for the empty object
+unfoldable pub section : List ℕ → List ℕ → Data → Result Data ReadFault
+section path key d = of_member (field key d)
+  where
+    of_member : Option Data → Result Data ReadFault
+    of_member None = Ok null
+    of_member (Some v) = object_at path v
+
+-- the items of a list, the first of this index
+abbrev pub items_from : {A : Type 0} → Reader A → List ℕ → ℕ → Items → Result (List A) ReadFault
+items_from read path index no_items = Ok []
+items_from read path index (item d ds) = read (item_path path index) d >>= λ x. items_from read path (index + 1) ds >>= λ xs. Ok (x ∷ xs)
+
+-- the list of this name, which is empty where it is absent
+unfoldable pub list_at : List ℕ → List ℕ → Data → Result Items ReadFault
+list_at = defaulted no_items (λ path d. formed path (as_array d))
+
+-- the list of this name, item by item
+unfoldable pub items : {A : Type 0} → Reader A → List ℕ → List ℕ → Data → Result (List A) ReadFault
+items read path key d = list_at path key d >>= items_from read (member_path path key) 0

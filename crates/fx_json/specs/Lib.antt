@@ -1,5 +1,10 @@
-pub mod Forms
+pub mod Paths
+pub mod Faults
 pub mod Fields
+pub mod Forms
+pub mod Values
+pub mod Sides
+pub mod Rules
+pub mod Resources
 pub mod Packets
-pub mod Puts
 pub mod Refusals

@@ -1,11 +1,18 @@
-//! Looks members of a JSON object up.
-ghost use Rattle.std.specs.Prelude.{◌≡◌, Some, None, option_map, is_none};
-ghost use Rattle.serde_json.specs.Data.{null};
-ghost use Rattle.serde_json.specs.Find.{as_object};
+//! Looks members of objects and items of lists up, and reads them in a form.
+ghost use Rattle.std.specs.Prelude.{◌≡◌, ◌+◌, ℕ, List, Some, None, Ok, Result, MatchResult, option_map};
+ghost use Rattle.serde_json.specs.Data.{Data, null};
 ghost use Rattle.serde_json.specs.View.{view, items_view, members_view};
-ghost use Rattle.fx_json.specs.Fields.{field, is_absent, is_null, has_members, member_count, section, list_at, text_at, has_text};
+ghost use Rattle.fx_json.specs.declared.fault.ReadFault.{ReadFault};
+ghost use Rattle.fx_json.specs.declared.fault.ReadFault.TheVariants.{MissingField};
+ghost use Rattle.fx_json.specs.Faults.{IsFault, Answers};
+ghost use Rattle.fx_json.specs.Paths.{text_of, member_path, item_path};
+ghost use Rattle.fx_json.specs.Fields.{Reader, field, is_absent, is_null, has_members, member_count, formed, required, defaulted, optional, object_at, section, list_at, items, items_from};
 
+use crate::fault::ReadFault;
+use crate::path::Path;
+use fx_base::Seq;
 use serde_json::{Map, Value};
+use std::alloc::Global;
 
 /// The member of this name, if its value isn't null.
 pub fn field<'v>(object: &'v Value, key: &str) -> Option<&'v Value>
@@ -45,41 +52,166 @@ fn member_count(map: &Map<String, Value>) -> usize
     count
 }
 
-/// The object of this name, or `nothing` where it is absent.
-pub fn section<'v>(object: &'v Value, key: &str, nothing: &'v Value) -> Option<&'v Value>
+/// How the values of a form are read.
+pub trait Form {
+    type Read: Drop;
+
+    ghost read_by: { Self → List ℕ → Data → Result Self.Read ReadFault };
+
+    /// Reads the value at a path.
+    fn read(&self, alloc: Global, path: &Path<'_>, value: &Value) -> Result<Self::Read, ReadFault>
+        ensures { Answers (read_by self.now (text_of path.now) (view value.now)) result };
+}
+
+/// What was found of the value at a path, which has to be in its form.
+pub fn formed<T: Drop>(alloc: Global, path: &Path<'_>, found: Option<T>) -> Result<T, ReadFault>
+    ensures { Answers (formed (text_of path.now) found) result }
+{
+    match found {
+        Some(value) => Ok(value),
+        None => Err(ReadFault::BadField {
+            path: path.text(alloc)?,
+        }),
+    }
+}
+
+/// The member of this name, which has to be there.
+#[tactic(auto, unfolding(crate::specs::Fields::required))]
+pub fn required<F: Form>(
+    alloc: Global,
+    form: &F,
+    path: &Path<'_>,
+    key: &str,
+    object: &Value,
+) -> Result<F::Read, ReadFault>
+    ensures { Answers (required (F.read_by form.now) (text_of path.now) key.now (view object.now)) result }
+{
+    let here = path.member(key);
+    match field(object, key) {
+        Some(value) => form.read(alloc, &here, value),
+        None => Err(ReadFault::MissingField {
+            path: here.text(alloc)?,
+        }),
+    }
+}
+
+/// The member of this name, if it is there.
+#[tactic(auto, unfolding(crate::specs::Fields::optional))]
+pub fn optional<F: Form>(
+    alloc: Global,
+    form: &F,
+    path: &Path<'_>,
+    key: &str,
+    object: &Value,
+) -> Result<Option<F::Read>, ReadFault>
+    ensures { Answers (optional (F.read_by form.now) (text_of path.now) key.now (view object.now)) result }
+{
+    match field(object, key) {
+        Some(value) => Ok(Some(form.read(alloc, &path.member(key), value)?)),
+        None => Ok(None),
+    }
+}
+
+/// The member of this name, or what stands for it where it is absent.
+#[tactic(auto, unfolding(crate::specs::Fields::defaulted))]
+pub fn defaulted<F: Form>(
+    alloc: Global,
+    form: &F,
+    absent: F::Read,
+    path: &Path<'_>,
+    key: &str,
+    object: &Value,
+) -> Result<F::Read, ReadFault>
+    ensures { Answers (defaulted absent (F.read_by form.now) (text_of path.now) key.now (view object.now)) result }
+{
+    match field(object, key) {
+        Some(value) => form.read(alloc, &path.member(key), value),
+        None => Ok(absent),
+    }
+}
+
+// ---- objects and lists
+
+/// The value, which has to be an object.
+#[tactic(auto, unfolding(crate::specs::Fields::object_at))]
+pub fn object<'v>(alloc: Global, path: &Path<'_>, value: &'v Value) -> Result<&'v Value, ReadFault>
+    ensures { MatchResult result (λ v. object_at (text_of path.now) (view value.now) ≡ Ok (view v.now)) (IsFault (object_at (text_of path.now) (view value.now))) }
+{
+    if value.is_object() {
+        Ok(value)
+    } else {
+        Err(ReadFault::BadField {
+            path: path.text(alloc)?,
+        })
+    }
+}
+
+/// The object of this name, which stands at this path, or `nothing` where it is absent.
+#[tactic(auto, unfolding(crate::specs::Fields::section))]
+pub fn section<'v>(
+    alloc: Global,
+    path: &Path<'_>,
+    key: &str,
+    outer: &'v Value,
+    nothing: &'v Value,
+) -> Result<&'v Value, ReadFault>
     requires { view nothing.now ≡ null }
-    ensures { option_map (λ v. view v.now) result ≡ section key.now (view object.now) }
+    ensures { MatchResult result (λ v. section (text_of path.now) key.now (view outer.now) ≡ Ok (view v.now)) (IsFault (section (text_of path.now) key.now (view outer.now))) }
 {
-    match field(object, key) {
-        Some(value) if value.is_object() => Some(value),
-        Some(_) => None,
-        None => Some(nothing),
+    match field(outer, key) {
+        Some(value) => object(alloc, path, value),
+        None => Ok(nothing),
     }
 }
 
-/// The items of the list of this name; there are none where it is absent.
-pub fn list_at<'v>(object: &'v Value, key: &str) -> Option<&'v [Value]>
-    ensures { option_map (λ values. items_view values.now) result ≡ list_at key.now (view object.now) }
+/// The values of the list of this name; there are none where it is absent.
+#[tactic(auto, unfolding(crate::specs::Fields::list_at, crate::specs::Fields::defaulted))]
+pub fn list_at<'v>(
+    alloc: Global,
+    path: &Path<'_>,
+    key: &str,
+    object: &'v Value,
+) -> Result<&'v [Value], ReadFault>
+    ensures { MatchResult result (λ values. list_at (text_of path.now) key.now (view object.now) ≡ Ok (items_view values.now)) (IsFault (list_at (text_of path.now) key.now (view object.now))) }
 {
-    match field(object, key) {
-        Some(value) => Some(value.as_array()?.as_slice()),
-        None => Some(&[]),
+    let Some(value) = field(object, key) else {
+        return Ok(&[]);
+    };
+    match value.as_array() {
+        Some(values) => Ok(values.as_slice()),
+        None => Err(ReadFault::BadField {
+            path: path.member(key).text(alloc)?,
+        }),
     }
 }
 
-/// The text of this name.
-pub fn text_at<'v>(object: &'v Value, key: &str) -> Option<&'v str>
-    ensures { option_map (λ text. text.now) result ≡ text_at key.now (view object.now) }
+/// The list of this name, item by item.
+#[tactic(auto, unfolding(crate::specs::Fields::items))]
+pub fn items<F: Form>(
+    alloc: Global,
+    form: &F,
+    path: &Path<'_>,
+    key: &str,
+    object: &Value,
+) -> Result<Seq<F::Read>, ReadFault>
+    ensures { Answers (items (F.read_by form.now) (text_of path.now) key.now (view object.now)) result }
 {
-    field(object, key)?.as_str()
+    let values = list_at(alloc, path, key, object)?;
+    read_items(alloc, form, &path.member(key), values)
 }
 
-/// Whether this very text stands at this name.
-pub fn has_text(object: &Value, key: &str, text: &str) -> bool
-    ensures { result ≡ has_text key.now text.now (view object.now) }
+/// The items of a list.
+pub fn read_items<F: Form>(
+    alloc: Global,
+    form: &F,
+    path: &Path<'_>,
+    values: &[Value],
+) -> Result<Seq<F::Read>, ReadFault>
+    ensures { Answers (items_from (F.read_by form.now) (text_of path.now) 0 (items_view values.now)) result }
 {
-    match text_at(object, key) {
-        Some(found) => found == text,
-        None => false,
+    let mut read = Vec::new(alloc);
+    for (index, value) in values.iter().enumerate() {
+        read.push(form.read(alloc, &path.item(index), value)?)?;
     }
+    Ok(Seq::from_vec(read))
 }

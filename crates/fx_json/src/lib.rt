@@ -1,14 +1,22 @@
 //! Reads resources and packets from the values that `serde_json` makes of a line, and tells why a line is refused.
 #![tactic(auto)]
 
+pub use fault::ReadFault;
 pub use fields::{field, has_members};
-pub use forms::is_name;
 pub use packets::read_packet;
-pub use puts::read_put;
 pub use refusal::Refusal;
+pub use resources::{read_delete, read_resource};
+pub use texts::is_name;
 
+mod fault;
 mod fields;
-mod forms;
 mod packets;
-mod puts;
+mod path;
 mod refusal;
+mod resources;
+mod rules;
+mod sides;
+#[cfg(test)]
+mod tests;
+mod texts;
+mod values;

@@ -1,18 +1,16 @@
 //! Why a line is refused.
 ghost use Rattle.std.specs.Prelude.{◌≡◌};
+ghost use Rattle.fx_json.specs.declared.refusal.Refusal.TheVariants.{Read};
 ghost use Rattle.fx_json.specs.Refusals.{number_of, name_of};
 
-use fx_base::Text;
+use crate::fault::ReadFault;
 
-/// A line that isn't accepted changes nothing. A path leads from the line's value to the one at fault, as
-/// `spec.ingress[0].action`.
+/// A line that isn't accepted changes nothing.
 #[derive(Debug, Drop)]
 pub enum Refusal {
+    Read(ReadFault),
     BadJson,
     BadLine,
-    MissingField { path: Text },
-    BadField { path: Text },
-    Unsupported { path: Text },
 }
 
 impl Refusal {
@@ -21,9 +19,7 @@ impl Refusal {
         ensures { result ≡ number_of self.now }
     {
         match self {
-            Refusal::MissingField { .. } => 2,
-            Refusal::BadField { .. } => 3,
-            Refusal::Unsupported { .. } => 5,
+            Refusal::Read(fault) => fault.number(),
             Refusal::BadJson => 21,
             Refusal::BadLine => 22,
         }
@@ -33,11 +29,17 @@ impl Refusal {
         ensures { result.now ≡ name_of self.now }
     {
         match self {
-            Refusal::MissingField { .. } => b"MissingField",
-            Refusal::BadField { .. } => b"BadField",
-            Refusal::Unsupported { .. } => b"Unsupported",
+            Refusal::Read(fault) => fault.name(),
             Refusal::BadJson => b"BadJson",
             Refusal::BadLine => b"BadLine",
         }
+    }
+}
+
+impl From<ReadFault> for Refusal {
+    ghost from_gives = { λ fault refusal. refusal ≡ Read fault };
+
+    fn from(fault: ReadFault) -> Self {
+        Refusal::Read(fault)
     }
 }

@@ -1,5 +1,5 @@
 -- What a line says, by what was read of it.
-use Rattle.std.proofs.Common.{◌≡◌, ℕ, List, Bool, true, false, cond, Some, None, Result, Ok, Err, IfOk, refl, sym, ◌∙◌, ap}
+use Rattle.std.proofs.Common.{◌≡◌, ℕ, List, Bool, true, false, cond, Some, None, Result, Ok, Err, IfOk, refl, sym, ◌∙◌, ap, subst}
 use Rattle.std.specs.List.{list_all}
 use Rattle.std.specs.Str.{IsUtf8, is_utf8}
 use Rattle.std.proofs.lemmas.Str.{IsUtf8-from_is_utf8, is_utf8-from_IsUtf8}
@@ -7,7 +7,9 @@ use Rattle.serde_json.specs.Data.{Data}
 use Rattle.serde_json.specs.Read.{read}
 use Rattle.fx_lines.specs.Commands.{is_blank_byte, value_of, of_value, command_of}
 use Rattle.fx_lines.specs.declared.commands.Command.TheVariants.{Blank}
+use Rattle.fx_json.specs.declared.refusal.Refusal.{Refusal}
 use Rattle.fx_json.specs.declared.refusal.Refusal.TheVariants.{BadJson}
+use Rattle.fx_json.specs.Refusals.{Refuses}
 
 pub command_of-blank : (line : List ℕ) → true ≡ list_all is_blank_byte line → command_of line ≡ Ok Blank
 unfolding command_of
@@ -30,6 +32,7 @@ value_of-none line false is none = refl
 pub command_of-none : (line : List ℕ) → false ≡ list_all is_blank_byte line → (IsUtf8 line → read line ≡ None) → command_of line ≡ Err BadJson
 command_of-none line other none = command_of-other line other ∙ ap of_value (value_of-none line (is_utf8 line) refl none)
 
-pub IfOk_more : {T E : Type 0} {P Q : T → Type 0} (r : Result T E) → ((x : T) → P x → Q x) → IfOk r P → IfOk r Q
-IfOk_more (Ok x) more is = more x is
-IfOk_more (Err e) more is = tt
+-- what holds of the computed answer holds of the one that is given
+pub kept : {A : Type 0} (P : A → Type 0) (answer result : Result A Refusal) → Refuses answer result → IfOk answer P → IfOk result P
+kept {A = A} P answer (Ok x) is holds = let Q : Result A Refusal → Type 0 = λ r. IfOk r P in subst Q is holds
+kept P answer (Err told) is holds = tt

@@ -10,11 +10,12 @@ use Rattle.fx_model.specs.declared.resources.Update.{Update}
 use Rattle.fx_model.specs.declared.resources.Update.TheVariants as update
 use Rattle.fx_lines.specs.declared.commands.Command.{Command}
 use Rattle.fx_lines.specs.declared.commands.Command.TheVariants as command
+use Rattle.fx_json.specs.declared.fault.ReadFault.{ReadFault}
 use Rattle.fx_json.specs.declared.refusal.Refusal.{Refusal}
-use Rattle.fx_json.specs.declared.refusal.Refusal.TheVariants.{BadJson, BadLine, Unsupported}
+use Rattle.fx_json.specs.declared.refusal.Refusal.TheVariants.{Read, BadJson, BadLine}
 use Rattle.fx_json.specs.Fields.{field, is_object, has_members}
 use Rattle.fx_json.specs.Packets.{packet_of}
-use Rattle.fx_json.specs.Puts.{put_of}
+use Rattle.fx_json.specs.Resources.{resource_of, delete_of}
 
 -- spaces, tabs and carriage returns
 abbrev pub is_blank_byte : ℕ → Bool
@@ -40,20 +41,20 @@ abbrev pub at_member : Option Data → (Data → Result Command Refusal) → Res
 at_member None answer others = others
 at_member (Some d) answer others = answer d
 
--- a put that isn't read is told by its word
-abbrev pub put_answer : Option Update → Result Command Refusal
-put_answer None = Err (Unsupported (codes "put"))
-put_answer (Some u) = Ok (command.Update u)
+-- the update of a resource, or the first fault of the resource
+abbrev pub update_answer : Result Update ReadFault → Result Command Refusal
+update_answer (Ok u) = Ok (command.Update u)
+update_answer (Err fault) = Err (Read fault)
 
-abbrev pub packet_answer : Result Packet Refusal → Result Command Refusal
+abbrev pub packet_answer : Result Packet ReadFault → Result Command Refusal
 packet_answer (Ok p) = Ok (command.Packet p)
-packet_answer (Err refusal) = Err refusal
+packet_answer (Err fault) = Err (Read fault)
 
 -- by the name of the one member
-abbrev pub by_name : Data → Result Command Refusal
+unfoldable pub by_name : Data → Result Command Refusal
 by_name d =
-    at_member (field (codes "put") d) (λ v. shaped (is_object v) (put_answer (put_of v)))
-    (at_member (field (codes "delete") d) (λ v. shaped (is_object v) (Err (Unsupported (codes "delete"))))
+    at_member (field (codes "put") d) (λ v. shaped (is_object v) (update_answer (resource_of v)))
+    (at_member (field (codes "delete") d) (λ v. shaped (is_object v) (update_answer (delete_of v)))
     (at_member (field (codes "inSync") d) (λ v. shaped (is_true v) (Ok (command.Update update.InSync)))
     (at_member (field (codes "flush") d) (λ v. shaped (has_members 0 v) (Ok command.Flush))
     (at_member (field (codes "packet") d) (λ v. shaped (is_object v) (packet_answer (packet_of v)))

@@ -1,15 +1,15 @@
 //! What a line says.
-ghost use Rattle.std.specs.Prelude.{◌≡◌, IfOk, Some, Ok, Err, true};
+ghost use Rattle.std.specs.Prelude.{◌≡◌, IfOk, Some, Ok, true};
 ghost use Rattle.std.specs.List.{list_all};
 ghost use Rattle.serde_json.specs.View.{view};
 ghost use Rattle.fx_json.specs.Fields.{is_object};
 ghost use Rattle.fx_json.specs.Packets.{packet_of};
-ghost use Rattle.fx_json.specs.Puts.{put_of};
-ghost use Rattle.fx_lines.specs.Commands.{is_blank_byte, is_true, by_name, command_of, shaped, of_value, put_answer, packet_answer};
+ghost use Rattle.fx_json.specs.Refusals.{Refuses};
+ghost use Rattle.fx_json.specs.Resources.{resource_of, delete_of};
+ghost use Rattle.fx_lines.specs.Commands.{is_blank_byte, is_true, by_name, command_of, shaped, of_value, update_answer, packet_answer};
 ghost use Rattle.fx_lines.specs.Formed.{is_formed_command};
 
-use fx_base::{Memory, Text};
-use fx_json::{Refusal, field, has_members, read_packet, read_put};
+use fx_json::{ReadFault, Refusal, field, has_members, read_delete, read_packet, read_resource};
 use fx_model::{Packet, Update};
 use serde_json::Value;
 use std::alloc::Global;
@@ -25,96 +25,85 @@ pub enum Command {
 }
 
 /// The command of a line, or its refusal.
-pub fn read_command(alloc: Global, line: &[u8]) -> Result<Result<Command, Refusal>, Memory>
-    ensures answer { IfOk result (λ answer. answer ≡ command_of line.now) }
-    ensures formed { IfOk result (λ answer. IfOk answer (λ command. is_formed_command command ≡ true)) }
+pub fn read_command(alloc: Global, line: &[u8]) -> Result<Command, Refusal>
+    ensures answer { Refuses (command_of line.now) result }
+    ensures formed { IfOk result (λ command. is_formed_command command ≡ true) }
 {
     if is_blank(line) {
-        return Ok(Ok(Command::Blank));
+        return Ok(Command::Blank);
     }
     match Value::from_slice(alloc, line) {
         Ok(value) => command_in(alloc, &value),
         Err(e) => {
             if e.is_memory() {
-                return Err(Memory);
+                return Err(Refusal::Read(ReadFault::Memory));
             }
-            Ok(Err(Refusal::BadJson))
+            Err(Refusal::BadJson)
         }
     }
 }
 
 // The command of a value.
-fn command_in(alloc: Global, value: &Value) -> Result<Result<Command, Refusal>, Memory>
-    ensures { IfOk result (λ answer. answer ≡ of_value (Some (view value.now))) }
+fn command_in(alloc: Global, value: &Value) -> Result<Command, Refusal>
+    ensures { Refuses (of_value (Some (view value.now))) result }
 {
     if has_members(value, 1) {
         command_by_name(alloc, value)
     } else {
-        Ok(Err(Refusal::BadLine))
+        Err(Refusal::BadLine)
     }
 }
 
-fn command_by_name(alloc: Global, value: &Value) -> Result<Result<Command, Refusal>, Memory>
-    ensures { IfOk result (λ answer. answer ≡ by_name (view value.now)) }
+#[tactic(auto, unfolding(crate::specs::Commands::by_name))]
+fn command_by_name(alloc: Global, value: &Value) -> Result<Command, Refusal>
+    ensures { Refuses (by_name (view value.now)) result }
 {
     if let Some(resource) = field(value, "put") {
         return put_command(alloc, resource);
     }
     if let Some(resource) = field(value, "delete") {
-        return unsupported(alloc, resource.is_object(), b"delete");
+        return delete_command(alloc, resource);
     }
     if let Some(mark) = field(value, "inSync") {
-        return Ok(shaped(is_true(mark), Command::Update(Update::InSync)));
+        return shaped(is_true(mark), Command::Update(Update::InSync));
     }
     if let Some(limits) = field(value, "flush") {
-        return Ok(shaped(has_members(limits, 0), Command::Flush));
+        return shaped(has_members(limits, 0), Command::Flush);
     }
     if let Some(packet) = field(value, "packet") {
         return packet_command(alloc, packet);
     }
     if let Some(mark) = field(value, "tables") {
-        return Ok(shaped(is_true(mark), Command::Tables));
+        return shaped(is_true(mark), Command::Tables);
     }
-    Ok(Err(Refusal::BadLine))
+    Err(Refusal::BadLine)
 }
 
-fn put_command(alloc: Global, resource: &Value) -> Result<Result<Command, Refusal>, Memory>
-    ensures { IfOk result (λ answer. answer ≡ shaped (is_object (view resource.now)) (put_answer (put_of (view resource.now)))) }
+fn put_command(alloc: Global, resource: &Value) -> Result<Command, Refusal>
+    ensures { Refuses (shaped (is_object (view resource.now)) (update_answer (resource_of (view resource.now)))) result }
 {
     if !resource.is_object() {
-        return Ok(Err(Refusal::BadLine));
+        return Err(Refusal::BadLine);
     }
-    match read_put(alloc, resource)? {
-        Some(update) => Ok(Ok(Command::Update(update))),
-        None => unsupported(alloc, true, b"put"),
-    }
+    Ok(Command::Update(read_resource(alloc, resource)?))
 }
 
-fn packet_command(alloc: Global, packet: &Value) -> Result<Result<Command, Refusal>, Memory>
-    ensures { IfOk result (λ answer. answer ≡ shaped (is_object (view packet.now)) (packet_answer (packet_of (view packet.now)))) }
+fn delete_command(alloc: Global, resource: &Value) -> Result<Command, Refusal>
+    ensures { Refuses (shaped (is_object (view resource.now)) (update_answer (delete_of (view resource.now)))) result }
+{
+    if !resource.is_object() {
+        return Err(Refusal::BadLine);
+    }
+    Ok(Command::Update(read_delete(alloc, resource)?))
+}
+
+fn packet_command(alloc: Global, packet: &Value) -> Result<Command, Refusal>
+    ensures { Refuses (shaped (is_object (view packet.now)) (packet_answer (packet_of (view packet.now)))) result }
 {
     if !packet.is_object() {
-        return Ok(Err(Refusal::BadLine));
+        return Err(Refusal::BadLine);
     }
-    match read_packet(alloc, packet)? {
-        Ok(packet) => Ok(Ok(Command::Packet(packet))),
-        Err(refusal) => Ok(Err(refusal)),
-    }
-}
-
-fn unsupported(
-    alloc: Global,
-    right: bool,
-    member: &[u8],
-) -> Result<Result<Command, Refusal>, Memory>
-    ensures { IfOk result (λ answer. answer ≡ shaped right (Err (Refusal.Unsupported member.now))) }
-{
-    if right {
-        let path = Text::new(alloc, member)?;
-        Ok(Err(Refusal::Unsupported { path }))
-    } else {
-        Ok(Err(Refusal::BadLine))
-    }
+    Ok(Command::Packet(read_packet(alloc, packet)?))
 }
 
 fn shaped(right: bool, command: Command) -> Result<Command, Refusal>

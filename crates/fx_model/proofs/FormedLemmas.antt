@@ -1,9 +1,8 @@
 -- Formed resources stay so, and have a formed view.
-use Rattle.std.proofs.Common.{◌≡◌, ℕ, Bool, true, false, ◌&&◌, List, [], ◌∷◌, ◌++◌, map, cond, refl, ap, ◌∙◌, sym}
+use Rattle.std.proofs.Common.{◌≡◌, ℕ, true, false, ◌&&◌, List, [], ◌∷◌, ◌++◌, map, cond, refl, ap, ◌∙◌}
 use Rattle.std.specs.Prelude.{filter}
 use Rattle.std.specs.List.{list_all, flat_map}
-use Rattle.std.specs.Ordering.{nat_cmp}
-use Rattle.std.specs.Cmp.Lexicographic.{slice_cmp, nat_list_cmp_total}
+use Rattle.std.specs.Cmp.Lexicographic.{nat_list_cmp_total}
 use Rattle.std.specs.FinMap as maps
 use Rattle.fx_base.specs.Same.{both_pass}
 use Rattle.fx_base.proofs.KeyCases.{bytes_exact}
@@ -18,15 +17,12 @@ use Rattle.fx_model.specs.declared.resources.Update.TheVariants as update
 use Rattle.fx_model.specs.declared.resources.Resources.{Resources}
 use Rattle.fx_model.specs.Resources.{after, is_served, served_endpoints}
 use Rattle.fx_model.specs.Views.{view_of, profile_entry, endpoint_entry, profile_key, active_profiles}
-use Rattle.fx_model.specs.Formed.{is_formed, are_formed, is_formed_endpoint, is_formed_profile_name, is_formed_view, is_formed_view_endpoint, is_formed_view_profile}
+use Rattle.fx_model.specs.Formed.{is_formed, are_formed, is_formed_endpoint, is_formed_profile_name, is_formed_profile, is_formed_view, is_formed_view_endpoint, is_formed_view_profile}
 use Rattle.fx_model.proofs.Orders.{item_total, exact_item}
-
-both : (a b : Bool) → a ≡ true → b ≡ true → (a && b) ≡ true
-both true b p q = q
-both false b p q = cc
+use Rattle.fx_model.proofs.Removing.{both, all-remove}
 
 module _ (R : Resources) (was : are_formed R ≡ true) where
-  parts : (list_all (λ x. is_formed_endpoint x.1) (maps.entries R.endpoints) ≡ true) × (list_all (λ x. is_formed_profile_name x.0) (maps.entries R.profiles) ≡ true)
+  parts : (list_all (λ x. is_formed_endpoint x.1) (maps.entries R.endpoints) ≡ true) × (list_all (λ x. is_formed_profile_name x.0 && is_formed_profile x.1) (maps.entries R.profiles) ≡ true)
   parts = both_pass _ _ was
 
   -- a formed update leaves formed resources
@@ -35,7 +31,9 @@ module _ (R : Resources) (was : are_formed R ≡ true) where
   are_formed-after (update.Put (key.Item k) (item.Endpoint e)) is = both _ _ (all-insert exact_item (λ x. is_formed_endpoint x.1) item_total R.endpoints k e is parts.0) parts.1
   are_formed-after (update.Put (key.Item k) (item.Profile p)) is = was
   are_formed-after (update.Put (key.Profile name) (item.Endpoint e)) is = was
-  are_formed-after (update.Put (key.Profile name) (item.Profile p)) is = both _ _ parts.0 (all-insert bytes_exact (λ x. is_formed_profile_name x.0) nat_list_cmp_total R.profiles name p is parts.1)
+  are_formed-after (update.Put (key.Profile name) (item.Profile p)) is = both _ _ parts.0 (all-insert bytes_exact (λ x. is_formed_profile_name x.0 && is_formed_profile x.1) nat_list_cmp_total R.profiles name p is parts.1)
+  are_formed-after (update.Delete (key.Item k)) is = both _ _ (all-remove item_total exact_item (λ x. is_formed_endpoint x.1) R.endpoints k parts.0) parts.1
+  are_formed-after (update.Delete (key.Profile name)) is = both _ _ parts.0 (all-remove nat_list_cmp_total bytes_exact (λ x. is_formed_profile_name x.0 && is_formed_profile x.1) R.profiles name parts.1)
 
   names-append : (xs ys : List (List ℕ)) → list_all is_formed_profile_name xs ≡ true → list_all is_formed_profile_name ys ≡ true → list_all is_formed_profile_name (xs ++ ys) ≡ true
   names-append [] ys p q = q

@@ -1,6 +1,7 @@
 pub mod Orders
 pub mod Serving
 pub mod FormedLemmas
+pub mod Shaping
 pub mod Writable
 pub mod Leading
 pub mod ViewClosed
@@ -9,3 +10,4 @@ pub mod NextCases
 pub mod Nearer
 pub mod StepClosed
 pub mod Flushes
+pub mod Removing

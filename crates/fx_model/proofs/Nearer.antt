@@ -79,13 +79,13 @@ nearer_cases s w =
     record {
       set_new = λ e is. first_less _ _ _ (apart-taken members_eq.eq-value.it members_laws.laws-law.refl s.sets w.sets e.0 (absent_differs members_eq.eq-value.it s.sets w.sets e is));
       set_other = λ e is. first_less _ _ _ (apart-taken members_eq.eq-value.it members_laws.laws-law.refl s.sets w.sets e.0 (other_differs members_eq.eq-value.it s.sets w.sets e is));
-      policy_put = λ e is. second_less _ _ _ _ (apart-taken policy_eq.eq-value.it policy_laws.laws-law.refl s.policies w.policies e.0 (changed_differs policy_eq.eq-value.it s.policies w.policies e is));
-      profile_put = λ e is. third_less _ _ _ _ _ (apart-taken profile_eq.eq-value.it profile_laws.laws-law.refl s.profiles w.profiles e.0 (changed_differs profile_eq.eq-value.it s.profiles w.profiles e is));
+      policy_put = λ none e is. second_less _ _ _ _ (apart-taken policy_eq.eq-value.it policy_laws.laws-law.refl s.policies w.policies e.0 (changed_differs policy_eq.eq-value.it s.policies w.policies e is));
+      profile_put = λ none e is. third_less _ _ _ _ _ (apart-taken profile_eq.eq-value.it profile_laws.laws-law.refl s.profiles w.profiles e.0 (changed_differs profile_eq.eq-value.it s.profiles w.profiles e is));
       endpoint_put = λ policies profiles e is. fourth_less _ _ _ _ _ (apart-taken endpoint_eq.eq-value.it endpoint_laws.laws-law.refl s.endpoints w.endpoints e.0 (changed_differs endpoint_eq.eq-value.it s.endpoints w.endpoints e is));
       endpoint_gone = λ e is. fourth_less _ _ _ _ _ (apart-taken endpoint_eq.eq-value.it endpoint_laws.laws-law.refl s.endpoints w.endpoints e.0 (gone_differs endpoint_eq.eq-value.it s.endpoints w.endpoints e is));
       profile_gone = λ put gone e is. third_less _ _ _ _ _ (apart-taken profile_eq.eq-value.it profile_laws.laws-law.refl s.profiles w.profiles e.0 (gone_differs profile_eq.eq-value.it s.profiles w.profiles e is));
       policy_gone = λ put gone e is. second_less _ _ _ _ (apart-taken policy_eq.eq-value.it policy_laws.laws-law.refl s.policies w.policies e.0 (gone_differs policy_eq.eq-value.it s.policies w.policies e is));
-      set_gone = λ e is. first_less _ _ _ (apart-taken members_eq.eq-value.it members_laws.laws-law.refl s.sets w.sets e.0 (gone_differs members_eq.eq-value.it s.sets w.sets e is));
+      set_gone = λ none profiles policies e is. first_less _ _ _ (apart-taken members_eq.eq-value.it members_laws.laws-law.refl s.sets w.sets e.0 (gone_differs members_eq.eq-value.it s.sets w.sets e is));
     }
 
 pub step-nearer : (s w : View) (c : Change) → next_message s w ≡ Some c → differences (step_at c s w) w + 1 ≡ differences s w

@@ -71,29 +71,29 @@ none_gone s w e =
 pub record Cases (s w : View) (P : Change → Type 0) : Type 0 where
   pub set_new : (e : List ℕ × Members) → first_absent s.sets w.sets ≡ Some e → P (set_added e)
   pub set_other : (e : List ℕ × Members) → first_other members_eq.eq-value.it s.sets w.sets ≡ Some e → P (set_changed s.sets e)
-  pub policy_put : (e : List ℕ × ViewPolicy) → first_changed policy_eq.eq-value.it s.policies w.policies ≡ Some e → P (PolicyPut e.0 e.1)
-  pub profile_put : (e : List ℕ × ViewProfile) → first_changed profile_eq.eq-value.it s.profiles w.profiles ≡ Some e → P (ProfilePut e.0 e.1)
+  pub policy_put : first_absent s.sets w.sets ≡ None → (e : List ℕ × ViewPolicy) → first_changed policy_eq.eq-value.it s.policies w.policies ≡ Some e → P (PolicyPut e.0 e.1)
+  pub profile_put : first_absent s.sets w.sets ≡ None → (e : List ℕ × ViewProfile) → first_changed profile_eq.eq-value.it s.profiles w.profiles ≡ Some e → P (ProfilePut e.0 e.1)
   pub endpoint_put : first_changed policy_eq.eq-value.it s.policies w.policies ≡ None → first_changed profile_eq.eq-value.it s.profiles w.profiles ≡ None → (e : List ℕ × ViewEndpoint) → first_changed endpoint_eq.eq-value.it s.endpoints w.endpoints ≡ Some e → P (EndpointPut e.0 e.1)
   pub endpoint_gone : (e : List ℕ × ViewEndpoint) → first_absent w.endpoints s.endpoints ≡ Some e → P (EndpointGone e.0)
   pub profile_gone : first_changed endpoint_eq.eq-value.it s.endpoints w.endpoints ≡ None → first_absent w.endpoints s.endpoints ≡ None → (e : List ℕ × ViewProfile) → first_absent w.profiles s.profiles ≡ Some e → P (ProfileGone e.0)
   pub policy_gone : first_changed endpoint_eq.eq-value.it s.endpoints w.endpoints ≡ None → first_absent w.endpoints s.endpoints ≡ None → (e : List ℕ × ViewPolicy) → first_absent w.policies s.policies ≡ Some e → P (PolicyGone e.0)
-  pub set_gone : (e : List ℕ × Members) → first_absent w.sets s.sets ≡ Some e → P (SetGone e.0)
+  pub set_gone : NoPut s w → first_absent w.profiles s.profiles ≡ None → first_absent w.policies s.policies ≡ None → (e : List ℕ × Members) → first_absent w.sets s.sets ≡ Some e → P (SetGone e.0)
 
 module _ (s w : View) (P : Change → Type 0) (cases : Cases s w P) where
   put_by_cases : (c : Change) → next_put s w ≡ Some c → P c
   put_by_cases =
       one_of P _ _ (mapped P set_added _ cases.set_new) (λ no_new.
       one_of P _ _ (mapped P (set_changed s.sets) _ cases.set_other) (λ no_other.
-      one_of P _ _ (mapped P (λ (e : List ℕ × ViewPolicy). PolicyPut e.0 e.1) _ cases.policy_put) (λ no_policy.
-      one_of P _ _ (mapped P (λ (e : List ℕ × ViewProfile). ProfilePut e.0 e.1) _ cases.profile_put) (λ no_profile.
+      one_of P _ _ (mapped P (λ (e : List ℕ × ViewPolicy). PolicyPut e.0 e.1) _ (cases.policy_put (map_none _ _ no_new))) (λ no_policy.
+      one_of P _ _ (mapped P (λ (e : List ℕ × ViewProfile). ProfilePut e.0 e.1) _ (cases.profile_put (map_none _ _ no_new))) (λ no_profile.
       mapped P (λ (e : List ℕ × ViewEndpoint). EndpointPut e.0 e.1) _ (cases.endpoint_put (map_none _ _ no_policy) (map_none _ _ no_profile))))))
 
-  gone_by_cases : first_changed endpoint_eq.eq-value.it s.endpoints w.endpoints ≡ None → (c : Change) → next_gone s w ≡ Some c → P c
-  gone_by_cases no_put =
+  gone_by_cases : NoPut s w → (c : Change) → next_gone s w ≡ Some c → P c
+  gone_by_cases none =
       one_of P _ _ (mapped P (λ (e : List ℕ × ViewEndpoint). EndpointGone e.0) _ cases.endpoint_gone) (λ no_endpoint.
-      one_of P _ _ (mapped P (λ (e : List ℕ × ViewProfile). ProfileGone e.0) _ (cases.profile_gone no_put (map_none _ _ no_endpoint))) (λ no_profile.
-      one_of P _ _ (mapped P (λ (e : List ℕ × ViewPolicy). PolicyGone e.0) _ (cases.policy_gone no_put (map_none _ _ no_endpoint))) (λ no_policy.
-      mapped P (λ (e : List ℕ × Members). SetGone e.0) _ cases.set_gone)))
+      one_of P _ _ (mapped P (λ (e : List ℕ × ViewProfile). ProfileGone e.0) _ (cases.profile_gone none.endpoints (map_none _ _ no_endpoint))) (λ no_profile.
+      one_of P _ _ (mapped P (λ (e : List ℕ × ViewPolicy). PolicyGone e.0) _ (cases.policy_gone none.endpoints (map_none _ _ no_endpoint))) (λ no_policy.
+      mapped P (λ (e : List ℕ × Members). SetGone e.0) _ (cases.set_gone none (map_none _ _ no_profile) (map_none _ _ no_policy)))))
 
   pub by_cases : (c : Change) → next_message s w ≡ Some c → P c
-  by_cases = one_of P (next_put s w) (next_gone s w) put_by_cases (λ none. gone_by_cases (no_put s w none).endpoints)
+  by_cases = one_of P (next_put s w) (next_gone s w) put_by_cases (λ none. gone_by_cases (no_put s w none))

@@ -1,11 +1,20 @@
 -- The view of any resources is closed: each profile that an endpoint lists is put in.
-use Rattle.std.proofs.Common.{◌≡◌, ℕ, List, [], ◌∷◌, map, Some, None, sym, ◌∙◌, subst}
+use Rattle.std.proofs.Common.{◌≡◌, ℕ, List, [], ◌∷◌, ◌++◌, map, Option, Some, None, refl, sym, ap, ◌∙◌, subst}
 use Rattle.std.specs.List.{AllByRecursion, flat_map}
 use Rattle.std.specs.FinMap as maps
 use Rattle.fx_base.specs.Extended.{extended}
 use Rattle.fx_base.proofs.AtKey.{get_empty}
 use Rattle.fx_base.proofs.KeyCases.{there_inserted}
 use Rattle.fx_base.proofs.ExtendedKeys.{there_extended, at_extended}
+use Rattle.fx_base.specs.declared.net.PortRange.{PortRange}
+use Rattle.fx_model.specs.declared.rules.Rule.{Rule}
+use Rattle.fx_model.specs.declared.rules.Side.{Side}
+use Rattle.fx_model.specs.declared.resources.Profile.{Profile}
+use Rattle.fx_model.specs.declared.view_rule.ViewPort.TheVariants.{Range}
+use Rattle.fx_model.specs.declared.view.ViewPolicy.{ViewPolicy}
+use Rattle.fx_model.specs.Directions.{Direction, Ingress, Egress}
+use Rattle.fx_model.specs.Rendering.{names_of}
+use Rattle.fx_model.specs.Tables.{profile_side}
 use Rattle.fx_model.specs.declared.ids.ItemKey.{ItemKey}
 use Rattle.fx_model.specs.declared.ids.ItemKey.TheVariants as key
 use Rattle.fx_model.specs.declared.resources.Endpoint.{Endpoint}
@@ -15,8 +24,8 @@ use Rattle.fx_model.specs.declared.view.ViewEndpoint.{ViewEndpoint}
 use Rattle.fx_model.specs.declared.view.ViewProfile.{ViewProfile}
 use Rattle.fx_model.specs.Messages.{Named}
 use Rattle.fx_model.specs.Resources.{served_endpoints}
-use Rattle.fx_model.specs.Views.{profile_key, profile_entry, endpoint_entry, view_endpoint, view_of}
-use Rattle.fx_model.specs.Closed.{AreThere, EndpointIsClosed, IsClosedView}
+use Rattle.fx_model.specs.Views.{view_side, view_rule, profile_key, profile_entry, endpoint_entry, view_profile, view_endpoint, active_profiles, view_of}
+use Rattle.fx_model.specs.Closed.{AreThere, EndpointIsClosed, IsClosedView, sets_of_side, sets_of_rules}
 use Rattle.fx_model.proofs.Serving.{profiles_both}
 
 there_later : (m : Named ViewProfile) (es : List (List ℕ × ViewProfile)) (ks : List (List ℕ)) → AreThere m ks → AreThere (extended m es) ks
@@ -48,12 +57,52 @@ entries_closed : (v : View) (xs : List (ItemKey × Endpoint)) → AllByRecursion
 entries_closed v [] h = tt
 entries_closed v (x ∷ xs) h = (endpoint_closed v x.0 x.1 h.0, entries_closed v xs h.1)
 
+-- rules of resources name no sets yet
+ranges_name_none : (rs : List PortRange) → names_of (map Range rs) ≡ []
+ranges_name_none [] = refl
+ranges_name_none (r ∷ rs) = ranges_name_none rs
+
+side_names_none : (s : Side) → sets_of_side (view_side s) ≡ []
+side_names_none s = ap (λ (xs : List (List ℕ)). xs ++ names_of (map Range s.not_ports)) (ranges_name_none s.ports) ∙ ranges_name_none s.not_ports
+
+rules_name_none : (rs : List Rule) → sets_of_rules (map view_rule rs) ≡ []
+rules_name_none [] = refl
+rules_name_none (r ∷ rs) =
+    ap (λ (xs : List (List ℕ)). (xs ++ sets_of_side (view_side r.destination)) ++ sets_of_rules (map view_rule rs)) (side_names_none r.source)
+    ∙ ap (λ (xs : List (List ℕ)). xs ++ sets_of_rules (map view_rule rs)) (side_names_none r.destination)
+    ∙ rules_name_none rs
+
+profile_names_none : (d : Direction) (name : List ℕ) (o : Option Profile) → sets_of_rules (profile_side d (view_profile name o)) ≡ []
+profile_names_none Ingress name None = refl
+profile_names_none Egress name None = refl
+profile_names_none Ingress name (Some p) = rules_name_none p.ingress
+profile_names_none Egress name (Some p) = rules_name_none p.egress
+
+module _ (R : Resources) (d : Direction) where
+  abbrev names_none : List ℕ → ViewProfile → Type 0
+  names_none key p = sets_of_rules (profile_side d p) ≡ []
+
+  entries_name_none : (names : List (List ℕ)) → AllByRecursion (λ e. names_none e.0 e.1) (map (profile_entry R) names)
+  entries_name_none [] = tt
+  entries_name_none (n ∷ names) = (profile_names_none d n (maps.get R.profiles n), entries_name_none names)
+
 no_endpoint : {A : Type 0} (e : ViewEndpoint) → None ≡ Some e → A
 no_endpoint e is = cc
+
+no_profile : {A : Type 0} (p : ViewProfile) → None ≡ Some p → A
+no_profile p is = cc
+
+no_policy : {A : Type 0} (p : ViewPolicy) → None ≡ Some p → A
+no_policy p is = cc
 
 pub view_of-closed : (R : Resources) → IsClosedView (view_of R)
 view_of-closed R = record {
   endpoints = at_extended (λ iface e. EndpointIsClosed (view_of R) e) maps.empty (map endpoint_entry (served_endpoints R))
       (λ q x is. no_endpoint x (sym (get_empty q) ∙ is))
       (entries_closed (view_of R) (served_endpoints R) (listed_there R maps.empty (served_endpoints R)));
+  policies = λ d key p is. no_policy p (sym (get_empty key) ∙ is);
+  profiles = λ d key p is.
+      let none : sets_of_rules (profile_side d p) ≡ [] = at_extended (names_none R d) maps.empty (map (profile_entry R) (active_profiles R))
+      (λ q x found. no_profile x (sym (get_empty q) ∙ found)) (entries_name_none R d (active_profiles R)) key p is in
+      subst (AreThere (view_of R).sets) (sym none) tt;
 }

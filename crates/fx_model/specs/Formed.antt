@@ -1,17 +1,76 @@
--- What every resource that is read keeps: a name of an interface has at most 15 bytes, as the kernel bounds it (IFNAMSIZ), and
+-- What every resource that is read keeps. A rule that lists ports has a protocol with ports, and one that asks for a message of
+-- ICMP has protocol ICMP, since iptables-extensions(8) can test these matches for no other; no rule of a profile passes; a name of an interface has at most 15 bytes, as the kernel bounds it (IFNAMSIZ), and
 -- Calico's begin with `cali`; and a profile's name fits behind a chain's prefix.
-use Rattle.std.specs.Prelude.{ℕ, List, Bool, true, ◌&&◌, nat_le, nat_eq, length, codes}
+use Rattle.std.specs.Prelude.{ℕ, List, [], ◌∷◌, Bool, true, false, not, ◌&&◌, ◌||◌, nat_le, nat_eq, length, codes, Option, Some, None, is_some}
 use Rattle.std.specs.List.{list_all, starts_with}
 use Rattle.std.specs.FinMap as maps
+use Rattle.fx_base.specs.declared.net.Proto.{Proto}
+use Rattle.fx_model.specs.declared.rules.Action.{Action}
+use Rattle.fx_model.specs.declared.rules.Action.TheVariants.{Allow, Deny, Log, Pass}
+use Rattle.fx_model.specs.declared.rules.Rule.{Rule}
 use Rattle.fx_model.specs.declared.ids.Key.TheVariants as key
 use Rattle.fx_model.specs.declared.resources.Endpoint.{Endpoint}
+use Rattle.fx_model.specs.declared.resources.Profile.{Profile}
 use Rattle.fx_model.specs.declared.resources.Item.TheVariants as item
 use Rattle.fx_model.specs.declared.resources.Update.{Update}
 use Rattle.fx_model.specs.declared.resources.Update.TheVariants as update
 use Rattle.fx_model.specs.declared.resources.Resources.{Resources}
+use Rattle.fx_model.specs.declared.view_rule.ViewRule.{ViewRule}
 use Rattle.fx_model.specs.declared.view.View.{View}
 use Rattle.fx_model.specs.declared.view.ViewEndpoint.{ViewEndpoint}
 use Rattle.fx_model.specs.declared.view.ViewProfile.{ViewProfile}
+use Rattle.fx_model.specs.Criteria.{has_ports, icmp_number}
+
+-- ---- rules
+
+abbrev pub implies : Bool → Bool → Bool
+implies a b = not a || b
+
+abbrev pub is_given : {A : Type 0} → List A → Bool
+is_given [] = false
+is_given (x ∷ xs) = true
+
+abbrev pub has_port_protocol : Option Proto → Bool
+has_port_protocol None = false
+has_port_protocol (Some p) = has_ports p.0
+
+abbrev pub has_icmp_protocol : Option Proto → Bool
+has_icmp_protocol None = false
+has_icmp_protocol (Some p) = nat_eq p.0 icmp_number
+
+abbrev pub lists_ports : Rule → Bool
+lists_ports r =
+    (is_given r.source.ports || is_given r.source.not_ports) || (is_given r.destination.ports || is_given r.destination.not_ports)
+
+abbrev pub is_formed_rule : Rule → Bool
+is_formed_rule r =
+    implies (lists_ports r) (has_port_protocol r.protocol) && implies (is_some r.icmp || is_some r.not_icmp) (has_icmp_protocol r.protocol)
+
+abbrev pub passes : Action → Bool
+passes Allow = false
+passes Deny = false
+passes Log = false
+passes Pass = true
+
+abbrev pub is_formed_profile_rule : Rule → Bool
+is_formed_profile_rule r = is_formed_rule r && not (passes r.action)
+
+abbrev pub is_formed_profile : Profile → Bool
+is_formed_profile p = list_all is_formed_profile_rule p.ingress && list_all is_formed_profile_rule p.egress
+
+-- the same of rules as they are rendered
+abbrev pub lists_view_ports : ViewRule → Bool
+lists_view_ports r =
+    (is_given r.source.ports || is_given r.source.not_ports) || (is_given r.destination.ports || is_given r.destination.not_ports)
+
+abbrev pub is_formed_view_rule : ViewRule → Bool
+is_formed_view_rule r =
+    implies (lists_view_ports r) (has_port_protocol r.protocol) && implies (is_some r.icmp || is_some r.not_icmp) (has_icmp_protocol r.protocol)
+
+abbrev pub is_formed_view_profile_rule : ViewRule → Bool
+is_formed_view_profile_rule r = is_formed_view_rule r && not (passes r.action)
+
+-- ---- resources
 
 abbrev pub is_formed_profile_name : List ℕ → Bool
 is_formed_profile_name name = nat_le (length name) 19
@@ -24,10 +83,11 @@ is_formed update.InSync = true
 is_formed (update.Put (key.Item k) (item.Endpoint e)) = is_formed_endpoint e
 is_formed (update.Put (key.Item k) (item.Profile p)) = true
 is_formed (update.Put (key.Profile name) (item.Endpoint e)) = true
-is_formed (update.Put (key.Profile name) (item.Profile p)) = is_formed_profile_name name
+is_formed (update.Put (key.Profile name) (item.Profile p)) = is_formed_profile_name name && is_formed_profile p
+is_formed (update.Delete k) = true
 
 abbrev pub are_formed : Resources → Bool
-are_formed R = list_all (λ x. is_formed_endpoint x.1) (maps.entries R.endpoints) && list_all (λ x. is_formed_profile_name x.0) (maps.entries R.profiles)
+are_formed R = list_all (λ x. is_formed_endpoint x.1) (maps.entries R.endpoints) && list_all (λ x. is_formed_profile_name x.0 && is_formed_profile x.1) (maps.entries R.profiles)
 
 -- what the view of such resources keeps
 abbrev pub is_formed_view_endpoint : List ℕ × ViewEndpoint → Bool

@@ -1,11 +1,15 @@
 pub mod SameIds
 pub mod SameMember
+pub mod SameRules
 pub mod SameViews
 pub mod Directions
+pub mod Criteria
 pub mod Formed
 pub mod Resources
 pub mod Views
+pub mod Rendering
 pub mod Tables
+pub mod Shapes
 pub mod Closed
 pub mod Writing
 pub mod Messages

@@ -1,8 +1,8 @@
 -- The packet machine: what the kernel does with a packet at the FORWARD hook, rule by rule. From iptables(8) (`-j`, `-g`,
--- ACCEPT, DROP, RETURN, the end of a chain) and iptables-extensions(8) (matches on mark and connection state, and MARK).
-use Rattle.std.specs.Prelude.{◌≡◌, ℕ, suc, Bool, true, false, not, ◌||◌, ◌==◌, if◌then◌else◌, List, [], ◌∷◌, ◌++◌, nat_eq, bit_and, bit_xor, slice_get, Option, Some, None}
+-- ACCEPT, DROP, RETURN, the end of a chain) and iptables-extensions(8) (matches, MARK and LOG) and ipset(8).
+use Rattle.std.specs.Prelude.{◌≡◌, ℕ, suc, Bool, true, false, not, ◌&&◌, ◌||◌, ◌==◌, if◌then◌else◌, List, [], ◌∷◌, ◌++◌, nat_eq, bit_and, bit_xor, slice_get, Option, Some, None}
 use Rattle.std.specs.Int.{bit_not, w32}
-use Rattle.std.specs.List.{list_all, starts_with}
+use Rattle.std.specs.List.{list_all, list_any, starts_with}
 use Rattle.std.specs.Str.{bytes_eq}
 use Rattle.std.specs.FinMap as maps
 use Rattle.fx_model.specs.declared.packet.State.{State}
@@ -19,9 +19,15 @@ use Rattle.fx_model.specs.declared.chain.Target.TheVariants as target
 use Rattle.fx_model.specs.declared.chain.Reason.{Reason}
 use Rattle.fx_model.specs.declared.chain.Tag.{Tag}
 use Rattle.fx_model.specs.declared.chain.Tag.TheVariants.{Plain, Why}
+use Rattle.fx_model.specs.declared.chain.Tag.TheVariants as tag
+use Rattle.fx_model.specs.declared.member.Member.{Member}
+use Rattle.fx_model.specs.declared.member.Member.TheVariants as member
 use Rattle.fx_model.specs.declared.chain.ChainRule.{ChainRule}
 use Rattle.fx_model.specs.Directions.{Direction, Ingress, Egress}
-use Rattle.fx_model.specs.Tables.{ChainName, Chains, Tables, forward}
+use Rattle.fx_base.specs.Set as set
+use Rattle.fx_model.specs.Criteria.{address_at, port_at, in_net, has_ports, in_ranges, is_icmp, is_message}
+use Rattle.fx_model.specs.Messages.{members_of}
+use Rattle.fx_model.specs.Tables.{ChainName, Chains, Sets, Tables, forward}
 
 -- ---- one rule
 
@@ -45,11 +51,32 @@ state_in false Established = false
 state_in false Related = false
 state_in false Invalid = true
 
--- a match holds for a packet that has this mark
-unfoldable pub holds : Packet → ℕ → Match → Bool
-holds a mark (match.Iface end name wild) = names_iface wild name (iface_at end a)
-holds a mark (match.Mark value mask) = nat_eq (bit_and mark mask) value
-holds a mark (match.State related_established) = state_in related_established a.state
+-- the answer of a test, or with `!` its opposite
+abbrev pub negated : Bool → Bool → Bool
+negated false b = b
+negated true b = not b
+
+-- a net holds for an address in it, and a port for its address, protocol and number
+abbrev pub member_holds : End → Packet → Member → Bool
+member_holds end a (member.Net net) = in_net net (address_at end a)
+member_holds end a (member.PortAt address proto number) =
+    nat_eq (address_at end a) address.0 && (nat_eq a.proto.0 proto.0 && nat_eq (port_at end a) number)
+
+-- some member of the set holds; a set that isn't there has none
+abbrev pub set_holds : Sets → End → List ℕ → Packet → Bool
+set_holds sets end name a = list_any (member_holds end a) (set.items (members_of (maps.get sets name)))
+
+-- a match holds for a packet that has this mark; one on ports holds for protocols that have ports alone, and one on messages of
+-- ICMP for ICMP alone, with and without `!`
+unfoldable pub holds : Sets → Packet → ℕ → Match → Bool
+holds sets a mark (match.Proto proto opposite) = negated opposite (nat_eq a.proto.0 proto.0)
+holds sets a mark (match.Net end net opposite) = negated opposite (in_net net (address_at end a))
+holds sets a mark (match.Iface end name wild) = names_iface wild name (iface_at end a)
+holds sets a mark (match.Mark value mask) = nat_eq (bit_and mark mask) value
+holds sets a mark (match.State related_established) = state_in related_established a.state
+holds sets a mark (match.Set end name opposite) = negated opposite (set_holds sets end name a)
+holds sets a mark (match.Ports end list opposite) = has_ports a.proto.0 && negated opposite (in_ranges list (port_at end a))
+holds sets a mark (match.Icmp icmp opposite) = is_icmp a && negated opposite (is_message icmp a)
 
 -- how matches are tested, given the packet's mark
 abbrev pub Test : Type 0
@@ -111,6 +138,7 @@ acted (target.Jump to) chain passed stack mark noted =
 acted (target.Goto to) chain passed stack mark noted = Goes (at_rule to 0 stack mark noted)
 acted (target.Mark value mask) chain passed stack mark noted =
     Goes (at_rule chain (suc passed) stack (marked mark value mask) noted)
+acted target.Log chain passed stack mark noted = Goes (at_rule chain (suc passed) stack mark noted)
 
 -- one step, where this rule is next, or none
 abbrev pub at_next : {S : Type 0} → Notes S → Test → Option ChainRule → ChainName → ℕ → List Place → ℕ → S → Next S
@@ -152,6 +180,7 @@ with_reason (Some Ingress) why s = record s { ingress = Some why }
 
 abbrev pub with_tag : Tag → Reasons → Reasons
 with_tag Plain s = s
+with_tag tag.Log s = s
 with_tag (Why why) s = with_reason s.side why s
 
 -- the last reason on each side is kept
@@ -173,9 +202,11 @@ is_shown_target target.Return = false
 is_shown_target (target.Jump to) = true
 is_shown_target (target.Goto to) = true
 is_shown_target (target.Mark value mask) = false
+is_shown_target target.Log = true
 
 abbrev pub is_plain : Tag → Bool
 is_plain Plain = true
+is_plain tag.Log = false
 is_plain (Why why) = false
 
 -- a rule is shown if it leads somewhere, ends the packet's way or has a reason
@@ -191,12 +222,12 @@ hops_and_reasons name place r t =
 -- it ends with this verdict and these reasons
 abbrev pub Decides : Tables → Packet → Verdict → Option Reason → Option Reason → Type 0
 Decides tables a v egress ingress =
-    (side : Option Direction) × Run Reasons last_reason (holds a) tables.chains (at_rule forward 0 [] 0 nothing_noted) v (record { side = side; egress = egress; ingress = ingress })
+    (side : Option Direction) × Run Reasons last_reason (holds tables.sets a) tables.chains (at_rule forward 0 [] 0 nothing_noted) v (record { side = side; egress = egress; ingress = ingress })
 
 -- it ends so, and appends its path to `before`, which gives `after`
 abbrev pub Traces : Tables → Packet → List (ChainName × ℕ) → List (ChainName × ℕ) → Verdict → Option Reason → Option Reason → Type 0
 Traces tables a before after v egress ingress =
-    (side : Option Direction) × Run Trace hops_and_reasons (holds a) tables.chains (at_rule forward 0 [] 0 (record { hops = before; reasons = nothing_noted })) v
+    (side : Option Direction) × Run Trace hops_and_reasons (holds tables.sets a) tables.chains (at_rule forward 0 [] 0 (record { hops = before; reasons = nothing_noted })) v
     (record { hops = after; reasons = record { side = side; egress = egress; ingress = ingress } })
 
 -- whatever the run makes of `before` begins with `cut`, which begins with `before`

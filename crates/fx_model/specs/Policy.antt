@@ -1,8 +1,8 @@
 -- The policy reference: what resources say of the first packet of a connection. From Calico's resource reference
--- (`projectcalico.org/v3`): tiers and policies in their order, then profiles in listed order, each rule allowing, denying or
--- passing. It knows no chain, mark or jump.
-use Rattle.std.specs.Prelude.{ℕ, suc, Bool, true, false, List, [], ◌∷◌, map, nat_eq, codes, Option, Some, None}
-use Rattle.std.specs.List.{starts_with}
+-- (`projectcalico.org/v3`): tiers and policies in their order, then profiles in listed order, each rule allowing, denying,
+-- logging or passing. It knows no chain, mark or jump.
+use Rattle.std.specs.Prelude.{ℕ, suc, Bool, true, false, not, ◌&&◌, List, [], ◌∷◌, map, nat_eq, codes, Option, Some, None}
+use Rattle.std.specs.List.{list_any, starts_with}
 use Rattle.std.specs.Str.{bytes_eq}
 use Rattle.std.specs.FinMap as maps
 use Rattle.fx_model.specs.declared.ids.ItemKey.{ItemKey}
@@ -11,13 +11,18 @@ use Rattle.fx_model.specs.declared.packet.Verdict.{Verdict}
 use Rattle.fx_model.specs.declared.packet.Verdict.TheVariants.{Allow, Deny}
 use Rattle.fx_model.specs.declared.chain.Reason.{Reason}
 use Rattle.fx_model.specs.declared.chain.Reason.TheVariants as reason
-use Rattle.fx_model.specs.declared.resources.Action.{Action}
-use Rattle.fx_model.specs.declared.resources.Action.TheVariants as action
-use Rattle.fx_model.specs.declared.resources.Rule.{Rule}
+use Rattle.fx_model.specs.declared.rules.Action.{Action}
+use Rattle.fx_model.specs.declared.rules.Action.TheVariants as action
+use Rattle.fx_model.specs.declared.rules.Rule.{Rule}
+use Rattle.fx_model.specs.declared.rules.Side.{Side}
+use Rattle.fx_base.specs.declared.net.PortRange.{PortRange}
 use Rattle.fx_model.specs.declared.resources.Endpoint.{Endpoint}
 use Rattle.fx_model.specs.declared.resources.Profile.{Profile}
 use Rattle.fx_model.specs.declared.resources.Resources.{Resources}
+use Rattle.fx_model.specs.declared.chain.End.{End}
+use Rattle.fx_model.specs.declared.chain.End.TheVariants.{Source, Dest}
 use Rattle.fx_model.specs.Directions.{Direction, Ingress, Egress}
+use Rattle.fx_model.specs.Criteria.{address_at, port_at, proto_is, proto_is_not, lies_in, lies_in_given, holds_port, icmp_is, icmp_is_not}
 use Rattle.fx_model.specs.Resources.{served_endpoints}
 
 -- ---- rules, in their order
@@ -37,6 +42,8 @@ pub data Answer : Type 0 where
 abbrev pub answer_of : Action → Reason → Answer → Answer
 answer_of action.Allow why rest = Allowed why
 answer_of action.Deny why rest = Denied why
+answer_of action.Log why rest = rest
+answer_of action.Pass why rest = Passed
 
 -- the first rule that matches and decides or passes
 abbrev pub first_answer : List MetRule → Answer
@@ -89,9 +96,27 @@ profiles_verdict (p ∷ ps) = profile_verdict p (profiles_verdict ps)
 
 -- ---- an endpoint of the resources
 
--- a rule has no criteria yet, so it matches each packet
+abbrev pub some_port : List PortRange → ℕ → ℕ → Bool
+some_port ps proto y = list_any (λ r. holds_port r proto y) ps
+
+-- some member holds, if there are members
+abbrev pub some_port_given : List PortRange → ℕ → ℕ → Bool
+some_port_given [] proto y = true
+some_port_given (p ∷ ps) proto y = some_port (p ∷ ps) proto y
+
+-- what a rule asks of one end of the packet's way: a list holds if one of its members does, and a negated one if none does
+abbrev pub side_matches : End → Side → Packet → Bool
+side_matches end s a =
+    (lies_in_given s.nets (address_at end a) && not (lies_in s.not_nets (address_at end a)))
+    && (some_port_given s.ports a.proto.0 (port_at end a) && not (some_port s.not_ports a.proto.0 (port_at end a)))
+
+-- all criteria hold together
 abbrev pub rule_matches : Resources → Rule → Packet → Bool
-rule_matches R r a = true
+rule_matches R r a =
+    not r.never
+    && ((proto_is r.protocol a.proto.0 && proto_is_not r.not_protocol a.proto.0)
+    && ((icmp_is r.icmp a && icmp_is_not r.not_icmp a)
+    && (side_matches Source r.source a && side_matches Dest r.destination a)))
 
 -- rules as a packet meets them, each told by its place
 abbrev pub met_rules : Resources → Packet → (ℕ → Reason) → ℕ → List Rule → List MetRule

@@ -40,6 +40,7 @@ LeadsBelow rank target.Return = Unit {0}
 LeadsBelow rank (target.Jump to) = rank_of to < rank
 LeadsBelow rank (target.Goto to) = rank_of to < rank
 LeadsBelow rank (target.Mark value mask) = Unit {0}
+LeadsBelow rank target.Log = Unit {0}
 
 abbrev pub AllLeadBelow : ℕ → List ChainRule → Type 0
 AllLeadBelow rank [] = Unit {0}

@@ -1,5 +1,6 @@
 -- The resources of a node, and what an update makes of them. From Calico's resource reference (`projectcalico.org/v3`):
--- a workload endpoint runs on the node that `spec.node` names, and a put replaces the resource of its key.
+-- a workload endpoint runs on the node that `spec.node` names, and a put replaces the resource of its key,
+-- and a delete removes it.
 use Rattle.std.specs.Prelude.{List, Bool, true, ◌&&◌, filter}
 use Rattle.std.specs.Str.{bytes_eq}
 use Rattle.std.specs.FinMap as map
@@ -20,10 +21,16 @@ after_put R (key.Item k) (item.Profile p) = R
 after_put R (key.Profile name) (item.Endpoint e) = R
 after_put R (key.Profile name) (item.Profile p) = record R { profiles = map.insert R.profiles name p }
 
+-- a delete; to delete what isn't there changes nothing
+abbrev pub after_delete : Resources → Key → Resources
+after_delete R (key.Item k) = record R { endpoints = map.remove R.endpoints k }
+after_delete R (key.Profile name) = record R { profiles = map.remove R.profiles name }
+
 -- the resources after an update
 abbrev pub after : Resources → Update → Resources
 after R update.InSync = record R { in_sync = true }
 after R (update.Put k x) = after_put R k x
+after R (update.Delete k) = after_delete R k
 
 -- an endpoint that runs on this node
 abbrev pub is_local : Resources → Endpoint → Bool

@@ -2,11 +2,7 @@
 use Rattle.std.specs.Prelude.{◌≡◌, true}
 use Rattle.fx_base.specs.Same.{same_bytes, same_list, same_truths, both_pass}
 use Rattle.fx_model.specs.SameIds.{same_policy_id}
-use Rattle.fx_model.specs.declared.resources.Action.{Action}
-use Rattle.fx_model.specs.declared.resources.Action.TheVariants.{Allow, Deny}
-use Rattle.fx_model.specs.contracts.resources.ActionPartialEq.TheImpl as action
-use Rattle.fx_model.specs.declared.view.ViewRule.{ViewRule}
-use Rattle.fx_model.specs.contracts.view.ViewRulePartialEq.TheImpl as rule
+use Rattle.fx_model.specs.SameRules.{same_view_rule}
 use Rattle.fx_model.specs.declared.view.ViewTier.{ViewTier}
 use Rattle.fx_model.specs.contracts.view.ViewTierPartialEq.TheImpl as tier
 use Rattle.fx_model.specs.declared.view.ViewPolicy.{ViewPolicy}
@@ -15,15 +11,6 @@ use Rattle.fx_model.specs.declared.view.ViewProfile.{ViewProfile}
 use Rattle.fx_model.specs.contracts.view.ViewProfilePartialEq.TheImpl as profile
 use Rattle.fx_model.specs.declared.view.ViewEndpoint.{ViewEndpoint}
 use Rattle.fx_model.specs.contracts.view.ViewEndpointPartialEq.TheImpl as endpoint
-
-pub same_action : (x y : Action) → action.eq-value.it x y ≡ true → x ≡ y
-same_action Allow Allow e = λ i. Allow
-same_action Deny Deny e = λ i. Deny
-same_action Allow Deny e = cc
-same_action Deny Allow e = cc
-
-pub same_rule : (x y : ViewRule) → rule.eq-value.it x y ≡ true → x ≡ y
-same_rule x y e = λ i. record { action = same_action x.action y.action e i }
 
 pub same_tier : (x y : ViewTier) → tier.eq-value.it x y ≡ true → x ≡ y
 same_tier x y e =
@@ -34,7 +21,7 @@ pub same_policy : (x y : ViewPolicy) → policy.eq-value.it x y ≡ true → x �
 same_policy x y e =
     let p = both_pass _ _ e in
     let q = both_pass _ _ p.1 in
-    λ i. record { id = same_policy_id x.id y.id p.0 i; ingress = same_list _ same_rule x.ingress y.ingress q.0 i; egress = same_list _ same_rule x.egress y.egress q.1 i }
+    λ i. record { id = same_policy_id x.id y.id p.0 i; ingress = same_list _ same_view_rule x.ingress y.ingress q.0 i; egress = same_list _ same_view_rule x.egress y.egress q.1 i }
 
 pub same_profile : (x y : ViewProfile) → profile.eq-value.it x y ≡ true → x ≡ y
 same_profile x y e =
@@ -44,8 +31,8 @@ same_profile x y e =
     λ i. record {
       name = same_bytes x.name y.name p.0 i;
       missing = same_truths x.missing y.missing q.0 i;
-      ingress = same_list _ same_rule x.ingress y.ingress r.0 i;
-      egress = same_list _ same_rule x.egress y.egress r.1 i;
+      ingress = same_list _ same_view_rule x.ingress y.ingress r.0 i;
+      egress = same_list _ same_view_rule x.egress y.egress r.1 i;
     }
 
 pub same_endpoint : (x y : ViewEndpoint) → endpoint.eq-value.it x y ≡ true → x ≡ y

@@ -1,6 +1,6 @@
 -- The tables that a view is rendered to: IP sets, and chains of the filter table by iptables(8). The names of the chains
 -- and their prefixes are Felix's.
-use Rattle.std.specs.Prelude.{ℕ, suc, List, [], ◌∷◌, ◌++◌, Bool, true, false, codes}
+use Rattle.std.specs.Prelude.{ℕ, List, [], ◌∷◌, ◌++◌, Bool, true, false, codes}
 use Rattle.std.specs.List.{flat_map}
 use Rattle.std.specs.Ordering.{nat_cmp}
 use Rattle.std.specs.Cmp.Lexicographic.{slice_cmp}
@@ -8,25 +8,20 @@ use Rattle.std.specs.FinMap as maps
 use Rattle.fx_base.specs.Extended.{collected}
 use Rattle.fx_base.specs.Set as set
 use Rattle.fx_model.specs.contracts.member.MemberOrd.TheImpl.{cmp-value}
-use Rattle.fx_model.specs.declared.resources.Action.{Action}
-use Rattle.fx_model.specs.declared.resources.Action.TheVariants.{Allow, Deny}
 use Rattle.fx_model.specs.declared.view.View.{View}
-use Rattle.fx_model.specs.declared.view.ViewRule.{ViewRule}
+use Rattle.fx_model.specs.declared.view_rule.ViewRule.{ViewRule}
 use Rattle.fx_model.specs.declared.view.ViewPolicy.{ViewPolicy}
 use Rattle.fx_model.specs.declared.view.ViewProfile.{ViewProfile}
 use Rattle.fx_model.specs.declared.view.ViewTier.{ViewTier}
 use Rattle.fx_model.specs.declared.view.ViewEndpoint.{ViewEndpoint}
 use Rattle.fx_model.specs.declared.chain.End.{End}
 use Rattle.fx_model.specs.declared.chain.End.TheVariants.{Source, Dest}
-use Rattle.fx_model.specs.declared.chain.Match.{Match}
 use Rattle.fx_model.specs.declared.chain.Match.TheVariants as match
-use Rattle.fx_model.specs.declared.chain.Target.{Target}
 use Rattle.fx_model.specs.declared.chain.Target.TheVariants as target
-use Rattle.fx_model.specs.declared.chain.Reason.{Reason}
 use Rattle.fx_model.specs.declared.chain.Reason.TheVariants as reason
-use Rattle.fx_model.specs.declared.chain.Tag.TheVariants.{Plain, Why}
 use Rattle.fx_model.specs.declared.chain.ChainRule.{ChainRule}
 use Rattle.fx_model.specs.Directions.{Direction, Ingress, Egress}
+use Rattle.fx_model.specs.Rendering.{accept_mark, pass_mark, plain, told, clear_mark, is_set, is_clear, rendered_rules}
 
 -- a chain's name, as bytes
 abbrev pub ChainName : Type 0
@@ -42,45 +37,6 @@ Chains = maps.FinMap (slice_cmp nat_cmp) (List ChainRule)
 pub record Tables : Type 0 where
   pub sets : Sets
   pub chains : Chains
-
--- ---- rules
-
-abbrev pub accept_mark : ℕ
-accept_mark = 0x10000
-
-abbrev pub pass_mark : ℕ
-pass_mark = 0x20000
-
-abbrev pub plain : List Match → Target → ChainRule
-plain ms to = record { matches = ms; target = to; tag = Plain }
-
-abbrev pub told : List Match → Target → Reason → ChainRule
-told ms to why = record { matches = ms; target = to; tag = Why why }
-
-abbrev pub set_mark : ℕ → Target
-set_mark m = target.Mark m m
-
-abbrev pub clear_mark : ℕ → Target
-clear_mark m = target.Mark 0 m
-
-abbrev pub is_set : ℕ → Match
-is_set m = match.Mark m m
-
-abbrev pub is_clear : ℕ → Match
-is_clear m = match.Mark 0 m
-
--- what a rule does with a packet that meets these matches
-abbrev pub main_rules : Action → List Match → Reason → List ChainRule
-main_rules Allow ms why = told ms (set_mark accept_mark) why ∷ plain (is_set accept_mark ∷ []) target.Return ∷ []
-main_rules Deny ms why = told ms target.Drop why ∷ []
-
-abbrev pub rendered_rule : ViewRule → Reason → List ChainRule
-rendered_rule r why = main_rules r.action [] why
-
--- rules in order, each told by its place
-abbrev pub rendered_rules : (ℕ → Reason) → ℕ → List ViewRule → List ChainRule
-rendered_rules why place [] = []
-rendered_rules why place (r ∷ rs) = rendered_rule r (why place) ++ rendered_rules why (suc place) rs
 
 -- ---- chains of policies and profiles
 

@@ -8,17 +8,39 @@ use Rattle.fx_model.specs.declared.ids.ItemKey.{ItemKey}
 use Rattle.fx_model.specs.declared.ids.ItemKey.TheVariants as key
 use Rattle.fx_model.specs.declared.resources.Endpoint.{Endpoint}
 use Rattle.fx_model.specs.declared.resources.Profile.{Profile}
-use Rattle.fx_model.specs.declared.resources.Rule.{Rule}
+use Rattle.fx_model.specs.declared.rules.Rule.{Rule}
+use Rattle.fx_model.specs.declared.rules.Side.{Side}
 use Rattle.fx_model.specs.declared.resources.Resources.{Resources}
 use Rattle.fx_model.specs.declared.view.View.{View}
-use Rattle.fx_model.specs.declared.view.ViewRule.{ViewRule}
+use Rattle.fx_model.specs.declared.view_rule.ViewRule.{ViewRule}
+use Rattle.fx_model.specs.declared.view_rule.ViewSide.{ViewSide}
+use Rattle.fx_model.specs.declared.view_rule.ViewPort.TheVariants.{Range}
 use Rattle.fx_model.specs.declared.view.ViewProfile.{ViewProfile}
 use Rattle.fx_model.specs.declared.view.ViewEndpoint.{ViewEndpoint}
 use Rattle.fx_model.specs.Resources.{served_endpoints}
 
--- a rule as it is rendered
+-- a rule as it is rendered: its criteria have no sets yet
+abbrev pub view_side : Side → ViewSide
+view_side s = record {
+  nets = s.nets;
+  not_nets = s.not_nets;
+  set = None;
+  not_set = None;
+  ports = map Range s.ports;
+  not_ports = map Range s.not_ports;
+}
+
 abbrev pub view_rule : Rule → ViewRule
-view_rule r = record { action = r.action }
+view_rule r = record {
+  action = r.action;
+  never = r.never;
+  protocol = r.protocol;
+  not_protocol = r.not_protocol;
+  icmp = r.icmp;
+  not_icmp = r.not_icmp;
+  source = view_side r.source;
+  destination = view_side r.destination;
+}
 
 -- a profile's key: its name
 abbrev pub profile_key : List ℕ → List ℕ

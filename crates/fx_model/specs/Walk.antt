@@ -65,6 +65,7 @@ obeyed call target.Return m s = Left m s
 obeyed call (target.Jump to) m s = after_jump (call to m s)
 obeyed call (target.Goto to) m s = after_goto (call to m s)
 obeyed call (target.Mark value mask) m s = Through (marked m value mask) s
+obeyed call target.Log m s = Through m s
 
 -- one rule: its target if all its matches hold
 unfoldable pub over_rule : {S : Type 0} → Notes S → Test → (ChainName → Onward S) → ChainName → ℕ → ChainRule → Onward S

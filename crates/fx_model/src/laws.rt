@@ -26,7 +26,7 @@ pub fn closed_view_has_closed_tables()
 
 /// A closed view's chains can be written into empty tables in their order.
 pub fn closed_view_can_be_written()
-    ensures { (v : View) → IsClosedView v → CanBeWritten map.empty (chains_of v) }
+    ensures { (v : View) → IsClosedView v → CanBeWritten v.sets map.empty (chains_of v) }
 {}
 
 /// There is a message exactly while the sent view isn't the wanted one.

@@ -1,5 +1,5 @@
 //! What resources, views, messages, chains and packets are, and what one makes of another.
-#![tactic(auto, using(fx_base::proofs::AtKey::reads))]
+#![tactic(auto)]
 
 pub mod laws;
 
@@ -11,8 +11,10 @@ pub use message::{MemberList, Message};
 pub use next::next_message;
 pub use packet::{Packet, State, Verdict};
 pub use place::{Place, place_of, take_at};
-pub use resources::{Action, Endpoint, Item, Profile, Resources, Rule, Update};
-pub use view::{View, ViewEndpoint, ViewPolicy, ViewProfile, ViewRule, ViewTier};
+pub use resources::{Endpoint, Item, Profile, Resources, Update};
+pub use rules::{Action, Icmp, Rule, Side};
+pub use view::{View, ViewEndpoint, ViewPolicy, ViewProfile, ViewTier};
+pub use view_rule::{ViewPort, ViewRule, ViewSide};
 pub use wanted::view_of;
 
 mod chain;
@@ -24,5 +26,7 @@ mod next;
 mod packet;
 mod place;
 mod resources;
+mod rules;
 mod view;
+mod view_rule;
 mod wanted;

@@ -4,21 +4,9 @@ ghost use Rattle.std.specs.FinMap as map;
 
 use crate::ids::{ItemKey, Key};
 use crate::item_map::ItemMap;
+use crate::rules::Rule;
 use fx_base::{Memory, Seq, Text, TextMap};
 use std::alloc::Global;
-
-/// What a rule does with a packet that it matches.
-#[derive(Clone, Copy, Debug, PartialEq, Eq)]
-pub enum Action {
-    Allow,
-    Deny,
-}
-
-/// A rule of a profile, for one direction.
-#[derive(Debug, Drop)]
-pub struct Rule {
-    pub action: Action,
-}
 
 /// A workload endpoint: the node that it runs on, its interface there, and its profiles in listed order.
 #[derive(Debug, Drop)]
@@ -46,6 +34,7 @@ pub enum Item {
 #[derive(Debug, Drop)]
 pub enum Update {
     Put { key: Key, item: Item },
+    Delete { key: Key },
     InSync,
 }
 
@@ -59,7 +48,7 @@ pub struct Resources {
 }
 
 impl Resources {
-    ghost use Rattle.fx_model.specs.Resources.{after, after_put, is_local, is_served};
+    ghost use Rattle.fx_model.specs.Resources.{after, after_put, after_delete, is_local, is_served};
 
     /// No resources yet, and not in sync.
     pub fn new(alloc: Global, node: Text) -> Resources
@@ -84,6 +73,10 @@ impl Resources {
                 Ok(())
             }
             Update::Put { key, item } => self.put(key, item),
+            Update::Delete { key } => {
+                self.delete(&key);
+                Ok(())
+            }
         }
     }
 
@@ -106,6 +99,20 @@ impl Resources {
                     Ok(())
                 }
             },
+        }
+    }
+
+    // To delete what isn't there changes nothing.
+    fn delete(&mut self, key: &Key)
+        ensures { self.new ≡ after_delete self.old key.now }
+    {
+        match key {
+            Key::Item(key) => {
+                self.endpoints.remove(key);
+            }
+            Key::Profile { name } => {
+                self.profiles.remove(name);
+            }
         }
     }
 

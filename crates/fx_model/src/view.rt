@@ -3,25 +3,13 @@
 ghost use Rattle.fx_base.specs.Same.{both_pass, same_bytes, same_finite, same_set};
 ghost use Rattle.fx_model.specs.SameIds.{copies_policy_id};
 ghost use Rattle.fx_model.specs.SameMember.{same_member};
-ghost use Rattle.fx_model.specs.SameViews.{same_rule, same_tier, same_policy, same_profile, same_endpoint};
+ghost use Rattle.fx_model.specs.SameViews.{same_tier, same_policy, same_profile, same_endpoint};
 
 use crate::ids::PolicyId;
 use crate::member::MemberSet;
-use crate::resources::Action;
+use crate::view_rule::ViewRule;
 use fx_base::{Exact, NameKey, NameMap, Seq, SetMap, Text, TextMap};
 use std::alloc::Global;
-
-/// A rule as it is rendered.
-#[derive(Clone, Copy, Debug, PartialEq, Eq)]
-pub struct ViewRule {
-    pub action: Action,
-}
-
-impl Exact for ViewRule {
-    ghost same = { same_rule };
-
-    ghost copies = { λ x y h. h };
-}
 
 /// A policy that applies to some endpoint of the node.
 #[derive(Clone, Debug, PartialEq, Eq, Drop)]

@@ -5,12 +5,14 @@ ghost use Rattle.std.specs.List.{list_all};
 ghost use Rattle.std.specs.FinMap as maps;
 ghost use Rattle.fx_base.specs.Extended.{extended};
 ghost use Rattle.fx_model.specs.Formed.{are_formed, is_formed_profile_name, is_formed_endpoint};
-ghost use Rattle.fx_model.specs.Views.{view_of, view_rule, view_profile, view_endpoint, profile_entry, profile_key};
+ghost use Rattle.fx_model.specs.Views.{view_of, view_rule, view_side, view_profile, view_endpoint, profile_entry, profile_key};
 
 use crate::ids::ItemKey;
-use crate::resources::{Endpoint, Profile, Resources, Rule};
-use crate::view::{View, ViewEndpoint, ViewProfile, ViewRule};
-use fx_base::{Memory, NameKey, NameMap, Seq, Text};
+use crate::resources::{Endpoint, Profile, Resources};
+use crate::rules::{Rule, Side};
+use crate::view::{View, ViewEndpoint, ViewProfile};
+use crate::view_rule::{ViewPort, ViewRule, ViewSide};
+use fx_base::{Memory, NameKey, NameMap, PortRange, Seq, Text};
 use std::alloc::Global;
 
 /// What the node needs of the resources.
@@ -93,9 +95,45 @@ fn view_rules(alloc: Global, rules: &Seq<Rule>) -> Result<Seq<ViewRule>, Memory>
 {
     let mut wanted = Seq::new(alloc);
     for rule in rules.as_slice() {
-        wanted.push(ViewRule {
-            action: rule.action,
-        })?;
+        wanted.push(view_rule(alloc, rule)?)?;
+    }
+    Ok(wanted)
+}
+
+fn view_rule(alloc: Global, rule: &Rule) -> Result<ViewRule, Memory>
+    ensures { IfOk result (λ r. r ≡ view_rule rule.now) }
+{
+    Ok(ViewRule {
+        action: rule.action,
+        never: rule.never,
+        protocol: rule.protocol,
+        not_protocol: rule.not_protocol,
+        icmp: rule.icmp,
+        not_icmp: rule.not_icmp,
+        source: view_side(alloc, &rule.source)?,
+        destination: view_side(alloc, &rule.destination)?,
+    })
+}
+
+fn view_side(alloc: Global, side: &Side) -> Result<ViewSide, Memory>
+    ensures { IfOk result (λ s. s ≡ view_side side.now) }
+{
+    Ok(ViewSide {
+        nets: side.nets.clone()?,
+        not_nets: side.not_nets.clone()?,
+        set: None,
+        not_set: None,
+        ports: view_ports(alloc, &side.ports)?,
+        not_ports: view_ports(alloc, &side.not_ports)?,
+    })
+}
+
+fn view_ports(alloc: Global, ports: &Seq<PortRange>) -> Result<Seq<ViewPort>, Memory>
+    ensures { IfOk result (λ ps. ps ≡ map ViewPort.Range ports.now) }
+{
+    let mut wanted = Seq::new(alloc);
+    for range in ports.as_slice() {
+        wanted.push(ViewPort::Range(*range))?;
     }
     Ok(wanted)
 }

@@ -1,20 +1,17 @@
 -- The tables as text, each line with its newline: sets as ipset(8) saves them, chains as iptables-save(8) writes them.
-use Rattle.std.specs.Prelude.{ℕ, List, [], ◌∷◌, ◌++◌, Bool, true, false, codes, map}
+use Rattle.std.specs.Prelude.{List, [], ◌∷◌, ◌++◌, codes, map, ℕ}
 use Rattle.std.specs.List.{flat_map}
-use Rattle.std.specs.Fmt.{digits}
 use Rattle.std.specs.FinMap as maps
 use Rattle.fx_base.specs.Set as set
 use Rattle.fx_model.specs.declared.member.Member.{Member}
-use Rattle.fx_model.specs.declared.chain.End.{End}
-use Rattle.fx_model.specs.declared.chain.End.TheVariants.{Source, Dest}
 use Rattle.fx_model.specs.declared.chain.Match.{Match}
-use Rattle.fx_model.specs.declared.chain.Match.TheVariants as match
 use Rattle.fx_model.specs.declared.chain.Target.{Target}
 use Rattle.fx_model.specs.declared.chain.Target.TheVariants as target
 use Rattle.fx_model.specs.declared.chain.ChainRule.{ChainRule}
 use Rattle.fx_model.specs.Tables.{Tables, Sets, Chains, ChainName}
 use Rattle.fx_model.specs.Messages.{Members}
 use Rattle.fx_print.specs.MemberTexts.{member_text, type_text}
+use Rattle.fx_print.specs.MatchTexts.{mark_text, match_text}
 
 -- ---- sets
 
@@ -29,31 +26,6 @@ set_lines e = create_line e.0 ∷ map (add_line e.0) (set.items e.1)
 
 -- ---- rules
 
-abbrev pub hex : ℕ → List ℕ
-hex n = codes "0x" ++ digits 16 false n
-
--- a mark's value and the bits of it that count
-abbrev pub mark_text : ℕ → ℕ → List ℕ
-mark_text value mask = hex value ++ (codes "/" ++ hex mask)
-
-abbrev pub option_of : End → List ℕ
-option_of Source = codes "-i "
-option_of Dest = codes "-o "
-
--- a wild name stands for all interfaces that begin with it
-abbrev pub wild_sign : Bool → List ℕ
-wild_sign true = codes "+"
-wild_sign false = []
-
-abbrev pub states_text : Bool → List ℕ
-states_text true = codes "RELATED,ESTABLISHED"
-states_text false = codes "INVALID"
-
-abbrev pub match_text : Match → List ℕ
-match_text (match.Iface end name wild) = option_of end ++ (name ++ wild_sign wild)
-match_text (match.Mark value mask) = codes "-m mark --mark " ++ mark_text value mask
-match_text (match.State related) = codes "-m conntrack --ctstate " ++ states_text related
-
 abbrev pub target_text : Target → List ℕ
 target_text target.Accept = codes "-j ACCEPT"
 target_text target.Drop = codes "-j DROP"
@@ -61,6 +33,7 @@ target_text target.Return = codes "-j RETURN"
 target_text (target.Jump chain) = codes "-j " ++ chain
 target_text (target.Goto chain) = codes "-g " ++ chain
 target_text (target.Mark value mask) = codes "-j MARK --set-xmark " ++ mark_text value mask
+target_text target.Log = codes "-j LOG"
 
 -- each match with a space behind it
 abbrev pub matches_text : List Match → List ℕ

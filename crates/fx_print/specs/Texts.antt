@@ -3,13 +3,24 @@
 use Rattle.std.specs.Prelude.{ℕ, List, [], ◌∷◌, ◌++◌, codes, decimal}
 use Rattle.fx_json.specs.declared.refusal.Refusal.{Refusal}
 use Rattle.fx_json.specs.Refusals.{number_of, name_of}
-use Rattle.fx_json.specs.declared.refusal.Refusal.TheVariants.{BadJson, BadLine, MissingField, BadField, Unsupported}
+use Rattle.fx_json.specs.declared.refusal.Refusal.TheVariants.{Read, BadJson, BadLine}
+use Rattle.fx_json.specs.declared.fault.ReadFault.{ReadFault}
+use Rattle.fx_json.specs.declared.fault.ReadFault.TheVariants.{UnknownKind, MissingField, BadField, Unsupported, PortsWithoutProtocol, IcmpWithoutProtocol, PassInProfile, Memory}
 
--- what follows the name: a space and the path, where there is one
+-- a space and the path, where a fault has one
+abbrev pub path_text : ReadFault → List ℕ
+path_text UnknownKind = []
+path_text (MissingField path) = codes " " ++ path
+path_text (BadField path) = codes " " ++ path
+path_text (Unsupported path) = codes " " ++ path
+path_text (PortsWithoutProtocol path) = codes " " ++ path
+path_text (IcmpWithoutProtocol path) = codes " " ++ path
+path_text (PassInProfile path) = codes " " ++ path
+path_text Memory = []
+
+-- what follows the name
 abbrev pub detail_of : Refusal → List ℕ
-detail_of (MissingField path) = codes " " ++ path
-detail_of (BadField path) = codes " " ++ path
-detail_of (Unsupported path) = codes " " ++ path
+detail_of (Read fault) = path_text fault
 detail_of BadJson = []
 detail_of BadLine = []
 

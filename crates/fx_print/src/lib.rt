@@ -1,11 +1,12 @@
 //! What is written: refusals, messages, tables and packets as text.
-#![tactic(auto, using(fx_base::proofs::AtKey::reads))]
+#![tactic(auto)]
 
 pub use messages::message_text;
 pub use packets::packet_texts;
 pub use tables::tables_text;
 pub use texts::{flushed_text, refusal_text, usage_text};
 
+mod matches;
 mod members;
 mod messages;
 mod packets;

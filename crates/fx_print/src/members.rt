@@ -1,9 +1,9 @@
 //! Members of sets as text.
 ghost use Rattle.std.specs.Prelude.{◌≡◌, ◌++◌, OnOk};
-ghost use Rattle.fx_print.specs.MemberTexts.{address_text, protocol_text, member_text, type_text};
+ghost use Rattle.fx_print.specs.MemberTexts.{address_text, protocol_text, net_text, member_text, type_text};
 
 use crate::texts::push_decimal;
-use fx_base::{Ipv4, Memory, Proto, SetKind, SetName};
+use fx_base::{Ipv4, Memory, Net, Proto, SetKind, SetName};
 use fx_model::Member;
 
 /// `a.b.c.d/len`, or `a.b.c.d,proto:port`.
@@ -11,11 +11,7 @@ pub fn push_member(line: &mut Vec<u8>, member: Member) -> Result<(), Memory>
     ensures { OnOk result (line.new.items ≡ line.old.items ++ member_text member) }
 {
     match member {
-        Member::Net(net) => {
-            push_address(line, net.addr)?;
-            line.extend_from_slice(b"/")?;
-            push_decimal(line, u64::from(net.len))
-        }
+        Member::Net(net) => push_net(line, net),
         Member::PortAt {
             addr,
             proto,
@@ -28,6 +24,15 @@ pub fn push_member(line: &mut Vec<u8>, member: Member) -> Result<(), Memory>
             push_decimal(line, u64::from(number))
         }
     }
+}
+
+/// `a.b.c.d/len`.
+pub fn push_net(line: &mut Vec<u8>, net: Net) -> Result<(), Memory>
+    ensures { OnOk result (line.new.items ≡ line.old.items ++ net_text net) }
+{
+    push_address(line, net.addr)?;
+    line.extend_from_slice(b"/")?;
+    push_decimal(line, u64::from(net.len))
 }
 
 fn push_address(line: &mut Vec<u8>, addr: Ipv4) -> Result<(), Memory>
@@ -43,10 +48,12 @@ fn push_address(line: &mut Vec<u8>, addr: Ipv4) -> Result<(), Memory>
     push_decimal(line, number % 256)
 }
 
-fn push_protocol(line: &mut Vec<u8>, proto: Proto) -> Result<(), Memory>
+/// A protocol's name, or its number.
+pub fn push_protocol(line: &mut Vec<u8>, proto: Proto) -> Result<(), Memory>
     ensures { OnOk result (line.new.items ≡ line.old.items ++ protocol_text proto) }
 {
     match proto.0 {
+        1 => line.extend_from_slice(b"icmp")?,
         6 => line.extend_from_slice(b"tcp")?,
         17 => line.extend_from_slice(b"udp")?,
         132 => line.extend_from_slice(b"sctp")?,

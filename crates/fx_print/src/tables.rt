@@ -3,12 +3,13 @@ ghost use Rattle.std.specs.Prelude.{◌≡◌, ◌++◌, ◌∷◌, [], OnOk, If
 ghost use Rattle.std.specs.List.{flat_map};
 ghost use Rattle.std.specs.FinMap as maps;
 ghost use Rattle.fx_base.specs.Set as set;
-ghost use Rattle.fx_print.specs.TableTexts.{create_line, add_line, set_lines, mark_text, option_of, wild_sign, states_text, match_text, matches_text, target_text, rule_line, header_line, header_lines, chain_lines, table_lines};
+ghost use Rattle.fx_print.specs.TableTexts.{create_line, add_line, set_lines, matches_text, target_text, rule_line, header_line, header_lines, chain_lines, table_lines};
 
+use crate::matches::{push_mark, push_match};
 use crate::members::{push_member, type_name};
 use crate::texts::push_both;
 use fx_base::{ChainMap, ChainName, Memory, Seq, SetMap, SetName, Text};
-use fx_model::{ChainRule, End, Match, Member, MemberSet, Target};
+use fx_model::{ChainRule, Match, Member, MemberSet, Target};
 use std::alloc::Global;
 
 /// The lines of the tables, for ipset and iptables-restore.
@@ -156,56 +157,6 @@ fn push_matches(line: &mut Vec<u8>, matches: &[Match]) -> Result<(), Memory>
     Ok(())
 }
 
-fn push_match(line: &mut Vec<u8>, each: &Match) -> Result<(), Memory>
-    ensures { OnOk result (line.new.items ≡ line.old.items ++ match_text each.now) }
-{
-    match each {
-        Match::Iface { end, name, wild } => push_interface(line, *end, name, *wild),
-        Match::Mark { value, mask } => push_mark(line, b"-m mark --mark ", *value, *mask),
-        Match::State {
-            related_established,
-        } => push_both(
-            line,
-            b"-m conntrack --ctstate ",
-            states_name(*related_established),
-        ),
-    }
-}
-
-fn states_name(related_established: bool) -> &'static [u8]
-    ensures { result.now ≡ states_text related_established }
-{
-    if related_established {
-        b"RELATED,ESTABLISHED"
-    } else {
-        b"INVALID"
-    }
-}
-
-fn push_interface(line: &mut Vec<u8>, end: End, name: &Text, wild: bool) -> Result<(), Memory>
-    ensures { OnOk result (line.new.items ≡ line.old.items ++ (option_of end ++ (name.now ++ wild_sign wild))) }
-{
-    line.extend_from_slice(match end {
-        End::Source => b"-i ",
-        End::Dest => b"-o ",
-    })?;
-    line.extend_from_slice(name.bytes())?;
-    if wild {
-        line.extend_from_slice(b"+")?;
-    }
-    Ok(())
-}
-
-/// An option, and both numbers in hexadecimal.
-fn push_mark(line: &mut Vec<u8>, option: &[u8], value: u32, mask: u32) -> Result<(), Memory>
-    ensures { OnOk result (line.new.items ≡ line.old.items ++ (option.now ++ mark_text value mask)) }
-{
-    let numbers = format!(in *line.allocator(); "0x{value:x}/0x{mask:x}")?;
-    line.extend_from_slice(option)?;
-    line.extend_from_slice(numbers.as_bytes())?;
-    Ok(())
-}
-
 fn push_target(line: &mut Vec<u8>, target: &Target) -> Result<(), Memory>
     ensures { OnOk result (line.new.items ≡ line.old.items ++ target_text target.now) }
 {
@@ -216,5 +167,6 @@ fn push_target(line: &mut Vec<u8>, target: &Target) -> Result<(), Memory>
         Target::Jump(chain) => push_both(line, b"-j ", chain.bytes()),
         Target::Goto(chain) => push_both(line, b"-g ", chain.bytes()),
         Target::Mark { value, mask } => { push_mark(line, b"-j MARK --set-xmark ", *value, *mask) }
+        Target::Log => Ok(line.extend_from_slice(b"-j LOG")?),
     }
 }

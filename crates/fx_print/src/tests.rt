@@ -4,12 +4,14 @@ use crate::packets::packet_texts;
 use crate::tables::tables_text;
 use crate::texts::{flushed_text, refusal_text, usage_text};
 use fx_base::{
-    ChainMap, ChainName, Ipv4, Memory, NameKey, Net, Proto, Seq, SetKind, SetMap, SetName, Text,
+    ChainMap, ChainName, Ipv4, Memory, NameKey, Net, PortRange, Proto, Seq, SetKind, SetMap,
+    SetName, Text,
 };
-use fx_json::Refusal;
+use fx_json::{ReadFault, Refusal};
 use fx_model::{
-    Action, ChainRule, End, Match, Member, MemberList, MemberSet, Message, Packet, PolicyId,
-    Reason, State, Tag, Target, Verdict, ViewEndpoint, ViewPolicy, ViewProfile, ViewRule, ViewTier,
+    Action, ChainRule, End, Icmp, Match, Member, MemberList, MemberSet, Message, Packet, PolicyId,
+    Reason, State, Tag, Target, Verdict, ViewEndpoint, ViewPolicy, ViewProfile, ViewRule, ViewSide,
+    ViewTier,
 };
 use fx_walk::Hop;
 use std::alloc::Global;
@@ -56,26 +58,32 @@ fn refusals(rt: HostRuntime) -> Result<(), Fail> {
     let alloc = rt.alloc();
     refuses(&rt, alloc, Refusal::BadJson, b"refused 10 21 BadJson\n")?;
     refuses(&rt, alloc, Refusal::BadLine, b"refused 10 22 BadLine\n")?;
+    refuses(
+        &rt,
+        alloc,
+        Refusal::Read(ReadFault::UnknownKind),
+        b"refused 10 1 UnknownKind\n",
+    )?;
     let path = text(alloc, b"packet.in")?;
     refuses(
         &rt,
         alloc,
-        Refusal::MissingField { path },
+        Refusal::Read(ReadFault::MissingField { path }),
         b"refused 10 2 MissingField packet.in\n",
     )?;
     let path = text(alloc, b"spec.order")?;
     refuses(
         &rt,
         alloc,
-        Refusal::BadField { path },
+        Refusal::Read(ReadFault::BadField { path }),
         b"refused 10 3 BadField spec.order\n",
     )?;
-    let path = text(alloc, b"put")?;
+    let path = text(alloc, b"spec.node")?;
     refuses(
         &rt,
         alloc,
-        Refusal::Unsupported { path },
-        b"refused 10 5 Unsupported put\n",
+        Refusal::Read(ReadFault::Unsupported { path }),
+        b"refused 10 5 Unsupported spec.node\n",
     )?;
     Ok(())
 }
@@ -169,11 +177,29 @@ fn sets_of_ports(rt: HostRuntime) -> Result<(), Fail> {
     Ok(())
 }
 
+fn side(alloc: Global) -> ViewSide {
+    ViewSide {
+        nets: Seq::new(alloc),
+        not_nets: Seq::new(alloc),
+        set: None,
+        not_set: None,
+        ports: Seq::new(alloc),
+        not_ports: Seq::new(alloc),
+    }
+}
+
 fn rules(alloc: Global, count: u8) -> Result<Seq<ViewRule>, Memory> {
     let mut rules = Seq::new(alloc);
     for _ in 0..count {
         rules.push(ViewRule {
             action: Action::Allow,
+            never: false,
+            protocol: None,
+            not_protocol: None,
+            icmp: None,
+            not_icmp: None,
+            source: side(alloc),
+            destination: side(alloc),
         })?;
     }
     Ok(rules)
@@ -398,6 +424,104 @@ fn chains(alloc: Global) -> Result<ChainMap<Seq<ChainRule>>, Memory> {
         root_rules(alloc, leaf)?,
     )?;
     Ok(chains)
+}
+
+fn positive_matches(alloc: Global, name: SetName) -> Result<Vec<Match>, Memory> {
+    let ports = vec![in alloc;
+        PortRange { low: 80, high: 80 },
+        PortRange {
+            low: 100,
+            high: 200
+        },
+    ]?;
+    Ok(vec![in alloc;
+        Match::Proto {
+            proto: Proto(1),
+            not: false
+        },
+        Match::Net {
+            end: End::Source,
+            net: Net {
+                addr: Ipv4(0x0a010000),
+                len: 16
+            },
+            not: false
+        },
+        Match::Set {
+            end: End::Dest,
+            name,
+            not: false
+        },
+        Match::Ports {
+            end: End::Dest,
+            list: Seq::from_vec(ports),
+            not: false
+        },
+        Match::Icmp {
+            icmp: Icmp {
+                kind: 8,
+                code: None
+            },
+            not: false
+        },
+    ]?)
+}
+
+fn negated_matches(alloc: Global, name: SetName) -> Result<Vec<Match>, Memory> {
+    let ports = vec![in alloc; PortRange { low: 1, high: 9 }]?;
+    Ok(vec![in alloc;
+        Match::Proto {
+            proto: Proto(58),
+            not: true
+        },
+        Match::Net {
+            end: End::Dest,
+            net: Net {
+                addr: Ipv4(0),
+                len: 0
+            },
+            not: true
+        },
+        Match::Set {
+            end: End::Source,
+            name,
+            not: true
+        },
+        Match::Ports {
+            end: End::Source,
+            list: Seq::from_vec(ports),
+            not: true
+        },
+        Match::Icmp {
+            icmp: Icmp {
+                kind: 8,
+                code: Some(0)
+            },
+            not: true
+        },
+    ]?)
+}
+
+#[test]
+fn matches_with_and_without_a_sign(rt: HostRuntime) -> Result<(), Fail> {
+    let alloc = rt.alloc();
+    let ports = SetName::new(SetKind::Ports, *b"dGNwLGh0dHAsYWxsKCkAAAA");
+    let nets = SetName::new(SetKind::Nets, *b"dGNwLGh0dHAsYWxsKCkAAAA");
+    let mut rules = Seq::new(alloc);
+    rules.push(rule(positive_matches(alloc, ports)?, Target::Log))?;
+    rules.push(rule(negated_matches(alloc, nets)?, Target::Drop))?;
+    let mut chains = ChainMap::new(alloc);
+    chains.insert(ChainName::join(b"c", b""), rules)?;
+    let lines = tables_text(alloc, &SetMap::new(alloc), &chains)?;
+    let expected: [&[u8]; 5] = [
+        b"*filter\n",
+        b":c - [0:0]\n",
+        b"-A c -p icmp -s 10.1.0.0/16 -m set --match-set cali40n:dGNwLGh0dHAsYWxsKCkAAAA dst,dst -m multiport --dports 80,100:200 -m icmp --icmp-type 8 -j LOG\n",
+        b"-A c ! -p 58 ! -d 0.0.0.0/0 -m set ! --match-set cali40s:dGNwLGh0dHAsYWxsKCkAAAA src -m multiport ! --sports 1:9 -m icmp ! --icmp-type 8/0 -j DROP\n",
+        b"COMMIT\n",
+    ];
+    read_in_turn(&rt, lines.as_slice(), &expected);
+    Ok(())
 }
 
 #[test]

@@ -1,9 +1,9 @@
 //! Numbers and plain answers as text.
 ghost use Rattle.std.specs.Prelude.{◌≡◌, ◌++◌, ◌∷◌, OnOk, IfOk, decimal};
-ghost use Rattle.fx_print.specs.Texts.{detail_of, refusal_line, flushed_line, usage_line};
+ghost use Rattle.fx_print.specs.Texts.{path_text, detail_of, refusal_line, flushed_line, usage_line};
 
 use fx_base::{Memory, Text};
-use fx_json::Refusal;
+use fx_json::{ReadFault, Refusal};
 use itoa::Buffer;
 use std::alloc::Global;
 
@@ -34,10 +34,22 @@ fn push_detail(line: &mut Vec<u8>, refusal: &Refusal) -> Result<(), Memory>
     ensures { OnOk result (line.new.items ≡ line.old.items ++ detail_of refusal.now) }
 {
     match refusal {
+        Refusal::Read(fault) => push_path(line, fault),
         Refusal::BadJson | Refusal::BadLine => Ok(()),
-        Refusal::MissingField { path }
-        | Refusal::BadField { path }
-        | Refusal::Unsupported { path } => push_word(line, path.bytes()),
+    }
+}
+
+fn push_path(line: &mut Vec<u8>, fault: &ReadFault) -> Result<(), Memory>
+    ensures { OnOk result (line.new.items ≡ line.old.items ++ path_text fault.now) }
+{
+    match fault {
+        ReadFault::UnknownKind | ReadFault::Memory => Ok(()),
+        ReadFault::MissingField { path }
+        | ReadFault::BadField { path }
+        | ReadFault::Unsupported { path }
+        | ReadFault::PortsWithoutProtocol { path }
+        | ReadFault::IcmpWithoutProtocol { path }
+        | ReadFault::PassInProfile { path } => push_word(line, path.bytes()),
     }
 }
 

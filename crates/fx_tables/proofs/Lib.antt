@@ -1,1 +1,3 @@
 pub mod Keeps
+pub mod Exchanged
+pub mod Filled

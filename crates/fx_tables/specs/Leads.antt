@@ -14,6 +14,7 @@ LeadsElsewhere name target.Return = Unit {0}
 LeadsElsewhere name (target.Jump to) = to ≢ name
 LeadsElsewhere name (target.Goto to) = to ≢ name
 LeadsElsewhere name (target.Mark value mask) = Unit {0}
+LeadsElsewhere name target.Log = Unit {0}
 
 abbrev pub AllLeadElsewhere : ChainName → List ChainRule → Type 0
 AllLeadElsewhere name [] = Unit {0}

@@ -1,3 +1,4 @@
 pub mod Leads
+pub mod Names
 pub mod Kept
 pub mod Coding

@@ -1,6 +1,8 @@
 //! The modelled dataplane: IP sets and chains, changed by single operations as ipset(8) and iptables(8) make them.
-#![tactic(auto, using(fx_base::proofs::AtKey::reads))]
+#![tactic(auto)]
 
 pub use tables::Tables;
 
 mod tables;
+#[cfg(test)]
+mod tests;

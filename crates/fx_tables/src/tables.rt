@@ -1,19 +1,25 @@
 //! The tables, and the operations on them.
-ghost use Rattle.std.specs.Prelude.{◌≡◌, OnOk, OnErr, IsSome};
+ghost use Rattle.std.specs.Prelude.{◌≡◌, OnOk, OnErr, IsSome, true, false};
 ghost use Rattle.std.specs.Option.{option_copied};
 ghost use Rattle.std.specs.FinMap as map;
+ghost use Rattle.fx_base.specs.Set as set;
+ghost use Rattle.fx_model.specs.Messages.{members_of};
 ghost use Rattle.fx_model.specs.Ranks.{AllLeadBelow, IsRanked, rank_of};
-ghost use Rattle.fx_model.specs.Closed.{AllLeadThere, AreClosedTables};
+ghost use Rattle.fx_model.specs.Closed.{AllLeadThere, AllNameThere, AreClosedTables};
+ghost use Rattle.fx_model.specs.Shapes.{have_shape, is_member_of, AreShaped, AreOfKinds};
 ghost use Rattle.fx_tables.specs.Leads.{NoneLeadsTo};
+ghost use Rattle.fx_tables.specs.Names.{NoneNames};
 
-use fx_base::{ChainMap, ChainName, Memory, Seq, SetMap};
-use fx_model::{ChainRule, MemberSet};
+use fx_base::{ChainMap, ChainName, Memory, Seq, SetMap, SetName};
+use fx_model::{ChainRule, Member, MemberSet};
 use std::alloc::Global;
 use std::marker::Model;
 
-/// IP sets and chains. Every chain that a rule leads to is there, and has a lower rank.
+/// IP sets and chains. Every chain that a rule leads to and every set that it names is there, each chain leads to chains of
+/// lower ranks, rules have the shapes of rules, and sets have members of their kinds.
 #[derive(Drop)]
 pub struct Tables {
+    alloc: Global,
     sets: SetMap<MemberSet>,
     chains: ChainMap<Seq<ChainRule>>,
 }
@@ -40,15 +46,57 @@ impl Tables {
         ensures { result ≡ record { sets = map.empty; chains = map.empty } }
     {
         Tables {
+            alloc,
             sets: SetMap::new(alloc),
             chains: ChainMap::new(alloc),
         }
+    }
+
+    /// Creates a set without members; its name tells its kind.
+    pub fn create_set(&mut self, name: SetName) -> Result<(), Memory>
+        requires { map.contains_key self.old.sets name ≡ false }
+        ensures ok { OnOk result (self.new ≡ record self.old { sets = map.insert self.old.sets name set.empty }) }
+        ensures err { OnErr result (self.new ≡ self.old) }
+    {
+        self.sets.insert(name, MemberSet::new(self.alloc))?;
+        Ok(())
+    }
+
+    /// Adds a member to a set.
+    pub fn add_member(&mut self, name: SetName, member: Member) -> Result<(), Memory>
+        requires there { map.contains_key self.old.sets name ≡ true }
+        requires absent { set.contains (members_of (map.get self.old.sets name)) member ≡ false }
+        requires fits { is_member_of name member ≡ true }
+        ensures ok { OnOk result (self.new ≡ record self.old { sets = map.insert self.old.sets name (set.insert (members_of (map.get self.old.sets name)) member) }) }
+        ensures err { OnErr result (self.new ≡ self.old) }
+    {
+        insert_into(self.alloc, &mut self.sets, name, member)?;
+        Ok(())
+    }
+
+    /// Removes a member from a set.
+    pub fn remove_member(&mut self, name: SetName, member: Member)
+        requires there { map.contains_key self.old.sets name ≡ true }
+        requires within { set.contains (members_of (map.get self.old.sets name)) member ≡ true }
+        ensures { self.new ≡ record self.old { sets = map.insert self.old.sets name (set.remove (members_of (map.get self.old.sets name)) member) } }
+    {
+        remove_from(self.alloc, &mut self.sets, name, member);
+    }
+
+    /// Destroys a set.
+    pub fn destroy_set(&mut self, name: SetName)
+        requires { NoneNames self.old.chains name }
+        ensures { self.new ≡ record self.old { sets = map.remove self.old.sets name } }
+    {
+        self.sets.remove(name);
     }
 
     /// Writes a chain, in place of the one that is there.
     pub fn write_chain(&mut self, name: ChainName, rules: Seq<ChainRule>) -> Result<(), Memory>
         requires there { AllLeadThere self.old.chains rules }
         requires below { AllLeadBelow (rank_of name) rules }
+        requires named { AllNameThere self.old.sets rules }
+        requires shaped { have_shape rules ≡ true }
         ensures ok { OnOk result (self.new ≡ record self.old { chains = map.insert self.old.chains name rules }) }
         ensures err { OnErr result (self.new ≡ self.old) }
     {
@@ -69,8 +117,17 @@ impl Tables {
         ensures found { option_copied result ≡ map.get self.now.chains name }
         ensures ranked { IsRanked self.now.chains }
         ensures closed { AreClosedTables self.now }
+        ensures shaped { AreShaped self.now.chains }
     {
         self.chains.get(name)
+    }
+
+    /// The members of a set.
+    pub fn set(&self, name: SetName) -> Option<&MemberSet>
+        ensures found { option_copied result ≡ map.get self.now.sets name }
+        ensures kinds { AreOfKinds self.now.sets }
+    {
+        self.sets.get(name)
     }
 
     /// All chains, by their names.
@@ -78,14 +135,48 @@ impl Tables {
         ensures all { result.now ≡ self.now.chains }
         ensures ranked { IsRanked self.now.chains }
         ensures closed { AreClosedTables self.now }
+        ensures shaped { AreShaped self.now.chains }
     {
         &self.chains
     }
 
     /// All sets, by their names.
     pub fn sets(&self) -> &SetMap<MemberSet>
-        ensures { result.now ≡ self.now.sets }
+        ensures all { result.now ≡ self.now.sets }
+        ensures kinds { AreOfKinds self.now.sets }
     {
         &self.sets
     }
+}
+
+// Adds a member to the set of this name, which is there.
+#[tactic(auto, using(crate::proofs::Exchanged::exchanged))]
+fn insert_into(
+    alloc: Global,
+    sets: &mut SetMap<MemberSet>,
+    name: SetName,
+    member: Member,
+) -> Result<(), Memory>
+    requires { map.contains_key sets.old name ≡ true }
+    ensures ok { OnOk result (sets.new ≡ map.insert sets.old name (set.insert (members_of (map.get sets.old name)) member)) }
+    ensures err { OnErr result (sets.new ≡ sets.old) }
+{
+    let mut members = MemberSet::new(alloc);
+    sets.swap(name, &mut members);
+    let added = members.insert(member);
+    sets.swap(name, &mut members);
+    added?;
+    Ok(())
+}
+
+// Removes a member from the set of this name, which is there.
+#[tactic(auto, using(crate::proofs::Exchanged::exchanged))]
+fn remove_from(alloc: Global, sets: &mut SetMap<MemberSet>, name: SetName, member: Member)
+    requires { map.contains_key sets.old name ≡ true }
+    ensures { sets.new ≡ map.insert sets.old name (set.remove (members_of (map.get sets.old name)) member) }
+{
+    let mut members = MemberSet::new(alloc);
+    sets.swap(name, &mut members);
+    members.remove(member);
+    sets.swap(name, &mut members);
 }

@@ -16,20 +16,20 @@ use Rattle.fx_walk.proofs.Walks.{ended-run, one-end}
 use Rattle.fx_walk.proofs.Seen.{seen_by, traced_reasons}
 use Rattle.fx_walk.proofs.Families.{tables_render}
 use Rattle.fx_walk.proofs.FirstPackets.{machine_agrees}
-use Rattle.fx_walk.proofs.Wanted.{view_is_policy, on_workloads}
+use Rattle.fx_walk.proofs.Wanted.{view_is_policy, on_workloads, formed_rules}
 
 pub run_has_one_end : RunHasOneEnd
 run_has_one_end tables a v w e f i j x y =
-    let q = one-end {S = Reasons} last_reason (holds a) tables.chains x.1 y.1 in
+    let q = one-end {S = Reasons} last_reason (holds tables.sets a) tables.chains x.1 y.1 in
     (q.0, ap (λ (s : Reasons). s.egress) q.1, ap (λ (s : Reasons). s.ingress) q.1)
 
 pub tables_agree : TablesAgree
-tables_agree v a closed on new = machine_agrees a v (tables_of v) (tables_render v) new on (ranked-tables v closed)
+tables_agree v a closed on formed new = machine_agrees a v (tables_of v).chains (tables_render v) formed new on (ranked-tables v closed)
 
 pub policy_is_kept : PolicyIsKept
 policy_is_kept R a servable new =
     subst (λ (x : Outcome). Decides (tables_of (view_of R)) a x.verdict x.egress x.ingress) (view_is_policy R a servable)
-    (tables_agree (view_of R) a (view_of-closed R) (on_workloads R a servable) new)
+    (tables_agree (view_of R) a (view_of-closed R) (on_workloads R a servable) (formed_rules R servable) new)
 
 module _ {S T : Type 0} (f : S → T) where
   verdict-seen : (e : Ended S) → verdict_of (seen_by f e) ≡ verdict_of e
@@ -48,15 +48,15 @@ module _ {S T : Type 0} (f : S → T) where
 pub traced_decides : (tables : Tables) (a : Packet) → IsRanked tables.chains → (before after : List (ChainName × ℕ)) (v : Verdict) (e i : Option Reason) → Traces tables a before after v e i → Decides tables a v e i
 traced_decides tables a ranked before after v e i run =
     let start : Trace = record { hops = before; reasons = nothing_noted } in
-    let traced : Ended Trace = over_chain hops_and_reasons (holds a) tables.chains 5 forward 0 start in
-    let plain : Ended Reasons = over_chain last_reason (holds a) tables.chains 5 forward 0 nothing_noted in
-    let end = one-end {S = Trace} hops_and_reasons (holds a) tables.chains run.1 (ended-run hops_and_reasons (holds a) tables.chains ranked start) in
-    let same : seen_by (λ (t : Trace). t.reasons) traced ≡ plain = traced_reasons (holds a) tables.chains 5 forward 0 start in
+    let traced : Ended Trace = over_chain hops_and_reasons (holds tables.sets a) tables.chains 5 forward 0 start in
+    let plain : Ended Reasons = over_chain last_reason (holds tables.sets a) tables.chains 5 forward 0 nothing_noted in
+    let end = one-end {S = Trace} hops_and_reasons (holds tables.sets a) tables.chains run.1 (ended-run hops_and_reasons (holds tables.sets a) tables.chains ranked start) in
+    let same : seen_by (λ (t : Trace). t.reasons) traced ≡ plain = traced_reasons (holds tables.sets a) tables.chains 5 forward 0 start in
     let w : verdict_of plain ≡ v = ap verdict_of (sym same) ∙ verdict-seen (λ (t : Trace). t.reasons) traced ∙ sym end.0 in
     let n : noted_in plain ≡ record { side = run.0; egress = e; ingress = i } = ap noted_in (sym same) ∙ noted-seen (λ (t : Trace). t.reasons) traced ∙ ap (λ (t : Trace). t.reasons) (sym end.1) in (
       run.0,
-      subst (λ u. Run Reasons last_reason (holds a) tables.chains (at_rule forward 0 [] 0 nothing_noted) u (record { side = run.0; egress = e; ingress = i })) w
-          (subst (λ r. Run Reasons last_reason (holds a) tables.chains (at_rule forward 0 [] 0 nothing_noted) (verdict_of plain) r) n (ended-run last_reason (holds a) tables.chains ranked nothing_noted)),
+      subst (λ u. Run Reasons last_reason (holds tables.sets a) tables.chains (at_rule forward 0 [] 0 nothing_noted) u (record { side = run.0; egress = e; ingress = i })) w
+          (subst (λ r. Run Reasons last_reason (holds tables.sets a) tables.chains (at_rule forward 0 [] 0 nothing_noted) (verdict_of plain) r) n (ended-run last_reason (holds tables.sets a) tables.chains ranked nothing_noted)),
     )
 
 -- what is decided on a first packet is what the policy reference says

@@ -1,5 +1,5 @@
 -- The paths of some packets, computed: over the tables of a node with one endpoint that lists one profile.
-use Rattle.std.proofs.Common.{◌≡◌, ℕ, zero, suc, List, [], ◌∷◌, ◌++◌, map, filter, Option, Some, None, true, refl, ap, ◌∙◌, codes}
+use Rattle.std.proofs.Common.{◌≡◌, ℕ, zero, suc, List, [], ◌∷◌, ◌++◌, map, filter, Option, Some, None, true, false, refl, ap, ◌∙◌, codes, lit≤}
 use Rattle.std.specs.List.{flat_map}
 use Rattle.std.specs.Ordering.{nat_cmp}
 use Rattle.std.specs.Cmp.Lexicographic.{slice_cmp, nat_list_cmp_total}
@@ -16,7 +16,11 @@ use Rattle.fx_model.specs.declared.packet.State.TheVariants.{New, Established, I
 use Rattle.fx_model.specs.declared.packet.Packet.{Packet}
 use Rattle.fx_model.specs.declared.chain.Reason.TheVariants as reason
 use Rattle.fx_model.specs.declared.chain.ChainRule.{ChainRule}
-use Rattle.fx_model.specs.declared.resources.Action.TheVariants.{Allow}
+use Rattle.fx_base.specs.declared.net.Net.{Net}
+use Rattle.fx_base.specs.declared.net.PortRange.{PortRange}
+use Rattle.fx_model.specs.declared.rules.Action.TheVariants.{Allow, Log}
+use Rattle.fx_model.specs.declared.rules.Rule.{Rule}
+use Rattle.fx_model.specs.declared.rules.Side.{Side}
 use Rattle.fx_model.specs.declared.resources.Endpoint.{Endpoint}
 use Rattle.fx_model.specs.declared.resources.Profile.{Profile}
 use Rattle.fx_model.specs.declared.resources.Resources.{Resources}
@@ -48,8 +52,14 @@ endpoint_key = key.Endpoint (codes "a") (codes "w1")
 abbrev endpoint : Endpoint
 endpoint = record { node = codes "n1"; iface = codes "cali1"; profiles = codes "open" ∷ [] }
 
+abbrev any_side : Side
+any_side = record { nets = []; not_nets = []; ports = []; not_ports = [] }
+
+abbrev allow_all : Rule
+allow_all = record { action = Allow; never = false; protocol = None; not_protocol = None; icmp = None; not_icmp = None; source = any_side; destination = any_side }
+
 abbrev open_profile : Profile
-open_profile = record { ingress = record { action = Allow } ∷ []; egress = record { action = Allow } ∷ [] }
+open_profile = record { ingress = allow_all ∷ []; egress = allow_all ∷ [] }
 
 abbrev node : maps.FinMap (slice_cmp nat_cmp) Profile → Resources
 node profiles = record { node = codes "n1"; in_sync = true; endpoints = maps.insert maps.empty endpoint_key endpoint; profiles = profiles }
@@ -97,13 +107,13 @@ module _ (profiles : maps.FinMap (slice_cmp nat_cmp) Profile) (o : Option Profil
   looked q = ap rules_found (get-collected nat_list_cmp_total (chains_of (view_of R)) q ∙ ap (λ cs. last_at (slice_cmp nat_cmp) cs q None) known_chains)
 
   abbrev trace_of : Packet → Ended Trace
-  trace_of a = over_chain hops_and_reasons (holds a) (tables_of (view_of R)).chains 5 forward 0 (record { hops = []; reasons = nothing_noted })
+  trace_of a = over_chain hops_and_reasons (holds (view_of R).sets a) (tables_of (view_of R)).chains 5 forward 0 (record { hops = []; reasons = nothing_noted })
 
   abbrev known_trace : Packet → Ended Trace
-  known_trace a = over_look hops_and_reasons (holds a) look 5 forward 0 (record { hops = []; reasons = nothing_noted })
+  known_trace a = over_look hops_and_reasons (holds (view_of R).sets a) look 5 forward 0 (record { hops = []; reasons = nothing_noted })
 
   trace_known : (a : Packet) → trace_of a ≡ known_trace a
-  trace_known a = same_look hops_and_reasons (holds a) (tables_of (view_of R)).chains look looked 5 forward 0 (record { hops = []; reasons = nothing_noted })
+  trace_known a = same_look hops_and_reasons (holds (view_of R).sets a) (tables_of (view_of R)).chains look looked 5 forward 0 (record { hops = []; reasons = nothing_noted })
 
 abbrev packet : List ℕ → List ℕ → State → Packet
 packet into out state = record {
@@ -137,6 +147,56 @@ denied_by_missing_profile : trace_of maps.empty None (maps.get-empty (slice_cmp 
 })
 unfolding over_look over_rules over_rule hops_and_reasons last_reason holds
 denied_by_missing_profile = trace_known maps.empty None (maps.get-empty (slice_cmp nat_cmp) (codes "open")) (from_endpoint New) ∙ refl
+
+-- ---- a profile whose rules have criteria
+
+abbrev inner : Net
+inner = record { addr = record { 0 = 0x0a000000 }; len = 8; short = lit≤ tt; no_host_bits = refl }
+
+abbrev middle : Net
+middle = record { addr = record { 0 = 0xac100000 }; len = 12; short = lit≤ tt; no_host_bits = refl }
+
+abbrev kept_out : Net
+kept_out = record { addr = record { 0 = 0x0a010000 }; len = 16; short = lit≤ tt; no_host_bits = refl }
+
+abbrev web : List PortRange
+web = record { low = 80; high = 90; ascending = lit≤ tt } ∷ record { low = 443; high = 443; ascending = lit≤ tt } ∷ []
+
+-- to log TCP, and to allow what comes from two nets, though not from a third one, to the ports of the web
+abbrev web_profile : Profile
+web_profile = record {
+  ingress = [];
+  egress = record { action = Log; never = false; protocol = Some (record { 0 = 6 }); not_protocol = None; icmp = None; not_icmp = None; source = any_side; destination = any_side }
+      ∷ record {
+        action = Allow;
+        never = false;
+        protocol = Some (record { 0 = 6 });
+        not_protocol = None;
+        icmp = None;
+        not_icmp = None;
+        source = record { nets = inner ∷ middle ∷ []; not_nets = kept_out ∷ []; ports = []; not_ports = [] };
+        destination = record { nets = []; not_nets = []; ports = web; not_ports = [] };
+      } ∷ [];
+}
+
+abbrev web_trace : Packet → Ended Trace
+web_trace a = trace_of (maps.insert maps.empty (codes "open") web_profile) (Some web_profile) (get_insert_same maps.empty (codes "open") web_profile) a
+
+-- the block of nets stands before the main rule, which is the seventh of the chain
+allowed_by_criteria : web_trace (from_endpoint New) ≡ Through 0xd0000 (record {
+  hops = (codes "cali-FORWARD", 2) ∷ (codes "cali-from-wl-dispatch", 1) ∷ (codes "cali-fw-cali1", 4) ∷ (codes "cali-pro-open", 1) ∷ (codes "cali-pro-open", 7) ∷ [];
+  reasons = record { side = Some Egress; egress = Some (reason.Profile (codes "open") 2); ingress = None };
+})
+unfolding over_look over_rules over_rule hops_and_reasons last_reason holds
+allowed_by_criteria = trace_known (maps.insert maps.empty (codes "open") web_profile) (Some web_profile) (get_insert_same maps.empty (codes "open") web_profile) (from_endpoint New) ∙ refl
+
+-- a packet from the net that is kept out is logged, and denied at the end
+denied_by_criteria : web_trace (record (from_endpoint New) { src = record { 0 = 0x0a010001 } }) ≡ Dropped (record {
+  hops = (codes "cali-FORWARD", 2) ∷ (codes "cali-from-wl-dispatch", 1) ∷ (codes "cali-fw-cali1", 4) ∷ (codes "cali-pro-open", 1) ∷ (codes "cali-fw-cali1", 6) ∷ [];
+  reasons = record { side = Some Egress; egress = Some reason.NoProfileRule; ingress = None };
+})
+unfolding over_look over_rules over_rule hops_and_reasons last_reason holds
+denied_by_criteria = trace_known (maps.insert maps.empty (codes "open") web_profile) (Some web_profile) (get_insert_same maps.empty (codes "open") web_profile) (record (from_endpoint New) { src = record { 0 = 0x0a010001 } }) ∙ refl
 
 module _ (profiles : maps.FinMap (slice_cmp nat_cmp) Profile) (o : Option Profile) (at : maps.get profiles (codes "open") ≡ o) where
   -- a packet of an established connection is accepted, and an invalid one dropped, at the endpoint's chain

@@ -2,6 +2,9 @@ pub mod Walks
 pub mod Marks
 pub mod Seen
 pub mod Paths
+pub mod Blocks
+pub mod PortLists
+pub mod Criteria
 pub mod Rules
 pub mod Lookups
 pub mod Families

@@ -57,6 +57,7 @@ module _ (test : Test) where
   obeyed_grows call h (target.Jump c) m t = ((h c m t).0, jump_hops (call c m t) ∙ (h c m t).1)
   obeyed_grows call h (target.Goto c) m t = ((h c m t).0, goto_hops (call c m t) ∙ (h c m t).1)
   obeyed_grows call h (target.Mark v k) m t = extends_same t.hops
+  obeyed_grows call h target.Log m t = extends_same t.hops
 
   rule_grows : (call : ChainName → Onward Trace) → ((c : ChainName) → Grows (call c)) → (c : ChainName) (p : ℕ) (r : ChainRule) → Grows (over_rule hops_and_reasons test call c p r)
   rule_grows call h c p r m t = by_test (hold_all test m r.matches) refl

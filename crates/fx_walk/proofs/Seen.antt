@@ -40,6 +40,7 @@ module _ {S T : Type 0} (f : S → T) (note : Notes S) (note' : Notes T) (agree 
   obeyed-seen call call' h (target.Jump c) m s = jump-seen (call c m s) ∙ ap after_jump (h c m s)
   obeyed-seen call call' h (target.Goto c) m s = goto-seen (call c m s) ∙ ap after_goto (h c m s)
   obeyed-seen call call' h (target.Mark v k) m s = refl
+  obeyed-seen call call' h target.Log m s = refl
 
   rule-seen : (call : ChainName → Onward S) (call' : ChainName → Onward T) → ((c : ChainName) (m : ℕ) (s : S) → seen_by f (call c m s) ≡ call' c m (f s)) → (c : ChainName) (p : ℕ) (r : ChainRule) (m : ℕ) (s : S) → seen_by f (over_rule note a call c p r m s) ≡ over_rule note' a call' c p r m (f s)
   rule-seen call call' h c p r m s = by_test (hold_all a m r.matches) refl

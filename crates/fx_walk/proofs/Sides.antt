@@ -1,18 +1,18 @@
 -- The machine's run over the chains of a view has the view's verdict and reasons.
-use Rattle.std.proofs.Common.{◌≡◌, ℕ, suc, Bool, true, false, ◌||◌, List, [], ◌∷◌, ◌++◌, map, Option, Some, None, is_some, refl, sym, ap, ◌∙◌, subst, arith, lit<, codes}
+use Rattle.std.proofs.Common.{◌≡◌, ℕ, suc, Bool, true, false, not, ◌||◌, List, [], ◌∷◌, ◌++◌, map, Option, Some, None, is_some, refl, sym, ap, ◌∙◌, subst, arith, lit<, codes}
 use Rattle.std.specs.Int.{bit_at}
-use Rattle.std.specs.List.{list_any, flat_map}
+use Rattle.std.specs.List.{list_any, list_all, flat_map}
 use Rattle.std.specs.Str.{bytes_eq}
 use Rattle.std.specs.Ordering.{nat_cmp, eq_by_cmp}
 use Rattle.std.specs.Cmp.Lexicographic.{slice_cmp, texts_ties}
 use Rattle.std.specs.FinMap as maps
-use Rattle.fx_base.specs.Same.{same_bytes}
+use Rattle.fx_base.specs.Same.{same_bytes, both_pass}
 use Rattle.fx_model.specs.declared.packet.State.TheVariants.{New}
 use Rattle.fx_model.specs.declared.packet.Packet.{Packet}
 use Rattle.fx_model.specs.declared.packet.Verdict.{Verdict}
 use Rattle.fx_model.specs.declared.packet.Verdict.TheVariants.{Allow, Deny}
-use Rattle.fx_model.specs.declared.resources.Action.{Action}
-use Rattle.fx_model.specs.declared.resources.Action.TheVariants as action
+use Rattle.fx_model.specs.declared.rules.Action.{Action}
+use Rattle.fx_model.specs.declared.rules.Action.TheVariants as action
 use Rattle.fx_model.specs.declared.chain.End.{End}
 use Rattle.fx_model.specs.declared.chain.Match.{Match}
 use Rattle.fx_model.specs.declared.chain.Match.TheVariants as match
@@ -21,34 +21,41 @@ use Rattle.fx_model.specs.declared.chain.Reason.{Reason}
 use Rattle.fx_model.specs.declared.chain.Reason.TheVariants as reason
 use Rattle.fx_model.specs.declared.chain.ChainRule.{ChainRule}
 use Rattle.fx_model.specs.declared.view.View.{View}
-use Rattle.fx_model.specs.declared.view.ViewRule.{ViewRule}
+use Rattle.fx_model.specs.declared.view_rule.ViewRule.{ViewRule}
 use Rattle.fx_model.specs.declared.view.ViewTier.{ViewTier}
 use Rattle.fx_model.specs.declared.view.ViewPolicy.{ViewPolicy}
 use Rattle.fx_model.specs.declared.view.ViewProfile.{ViewProfile}
 use Rattle.fx_model.specs.declared.view.ViewEndpoint.{ViewEndpoint}
 use Rattle.fx_model.specs.Directions.{Direction, Ingress, Egress}
-use Rattle.fx_model.specs.Tables.{ChainName, Chains, forward, plain, told, is_set, is_clear, accept_mark, pass_mark, policy_chain, policy_rules, policy_jumps, policy_side, profile_chain, profile_rules, profile_jumps, profile_side, present_or_missing, rendered_rules, tier_rules, tiers_side, endpoint_chain, endpoint_rules, end_of, root_of, dispatch_rules}
+use Rattle.fx_model.specs.Formed.{passes, is_formed_view_profile_rule}
+use Rattle.fx_model.specs.Rendering.{plain, told, is_set, is_clear, accept_mark, pass_mark, rendered_rules}
+use Rattle.fx_model.specs.Tables.{ChainName, Chains, Sets, forward, policy_chain, policy_rules, policy_jumps, policy_side, profile_chain, profile_rules, profile_jumps, profile_side, present_or_missing, tier_rules, tiers_side, endpoint_chain, endpoint_rules, end_of, root_of, dispatch_rules}
 use Rattle.fx_model.specs.Machine.{holds, hold_all, marked, iface_at, state_in, rules_in, Reasons, with_reason, last_reason}
 use Rattle.fx_model.specs.Walk.{Onward, Ended, Accepted, Dropped, Left, Through, onward, after_jump, after_goto, over_rules, over_chain}
 use Rattle.fx_model.specs.Policy.{MetRule, Answer, Silent, Passed, Allowed, Denied, answer_of, first_answer, Decision, after_tier, tiers_verdict, or_rest, profile_verdict, profiles_verdict, is_workload}
-use Rattle.fx_model.specs.ViewPolicy.{met_view_rules, view_rule_matches, rules_of_policy, view_tier, missing_or_there, listed_of, view_listed, view_endpoint_verdict}
+use Rattle.fx_model.specs.ViewPolicy.{met_view_rules, view_rule_matches, rules_of_policy, view_tier, missing_or_there, listed_of, view_listed, view_endpoint_verdict, HasFormedRules}
 use Rattle.fx_walk.proofs.Walks.{walk_hit, walk-end}
 use Rattle.fx_walk.proofs.Marks.{clear_same, clear_other, is_zero, is_not_zero}
-use Rattle.fx_walk.proofs.Rules.{EndsAs, only, noted_as, plain_hit, miss, told_drop, return_hit, return_miss, rules_end}
+use Rattle.fx_walk.proofs.Blocks.{only, noted_as, plain_hit, miss}
+use Rattle.fx_walk.proofs.Rules.{EndsAs, told_drop, return_hit, return_miss, formed_parts, each_formed, all_clear, profile_clear, rules_end}
 use Rattle.fx_walk.proofs.Families.{found, Renders}
 
 -- rules of profiles don't pass
-never_passed : (a : Packet) (why : ℕ → Reason) (place : ℕ) (rs : List ViewRule) → first_answer (met_view_rules a why place rs) ≡ Passed → ⊥
-never_passed a why place [] h = cc
-never_passed a why place (r ∷ rs) h = one (view_rule_matches r a) r.action (first_answer (met_view_rules a why (suc place) rs)) (never_passed a why (suc place) rs) h
+never_passed : (sets : Sets) (a : Packet) (why : ℕ → Reason) (place : ℕ) (rs : List ViewRule) → list_all is_formed_view_profile_rule rs ≡ true → first_answer (met_view_rules sets a why place rs) ≡ Passed → ⊥
+never_passed sets a why place [] formed h = cc
+never_passed sets a why place (r ∷ rs) formed h =
+    let split = both_pass (is_formed_view_profile_rule r) (list_all is_formed_view_profile_rule rs) formed in
+    one (view_rule_matches sets r a) r.action (first_answer (met_view_rules sets a why (suc place) rs)) (formed_parts r split.0).1 (never_passed sets a why (suc place) rs split.1) h
   where
-    act : (x : Action) (rest : Answer) → answer_of x (why place) rest ≡ Passed → ⊥
-    act action.Allow rest e = cc
-    act action.Deny rest e = cc
+    act : (x : Action) (rest : Answer) → not (passes x) ≡ true → (rest ≡ Passed → ⊥) → answer_of x (why place) rest ≡ Passed → ⊥
+    act action.Allow rest n f e = cc
+    act action.Deny rest n f e = cc
+    act action.Log rest n f e = f e
+    act action.Pass rest n f e = cc
 
-    one : (b : Bool) (x : Action) (rest : Answer) → (rest ≡ Passed → ⊥) → (elim b [ true ↦ answer_of x (why place) rest | false ↦ rest ]) ≡ Passed → ⊥
-    one true x rest f e = act x rest e
-    one false x rest f e = f e
+    one : (b : Bool) (x : Action) (rest : Answer) → not (passes x) ≡ true → (rest ≡ Passed → ⊥) → (elim b [ true ↦ answer_of x (why place) rest | false ↦ rest ]) ≡ Passed → ⊥
+    one true x rest n f e = act x rest n f e
+    one false x rest n f e = f e
 
 -- what the walk of an endpoint's chain comes to
 abbrev pub Concludes : Ended Reasons → Reasons → Verdict → Reason → Type 0
@@ -86,21 +93,23 @@ first-append : (xs ys : List MetRule) → first_answer (xs ++ ys) ≡ or_answer 
 first-append [] ys = refl
 first-append (x ∷ xs) ys = by_test x.matches x.action (first-append xs ys)
   where
-    act : (k : Action) → answer_of k x.why (first_answer (xs ++ ys)) ≡ or_answer (answer_of k x.why (first_answer xs)) (first_answer ys)
-    act action.Allow = refl
-    act action.Deny = refl
+    act : (k : Action) → first_answer (xs ++ ys) ≡ or_answer (first_answer xs) (first_answer ys) → answer_of k x.why (first_answer (xs ++ ys)) ≡ or_answer (answer_of k x.why (first_answer xs)) (first_answer ys)
+    act action.Allow ih = refl
+    act action.Deny ih = refl
+    act action.Log ih = ih
+    act action.Pass ih = refl
 
     by_test : (b : Bool) (k : Action) → first_answer (xs ++ ys) ≡ or_answer (first_answer xs) (first_answer ys) → (elim b [ true ↦ answer_of k x.why (first_answer (xs ++ ys)) | false ↦ first_answer (xs ++ ys) ]) ≡ or_answer (elim b [ true ↦ answer_of k x.why (first_answer xs) | false ↦ first_answer xs ]) (first_answer ys)
-    by_test true k ih = act k
+    by_test true k ih = act k ih
     by_test false k ih = ih
 
-module _ (a : Packet) (v : View) (chains : Chains) (given : Renders v chains) where
+module _ (a : Packet) (v : View) (chains : Chains) (given : Renders v chains) (formed : HasFormedRules v) where
   abbrev pub call : ℕ → ChainName → Onward Reasons
-  call n = over_chain last_reason (holds a) chains n
+  call n = over_chain last_reason (holds v.sets a) chains n
 
-  pub called : (n : ℕ) (c : ChainName) (rs : List ChainRule) (m : ℕ) (s : Reasons) → rules_in chains c ≡ rs → call (suc n) c m s ≡ over_rules last_reason (holds a) (call n) c 1 rs m s
+  pub called : (n : ℕ) (c : ChainName) (rs : List ChainRule) (m : ℕ) (s : Reasons) → rules_in chains c ≡ rs → call (suc n) c m s ≡ over_rules last_reason (holds v.sets a) (call n) c 1 rs m s
   unfolding over_chain over_rules
-  called n c rs m s e = ap (λ x. over_rules last_reason (holds a) (call n) c 1 x m s) e
+  called n c rs m s e = ap (λ x. over_rules last_reason (holds v.sets a) (call n) c 1 x m s) e
 
   policy_inner : (d : Direction) (key : List ℕ) → bytes_eq (policy_chain d key) forward ≡ false
   policy_inner Ingress key = refl
@@ -125,50 +134,53 @@ module _ (a : Packet) (v : View) (chains : Chains) (given : Renders v chains) wh
   module _ (n : ℕ) (c : ChainName) (inner : bytes_eq c forward ≡ false) where
     -- the rules of the chain from here on, each jump going one chain deeper
     abbrev walk : ℕ → List ChainRule → ℕ → Reasons → Ended Reasons
-    walk p rs m s = over_rules last_reason (holds a) (call (suc n)) c p rs m s
+    walk p rs m s = over_rules last_reason (holds v.sets a) (call (suc n)) c p rs m s
 
     -- these rules conclude so, wherever the accept bit is clear
     abbrev Concluding : List ChainRule → Decision → Type 0
     Concluding rs x = (p m : ℕ) (s : Reasons) → bit_at m 16 ≡ 0 → ConcludesAs (walk p rs m s) s x
 
     abbrev back_after : ℕ → List ChainRule → Ended Reasons → Ended Reasons
-    back_after p rs e = onward (after_jump e) (over_rules last_reason (holds a) (call (suc n)) c p (back ∷ rs))
+    back_after p rs e = onward (after_jump e) (over_rules last_reason (holds v.sets a) (call (suc n)) c p (back ∷ rs))
 
     -- after a profile's chain
     after_profile : (p : ℕ) (rs : List ChainRule) (e : Ended Reasons) (m : ℕ) (s : Reasons) (ans : Answer) (rest : Decision) → (ans ≡ Passed → ⊥) → bit_at m 16 ≡ 0 → EndsAs e m s ans → Concluding rs rest → ConcludesAs (back_after p rs e) s (or_rest ans rest)
     after_profile p rs e m s Silent rest np z h after =
-        concludes_from _ _ s rest (ap (back_after p rs) h.1 ∙ return_miss a (call (suc n)) c inner p rs h.0 s (h.2.accept ∙ z)) (after (suc p) h.0 s (h.2.accept ∙ z))
-    after_profile p rs e m s (Allowed why) rest np z h after = (h.0, ap (back_after p rs) h.1 ∙ return_hit a (call (suc n)) c inner p rs h.0 (with_reason s.side why s) h.2)
+        concludes_from _ _ s rest (ap (back_after p rs) h.1 ∙ return_miss v.sets a (call (suc n)) c inner p rs h.0 s (h.2.accept ∙ z)) (after (suc p) h.0 s (h.2.accept ∙ z))
+    after_profile p rs e m s (Allowed why) rest np z h after = (h.0, ap (back_after p rs) h.1 ∙ return_hit v.sets a (call (suc n)) c inner p rs h.0 (with_reason s.side why s) h.2)
     after_profile p rs e m s (Denied why) rest np z h after = ap (back_after p rs) h
     after_profile p rs e m s Passed rest np z h after = absurd (np refl)
 
     -- one profile, in the view or not, and the rest
-    one_profile : (p : ℕ) (d : Direction) (key : List ℕ) (rs : List ChainRule) (m : ℕ) (s : Reasons) (rest : Decision) → bit_at m 16 ≡ 0 → Concluding rs rest → (o : Option ViewProfile) → rules_in chains (profile_chain d key) ≡ found (profile_rules d) o → ConcludesAs (back_after p rs (call (suc n) (profile_chain d key) m s)) s (profile_verdict (listed_of d a o) rest)
-    one_profile p d key rs m s rest z after None is =
+    one_profile : (p : ℕ) (d : Direction) (key : List ℕ) (rs : List ChainRule) (m : ℕ) (s : Reasons) (rest : Decision) → bit_at m 16 ≡ 0 → Concluding rs rest → (o : Option ViewProfile) → maps.get v.profiles key ≡ o → rules_in chains (profile_chain d key) ≡ found (profile_rules d) o → ConcludesAs (back_after p rs (call (suc n) (profile_chain d key) m s)) s (profile_verdict (listed_of v.sets d a o) rest)
+    one_profile p d key rs m s rest z after None at is =
         after_profile p rs (call (suc n) (profile_chain d key) m s) m s Silent rest (λ e. cc) z
-        (m, called n (profile_chain d key) [] m s is ∙ walk-end last_reason (holds a) (call n) (profile_chain d key) 1 m s, record { accept = refl; pass = refl }) after
-    one_profile p d key rs m s rest z after (Some pr) is = by_missing pr.missing is
+        (m, called n (profile_chain d key) [] m s is ∙ walk-end last_reason (holds v.sets a) (call n) (profile_chain d key) 1 m s, record { accept = refl; pass = refl }) after
+    one_profile p d key rs m s rest z after (Some pr) at is = by_missing pr.missing is
       where
-        by_missing : (b : Bool) → rules_in chains (profile_chain d key) ≡ present_or_missing b pr.name (rendered_rules (reason.Profile pr.name) 1 (profile_side d pr)) → ConcludesAs (back_after p rs (call (suc n) (profile_chain d key) m s)) s (profile_verdict (missing_or_there b pr.name (met_view_rules a (reason.Profile pr.name) 1 (profile_side d pr))) rest)
+        there : list_all is_formed_view_profile_rule (profile_side d pr) ≡ true
+        there = formed.profiles d key pr at
+
+        by_missing : (b : Bool) → rules_in chains (profile_chain d key) ≡ present_or_missing b pr.name (rendered_rules (reason.Profile pr.name) 1 (profile_side d pr)) → ConcludesAs (back_after p rs (call (suc n) (profile_chain d key) m s)) s (profile_verdict (missing_or_there b pr.name (met_view_rules v.sets a (reason.Profile pr.name) 1 (profile_side d pr))) rest)
         by_missing true is =
-            ap (back_after p rs) (called n (profile_chain d key) (told [] target.Drop (reason.MissingProfile pr.name) ∷ []) m s is ∙ told_drop a (call n) (profile_chain d key) (profile_inner d key) 1 [] (reason.MissingProfile pr.name) [] m s refl)
+            ap (back_after p rs) (called n (profile_chain d key) (told [] target.Drop (reason.MissingProfile pr.name) ∷ []) m s is ∙ told_drop v.sets a (call n) (profile_chain d key) (profile_inner d key) 1 [] (reason.MissingProfile pr.name) [] m s refl)
         by_missing false is =
-            after_profile p rs (call (suc n) (profile_chain d key) m s) m s (first_answer (met_view_rules a (reason.Profile pr.name) 1 (profile_side d pr))) rest (never_passed a (reason.Profile pr.name) 1 (profile_side d pr)) z
-            (subst (λ x. EndsAs x m s (first_answer (met_view_rules a (reason.Profile pr.name) 1 (profile_side d pr)))) (sym (called n (profile_chain d key) _ m s is))
-            (rules_end a (call n) (profile_chain d key) (profile_inner d key) (reason.Profile pr.name) 1 (profile_side d pr) 1 m s z)) after
+            after_profile p rs (call (suc n) (profile_chain d key) m s) m s (first_answer (met_view_rules v.sets a (reason.Profile pr.name) 1 (profile_side d pr))) rest (never_passed v.sets a (reason.Profile pr.name) 1 (profile_side d pr) there) z
+            (subst (λ x. EndsAs x m s (first_answer (met_view_rules v.sets a (reason.Profile pr.name) 1 (profile_side d pr)))) (sym (called n (profile_chain d key) _ m s is))
+            (rules_end v.sets a (call n) (profile_chain d key) (profile_inner d key) (reason.Profile pr.name) 1 (profile_side d pr) 1 m s (each_formed (profile_side d pr) there) z (profile_clear (profile_side d pr) m there))) after
 
     -- a rule that jumps, where its matches hold
-    jump_hit : (p : ℕ) (ms : List Match) (to : ChainName) (rs : List ChainRule) (m : ℕ) (s : Reasons) → hold_all (holds a) m ms ≡ true → walk p (plain ms (target.Jump to) ∷ rs) m s ≡ onward (after_jump (call (suc n) to m s)) (over_rules last_reason (holds a) (call (suc n)) c (suc p) rs)
+    jump_hit : (p : ℕ) (ms : List Match) (to : ChainName) (rs : List ChainRule) (m : ℕ) (s : Reasons) → hold_all (holds v.sets a) m ms ≡ true → walk p (plain ms (target.Jump to) ∷ rs) m s ≡ onward (after_jump (call (suc n) to m s)) (over_rules last_reason (holds v.sets a) (call (suc n)) c (suc p) rs)
     jump_hit p ms to rs m s h =
-        walk_hit last_reason (holds a) (call (suc n)) c p (plain ms (target.Jump to)) rs m s h
-        ∙ ap (λ t. onward (after_jump (call (suc n) to m t)) (over_rules last_reason (holds a) (call (suc n)) c (suc p) rs)) (noted_as a (call (suc n)) c inner p (plain ms (target.Jump to)) s)
+        walk_hit last_reason (holds v.sets a) (call (suc n)) c p (plain ms (target.Jump to)) rs m s h
+        ∙ ap (λ t. onward (after_jump (call (suc n) to m t)) (over_rules last_reason (holds v.sets a) (call (suc n)) c (suc p) rs)) (noted_as v.sets a (call (suc n)) c inner p (plain ms (target.Jump to)) s)
 
     -- the profiles in their order, and the end
     profiles_end : (d : Direction) (keys : List (List ℕ)) → Concluding (profile_jumps d keys) (profiles_verdict (map (view_listed v d a) keys))
-    profiles_end d [] p m s z = told_drop a (call (suc n)) c inner p [] reason.NoProfileRule [] m s refl
+    profiles_end d [] p m s z = told_drop v.sets a (call (suc n)) c inner p [] reason.NoProfileRule [] m s refl
     profiles_end d (key ∷ keys) p m s z =
         concludes_from _ _ s _ (jump_hit p [] (profile_chain d key) (back ∷ profile_jumps d keys) m s refl)
-        (one_profile (suc p) d key (profile_jumps d keys) m s (profiles_verdict (map (view_listed v d a) keys)) z (profiles_end d keys) (maps.get v.profiles key) (given.at_profile d key))
+        (one_profile (suc p) d key (profile_jumps d keys) m s (profiles_verdict (map (view_listed v d a) keys)) z (profiles_end d keys) (maps.get v.profiles key) refl (given.at_profile d key))
 
     -- ---- tiers
 
@@ -177,12 +189,12 @@ module _ (a : Packet) (v : View) (chains : Chains) (given : Renders v chains) wh
 
     -- behind a Pass the rest of the tier is gone over
     passed_over : (d : Direction) (name : List ℕ) (keys : List (List ℕ)) (rest : List ChainRule) (p m : ℕ) (s : Reasons) → bit_at m 16 ≡ 0 → bit_at m 17 ≡ 1 → (q : ℕ) × (walk p (policy_jumps d keys ++ end_rule name ∷ rest) m s ≡ walk q rest m s)
-    passed_over d name [] rest p m s z o = (suc p, miss a (call (suc n)) c inner p (end_rule name) rest m s (only a m (is_clear pass_mark) false (is_not_zero a m 17 o)))
+    passed_over d name [] rest p m s z o = (suc p, miss v.sets a (call (suc n)) c inner p (end_rule name) rest m s (only v.sets a m (is_clear pass_mark) false (is_not_zero v.sets a m 17 o)))
     passed_over d name (key ∷ keys) rest p m s z o =
         let y = passed_over d name keys rest (suc (suc p)) m s z o in (
           y.0,
-          miss a (call (suc n)) c inner p (plain (is_clear pass_mark ∷ []) (target.Jump (policy_chain d key))) (back ∷ (policy_jumps d keys ++ end_rule name ∷ rest)) m s (only a m (is_clear pass_mark) false (is_not_zero a m 17 o))
-              ∙ return_miss a (call (suc n)) c inner (suc p) (policy_jumps d keys ++ end_rule name ∷ rest) m s z ∙ y.1,
+          miss v.sets a (call (suc n)) c inner p (plain (is_clear pass_mark ∷ []) (target.Jump (policy_chain d key))) (back ∷ (policy_jumps d keys ++ end_rule name ∷ rest)) m s (only v.sets a m (is_clear pass_mark) false (is_not_zero v.sets a m 17 o))
+              ∙ return_miss v.sets a (call (suc n)) c inner (suc p) (policy_jumps d keys ++ end_rule name ∷ rest) m s z ∙ y.1,
         )
 
     -- after a policy's chain, in its tier
@@ -191,69 +203,69 @@ module _ (a : Packet) (v : View) (chains : Chains) (given : Renders v chains) wh
         → Concluding rest x
         → ConcludesAs (back_after p (policy_jumps d keys ++ end_rule name ∷ rest) e) s (after_tier name (or_answer ans more) x)
     after_policy d name keys rest p e m s x Silent more z y h next after =
-        concludes_from _ _ s _ (ap (back_after p (policy_jumps d keys ++ end_rule name ∷ rest)) h.1 ∙ return_miss a (call (suc n)) c inner p (policy_jumps d keys ++ end_rule name ∷ rest) h.0 s (h.2.accept ∙ z))
+        concludes_from _ _ s _ (ap (back_after p (policy_jumps d keys ++ end_rule name ∷ rest)) h.1 ∙ return_miss v.sets a (call (suc n)) c inner p (policy_jumps d keys ++ end_rule name ∷ rest) h.0 s (h.2.accept ∙ z))
         (next h.0 (h.2.accept ∙ z) (h.2.pass ∙ y))
     after_policy d name keys rest p e m s x (Allowed why) more z y h next after =
-        (h.0, ap (back_after p (policy_jumps d keys ++ end_rule name ∷ rest)) h.1 ∙ return_hit a (call (suc n)) c inner p (policy_jumps d keys ++ end_rule name ∷ rest) h.0 (with_reason s.side why s) h.2)
+        (h.0, ap (back_after p (policy_jumps d keys ++ end_rule name ∷ rest)) h.1 ∙ return_hit v.sets a (call (suc n)) c inner p (policy_jumps d keys ++ end_rule name ∷ rest) h.0 (with_reason s.side why s) h.2)
     after_policy d name keys rest p e m s x (Denied why) more z y h next after =
         ap (back_after p (policy_jumps d keys ++ end_rule name ∷ rest)) h
     after_policy d name keys rest p e m s x Passed more z y h next after =
         let over = passed_over d name keys rest (suc p) h.0 (with_reason s.side h.1 s) h.3 h.4 in
-        concludes_from _ _ s x (ap (back_after p (policy_jumps d keys ++ end_rule name ∷ rest)) h.2 ∙ return_miss a (call (suc n)) c inner p (policy_jumps d keys ++ end_rule name ∷ rest) h.0 (with_reason s.side h.1 s) h.3 ∙ over.1)
+        concludes_from _ _ s x (ap (back_after p (policy_jumps d keys ++ end_rule name ∷ rest)) h.2 ∙ return_miss v.sets a (call (suc n)) c inner p (policy_jumps d keys ++ end_rule name ∷ rest) h.0 (with_reason s.side h.1 s) h.3 ∙ over.1)
         (concludes_retold _ s h.1 x (after over.0 h.0 (with_reason s.side h.1 s) h.3))
 
     -- what a policy's chain comes to, whether the policy is in the view or not
-    policy_ends : (d : Direction) (key : List ℕ) (m : ℕ) (s : Reasons) → bit_at m 16 ≡ 0 → (o : Option ViewPolicy) → rules_in chains (policy_chain d key) ≡ found (policy_rules d) o → EndsAs (call (suc n) (policy_chain d key) m s) m s (first_answer (rules_of_policy d a o))
-    policy_ends d key m s z None is = (m, called n (policy_chain d key) [] m s is ∙ walk-end last_reason (holds a) (call n) (policy_chain d key) 1 m s, record { accept = refl; pass = refl })
-    policy_ends d key m s z (Some pr) is =
-        subst (λ x. EndsAs x m s (first_answer (met_view_rules a (reason.Policy pr.id) 1 (policy_side d pr)))) (sym (called n (policy_chain d key) _ m s is))
-        (rules_end a (call n) (policy_chain d key) (policy_inner d key) (reason.Policy pr.id) 1 (policy_side d pr) 1 m s z)
+    policy_ends : (d : Direction) (key : List ℕ) (m : ℕ) (s : Reasons) → bit_at m 16 ≡ 0 → bit_at m 17 ≡ 0 → (o : Option ViewPolicy) → maps.get v.policies key ≡ o → rules_in chains (policy_chain d key) ≡ found (policy_rules d) o → EndsAs (call (suc n) (policy_chain d key) m s) m s (first_answer (rules_of_policy v.sets d a o))
+    policy_ends d key m s z y None at is = (m, called n (policy_chain d key) [] m s is ∙ walk-end last_reason (holds v.sets a) (call n) (policy_chain d key) 1 m s, record { accept = refl; pass = refl })
+    policy_ends d key m s z y (Some pr) at is =
+        subst (λ x. EndsAs x m s (first_answer (met_view_rules v.sets a (reason.Policy pr.id) 1 (policy_side d pr)))) (sym (called n (policy_chain d key) _ m s is))
+        (rules_end v.sets a (call n) (policy_chain d key) (policy_inner d key) (reason.Policy pr.id) 1 (policy_side d pr) 1 m s (formed.policies d key pr at) z (all_clear (policy_side d pr) m y))
 
     abbrev policies_met : Direction → List (List ℕ) → List MetRule
-    policies_met d keys = flat_map (λ key. rules_of_policy d a (maps.get v.policies key)) keys
+    policies_met d keys = flat_map (λ key. rules_of_policy v.sets d a (maps.get v.policies key)) keys
 
     -- the policies of a tier, and the tier's end
     policies_end : (d : Direction) (name : List ℕ) (keys : List (List ℕ)) (rest : List ChainRule) (p m : ℕ) (s : Reasons) (x : Decision) → bit_at m 16 ≡ 0 → bit_at m 17 ≡ 0 → Concluding rest x
         → ConcludesAs (walk p (policy_jumps d keys ++ end_rule name ∷ rest) m s) s (after_tier name (first_answer (policies_met d keys)) x)
     policies_end d name [] rest p m s x z y after =
-        told_drop a (call (suc n)) c inner p (is_clear pass_mark ∷ []) (reason.EndOfTier name) rest m s (only a m (is_clear pass_mark) true (is_zero a m 17 y))
+        told_drop v.sets a (call (suc n)) c inner p (is_clear pass_mark ∷ []) (reason.EndOfTier name) rest m s (only v.sets a m (is_clear pass_mark) true (is_zero v.sets a m 17 y))
     policies_end d name (key ∷ keys) rest p m s x z y after =
-        concludes_from _ _ s _ (jump_hit p (is_clear pass_mark ∷ []) (policy_chain d key) (back ∷ (policy_jumps d keys ++ end_rule name ∷ rest)) m s (only a m (is_clear pass_mark) true (is_zero a m 17 y)))
-        (subst (λ ans. ConcludesAs (back_after (suc p) (policy_jumps d keys ++ end_rule name ∷ rest) (call (suc n) (policy_chain d key) m s)) s (after_tier name ans x)) (sym (first-append (rules_of_policy d a (maps.get v.policies key)) (policies_met d keys)))
-        (after_policy d name keys rest (suc p) (call (suc n) (policy_chain d key) m s) m s x (first_answer (rules_of_policy d a (maps.get v.policies key))) (first_answer (policies_met d keys)) z y
-        (policy_ends d key m s z (maps.get v.policies key) (given.at_policy d key))
+        concludes_from _ _ s _ (jump_hit p (is_clear pass_mark ∷ []) (policy_chain d key) (back ∷ (policy_jumps d keys ++ end_rule name ∷ rest)) m s (only v.sets a m (is_clear pass_mark) true (is_zero v.sets a m 17 y)))
+        (subst (λ ans. ConcludesAs (back_after (suc p) (policy_jumps d keys ++ end_rule name ∷ rest) (call (suc n) (policy_chain d key) m s)) s (after_tier name ans x)) (sym (first-append (rules_of_policy v.sets d a (maps.get v.policies key)) (policies_met d keys)))
+        (after_policy d name keys rest (suc p) (call (suc n) (policy_chain d key) m s) m s x (first_answer (rules_of_policy v.sets d a (maps.get v.policies key))) (first_answer (policies_met d keys)) z y
+        (policy_ends d key m s z y (maps.get v.policies key) refl (given.at_policy d key))
         (λ k zk yk. policies_end d name keys rest (suc (suc p)) k s x zk yk after)
         after))
 
     tiers_end : (d : Direction) (ts : List ViewTier) (rest : List ChainRule) (x : Decision) → Concluding rest x → Concluding (tier_rules d ts rest) (tiers_verdict (map (view_tier v d a) ts) x)
     tiers_end d [] rest x after p m s z = after p m s z
     tiers_end d (t ∷ ts) rest x after p m s z =
-        concludes_from _ _ s _ (plain_hit a (call (suc n)) c inner p [] 0 pass_mark (policy_jumps d t.policies ++ end_rule t.name ∷ tier_rules d ts rest) m s refl)
+        concludes_from _ _ s _ (plain_hit v.sets a (call (suc n)) c inner p [] 0 pass_mark (policy_jumps d t.policies ++ end_rule t.name ∷ tier_rules d ts rest) m s refl)
         (policies_end d t.name t.policies (tier_rules d ts rest) (suc p) (marked m 0 pass_mark) s (tiers_verdict (map (view_tier v d a) ts) x)
         (clear_other m 17 16 (lit< tt) (lit< tt) (omega arith) ∙ z) (clear_same m 17 (lit< tt))
         (tiers_end d ts rest x after))
 
-  state_misses : (b : Bool) (m : ℕ) → a.state ≡ New → hold_all (holds a) m (match.State b ∷ []) ≡ false
+  state_misses : (b : Bool) (m : ℕ) → a.state ≡ New → hold_all (holds v.sets a) m (match.State b ∷ []) ≡ false
   unfolding holds
-  state_misses true m h = only a m (match.State true) false (ap (state_in true) h)
-  state_misses false m h = only a m (match.State false) false (ap (state_in false) h)
+  state_misses true m h = only v.sets a m (match.State true) false (ap (state_in true) h)
+  state_misses false m h = only v.sets a m (match.State false) false (ap (state_in false) h)
 
-  iface_met : (m : ℕ) (end : End) (name : List ℕ) (b : Bool) → bytes_eq (iface_at end a) name ≡ b → hold_all (holds a) m (match.Iface end name false ∷ []) ≡ b
+  iface_met : (m : ℕ) (end : End) (name : List ℕ) (b : Bool) → bytes_eq (iface_at end a) name ≡ b → hold_all (holds v.sets a) m (match.Iface end name false ∷ []) ≡ b
   unfolding holds
-  iface_met m end name b h = only a m (match.Iface end name false) b h
+  iface_met m end name b h = only v.sets a m (match.Iface end name false) b h
 
-  pub workload_met : (m : ℕ) (end : End) (b : Bool) → is_workload (iface_at end a) ≡ b → hold_all (holds a) m (match.Iface end (codes "cali") true ∷ []) ≡ b
+  pub workload_met : (m : ℕ) (end : End) (b : Bool) → is_workload (iface_at end a) ≡ b → hold_all (holds v.sets a) m (match.Iface end (codes "cali") true ∷ []) ≡ b
   unfolding holds
-  workload_met m end b h = only a m (match.Iface end (codes "cali") true) b h
+  workload_met m end b h = only v.sets a m (match.Iface end (codes "cali") true) b h
 
   -- an endpoint's chain, for a packet in state NEW
   endpoint_ends : (n : ℕ) (d : Direction) (iface : List ℕ) (e : ViewEndpoint) → maps.get v.endpoints iface ≡ Some e → a.state ≡ New → (m : ℕ) (s : Reasons) → ConcludesAs (call (suc (suc n)) (endpoint_chain d iface) m s) s (view_endpoint_verdict v d e a)
   endpoint_ends n d iface e there new m s =
       concludes_from _ _ s _
       (called (suc n) c (endpoint_rules d e) m s (given.at_endpoint d iface e there)
-      ∙ miss a (call (suc n)) c inner 1 (told (match.State true ∷ []) target.Accept reason.Established) _ m s (state_misses true m new)
-      ∙ miss a (call (suc n)) c inner 2 (told (match.State false ∷ []) target.Drop reason.Invalid) _ m s (state_misses false m new)
-      ∙ plain_hit a (call (suc n)) c inner 3 [] 0 accept_mark (tier_rules d (tiers_side d e) (profile_jumps d e.profiles)) m s refl)
+      ∙ miss v.sets a (call (suc n)) c inner 1 (told (match.State true ∷ []) target.Accept reason.Established) _ m s (state_misses true m new)
+      ∙ miss v.sets a (call (suc n)) c inner 2 (told (match.State false ∷ []) target.Drop reason.Invalid) _ m s (state_misses false m new)
+      ∙ plain_hit v.sets a (call (suc n)) c inner 3 [] 0 accept_mark (tier_rules d (tiers_side d e) (profile_jumps d e.profiles)) m s refl)
       (tiers_end n c inner d (tiers_side d e) (profile_jumps d e.profiles) (profiles_verdict (map (view_listed v d a) e.profiles)) (profiles_end n c inner d e.profiles) 4 (marked m 0 accept_mark) s (clear_same m 16 (lit< tt)))
     where
       c : ChainName
@@ -282,20 +294,20 @@ module _ (a : Packet) (v : View) (chains : Chains) (given : Renders v chains) wh
   dispatched n d true m s = after_goto (call n (endpoint_chain d (iface_at (end_of d) a)) m s)
   dispatched n d false m s = Dropped (with_reason s.side reason.UnknownInterface s)
 
-  dispatch : (n : ℕ) (c : ChainName) (inner : bytes_eq c forward ≡ false) (d : Direction) (ifaces : List (List ℕ)) (p m : ℕ) (s : Reasons) → over_rules last_reason (holds a) (call n) c p (dispatch_rules d ifaces) m s ≡ dispatched n d (list_any (bytes_eq (iface_at (end_of d) a)) ifaces) m s
-  dispatch n c inner d [] p m s = told_drop a (call n) c inner p [] reason.UnknownInterface [] m s refl
+  dispatch : (n : ℕ) (c : ChainName) (inner : bytes_eq c forward ≡ false) (d : Direction) (ifaces : List (List ℕ)) (p m : ℕ) (s : Reasons) → over_rules last_reason (holds v.sets a) (call n) c p (dispatch_rules d ifaces) m s ≡ dispatched n d (list_any (bytes_eq (iface_at (end_of d) a)) ifaces) m s
+  dispatch n c inner d [] p m s = told_drop v.sets a (call n) c inner p [] reason.UnknownInterface [] m s refl
   dispatch n c inner d (x ∷ ifaces) p m s = by_test (bytes_eq (iface_at (end_of d) a) x) refl (dispatch n c inner d ifaces (suc p) m s)
     where
       r : ChainRule
       r = plain (match.Iface (end_of d) x false ∷ []) (target.Goto (endpoint_chain d x))
 
-      by_test : (b : Bool) → bytes_eq (iface_at (end_of d) a) x ≡ b → over_rules last_reason (holds a) (call n) c (suc p) (dispatch_rules d ifaces) m s ≡ dispatched n d (list_any (bytes_eq (iface_at (end_of d) a)) ifaces) m s → over_rules last_reason (holds a) (call n) c p (dispatch_rules d (x ∷ ifaces)) m s ≡ dispatched n d (b || list_any (bytes_eq (iface_at (end_of d) a)) ifaces) m s
+      by_test : (b : Bool) → bytes_eq (iface_at (end_of d) a) x ≡ b → over_rules last_reason (holds v.sets a) (call n) c (suc p) (dispatch_rules d ifaces) m s ≡ dispatched n d (list_any (bytes_eq (iface_at (end_of d) a)) ifaces) m s → over_rules last_reason (holds v.sets a) (call n) c p (dispatch_rules d (x ∷ ifaces)) m s ≡ dispatched n d (b || list_any (bytes_eq (iface_at (end_of d) a)) ifaces) m s
       by_test true h ih =
-          walk_hit last_reason (holds a) (call n) c p r (dispatch_rules d ifaces) m s (iface_met m (end_of d) x true h)
-          ∙ goto_ends (call n (endpoint_chain d x) m (last_reason c p r s)) (over_rules last_reason (holds a) (call n) c (suc p) (dispatch_rules d ifaces))
-          ∙ ap (λ t. after_goto (call n (endpoint_chain d x) m t)) (noted_as a (call n) c inner p r s)
+          walk_hit last_reason (holds v.sets a) (call n) c p r (dispatch_rules d ifaces) m s (iface_met m (end_of d) x true h)
+          ∙ goto_ends (call n (endpoint_chain d x) m (last_reason c p r s)) (over_rules last_reason (holds v.sets a) (call n) c (suc p) (dispatch_rules d ifaces))
+          ∙ ap (λ t. after_goto (call n (endpoint_chain d x) m t)) (noted_as v.sets a (call n) c inner p r s)
           ∙ ap (λ i. after_goto (call n (endpoint_chain d i) m s)) (sym (same_bytes (iface_at (end_of d) a) x h))
-      by_test false h ih = miss a (call n) c inner p r (dispatch_rules d ifaces) m s (iface_met m (end_of d) x false h) ∙ ih
+      by_test false h ih = miss v.sets a (call n) c inner p r (dispatch_rules d ifaces) m s (iface_met m (end_of d) x false h) ∙ ih
 
   any_same : (q : List ℕ) (ks : List (List ℕ)) → list_any (bytes_eq q) ks ≡ list_any (eq_by_cmp (slice_cmp nat_cmp) q) ks
   any_same q [] = refl

@@ -150,6 +150,7 @@ module _ {S : Type 0} (note : Notes S) (a : Test) (chains : Chains) where
         stepped e (called d low m s' stack v t (goto-means go (call d m s') stack v t l))
     hit-run go c p onto (target.Mark value mask) low m s s' stack v t e l =
         stepped e (onto (marked m value mask) s' stack v t l)
+    hit-run go c p onto target.Log low m s s' stack v t e l = stepped e (onto m s' stack v t l)
 
     rules-run : (c : ChainName) (rest : List ChainRule) (p : ℕ) → drop p (rules_in chains c) ≡ rest → AllLeadBelow n rest → Onto (over_rules note a call c (suc p) rest) c p
     unfolding over_rules

@@ -1,8 +1,10 @@
 -- What the wanted view says of a first packet is what the resources say.
-use Rattle.std.proofs.Common.{◌≡◌, ℕ, suc, Bool, true, false, ◌||◌, cond, List, [], ◌∷◌, ◌++◌, map, Option, Some, None, refl, sym, ap, ◌∙◌, subst}
+use Rattle.std.proofs.Common.{◌≡◌, ℕ, suc, Bool, true, false, not, ◌&&◌, is_some, ◌||◌, cond, List, [], ◌∷◌, ◌++◌, map, Option, Some, None, refl, sym, ap, ◌∙◌, subst}
 use Rattle.std.specs.Prelude.{T, filter}
 use Rattle.fx_base.proofs.Found.{entries_found}
-use Rattle.std.specs.List.{AllByRecursion, list_any, flat_map}
+use Rattle.fx_base.proofs.AtKey.{get_empty}
+use Rattle.fx_base.proofs.ExtendedKeys.{at_extended}
+use Rattle.std.specs.List.{AllByRecursion, list_any, list_all, flat_map}
 use Rattle.std.specs.Str.{bytes_eq}
 use Rattle.std.specs.Ordering.{nat_cmp, eq_by_cmp, is_eq, is_lt}
 use Rattle.std.specs.Cmp.{tied_itself}
@@ -11,7 +13,7 @@ use Rattle.std.specs.FinMap as maps
 use Rattle.std.specs.FinMap.Entries.{below_all}
 use Rattle.std.proofs.lemmas.List.Folds.{list_any-append}
 use Rattle.std.proofs.lemmas.Bool.{or_left, or_right}
-use Rattle.fx_base.specs.Same.{same_bytes}
+use Rattle.fx_base.specs.Same.{same_bytes, both_pass}
 use Rattle.fx_model.proofs.Orders.{item_total}
 use Rattle.fx_model.specs.contracts.ids.ItemKeyOrd.TheImpl.{cmp-value}
 use Rattle.fx_model.specs.declared.ids.ItemKey.{ItemKey}
@@ -19,7 +21,12 @@ use Rattle.fx_model.specs.declared.ids.ItemKey.TheVariants as key
 use Rattle.fx_model.specs.declared.packet.Packet.{Packet}
 use Rattle.fx_model.specs.declared.chain.Reason.{Reason}
 use Rattle.fx_model.specs.declared.chain.Reason.TheVariants as reason
-use Rattle.fx_model.specs.declared.resources.Rule.{Rule}
+use Rattle.fx_base.specs.declared.net.PortRange.{PortRange}
+use Rattle.fx_model.specs.declared.chain.End.{End}
+use Rattle.fx_model.specs.declared.chain.End.TheVariants.{Source, Dest}
+use Rattle.fx_model.specs.declared.rules.Rule.{Rule}
+use Rattle.fx_model.specs.declared.rules.Side.{Side}
+use Rattle.fx_model.specs.declared.view_rule.ViewPort.TheVariants.{Range}
 use Rattle.fx_model.specs.declared.resources.Endpoint.{Endpoint}
 use Rattle.fx_model.specs.declared.resources.Profile.{Profile}
 use Rattle.fx_model.specs.declared.resources.Resources.{Resources}
@@ -27,9 +34,12 @@ use Rattle.fx_model.specs.declared.view.ViewEndpoint.{ViewEndpoint}
 use Rattle.fx_model.specs.declared.view.ViewProfile.{ViewProfile}
 use Rattle.fx_model.specs.Directions.{Direction, Ingress, Egress}
 use Rattle.fx_model.specs.Resources.{is_served, served_endpoints}
-use Rattle.fx_model.specs.Views.{view_of, view_rule, profile_key, view_profile, profile_entry, view_endpoint, endpoint_entry, active_profiles}
-use Rattle.fx_model.specs.Policy.{There, met_rules, there_or_missing, listed_profile, profiles_verdict, endpoint_verdict, with_iface, endpoint_at, verdict_at, is_workload, side_verdict, both_sides, packet_verdict}
-use Rattle.fx_model.specs.ViewPolicy.{met_view_rules, listed_of, view_listed, view_endpoint_verdict, view_verdict_at, view_verdict, IsOnWorkloads, IsServable}
+use Rattle.fx_model.specs.Criteria.{address_at, port_at, proto_is, proto_is_not, lies_in, lies_in_given, holds_port, icmp_is, icmp_is_not}
+use Rattle.fx_model.specs.Formed.{implies, is_given, has_port_protocol, has_icmp_protocol, lists_ports, lists_view_ports, passes, is_formed_profile_rule, is_formed_profile, is_formed_view_profile_rule}
+use Rattle.fx_model.specs.Tables.{profile_side}
+use Rattle.fx_model.specs.Views.{view_of, view_side, view_rule, profile_key, view_profile, profile_entry, view_endpoint, endpoint_entry, active_profiles}
+use Rattle.fx_model.specs.Policy.{some_port, some_port_given, side_matches, rule_matches, There, met_rules, there_or_missing, listed_profile, profiles_verdict, endpoint_verdict, with_iface, endpoint_at, verdict_at, is_workload, side_verdict, both_sides, packet_verdict}
+use Rattle.fx_model.specs.ViewPolicy.{some_view_port, some_view_port_given, view_side_matches, view_rule_matches, HasFormedRules, met_view_rules, listed_of, view_listed, view_endpoint_verdict, view_verdict_at, view_verdict, IsOnWorkloads, IsServable}
 use Rattle.fx_walk.proofs.Lookups.{last_at, get-collected, first, second}
 
 -- keys are one
@@ -52,14 +62,83 @@ is_same q k e = same_bytes q k (texts_ties q k ∙ e)
 abbrev AllThere : maps.FinMap cmp-value.it Endpoint → List (ItemKey × Endpoint) → Type 0
 AllThere m es = AllByRecursion (λ e. maps.get m e.0 ≡ Some e.1) es
 
+-- ---- the rules of the view are formed where those of the resources are
+
+module _ (R : Resources) where
+  given_ranges : (ps : List PortRange) → is_given (map Range ps) ≡ is_given ps
+  given_ranges [] = refl
+  given_ranges (p ∷ ps) = refl
+
+  lists_same : (r : Rule) → lists_view_ports (view_rule r) ≡ lists_ports r
+  lists_same r =
+      ap (λ b. (b || is_given (map Range r.source.not_ports)) || (is_given (map Range r.destination.ports) || is_given (map Range r.destination.not_ports))) (given_ranges r.source.ports)
+      ∙ ap (λ b. (is_given r.source.ports || b) || (is_given (map Range r.destination.ports) || is_given (map Range r.destination.not_ports))) (given_ranges r.source.not_ports)
+      ∙ ap (λ b. (is_given r.source.ports || is_given r.source.not_ports) || (b || is_given (map Range r.destination.not_ports))) (given_ranges r.destination.ports)
+      ∙ ap (λ b. (is_given r.source.ports || is_given r.source.not_ports) || (is_given r.destination.ports || b)) (given_ranges r.destination.not_ports)
+
+  formed_same : (r : Rule) → is_formed_view_profile_rule (view_rule r) ≡ is_formed_profile_rule r
+  formed_same r =
+      ap (λ b. (implies b (has_port_protocol r.protocol) && implies (is_some r.icmp || is_some r.not_icmp) (has_icmp_protocol r.protocol)) && not (passes r.action)) (lists_same r)
+
+  all_formed : (rs : List Rule) → list_all is_formed_view_profile_rule (map view_rule rs) ≡ list_all is_formed_profile_rule rs
+  all_formed [] = refl
+  all_formed (r ∷ rs) =
+      ap (λ b. b && list_all is_formed_view_profile_rule (map view_rule rs)) (formed_same r) ∙ ap (λ b. is_formed_profile_rule r && b) (all_formed rs)
+
+  -- each side of the profile has formed rules
+  abbrev HasFormedSides : ViewProfile → Type 0
+  HasFormedSides p = (d : Direction) → list_all is_formed_view_profile_rule (profile_side d p) ≡ true
+
+  profile_formed : (name : List ℕ) (o : Option Profile) → ((p : Profile) → o ≡ Some p → is_formed_profile p ≡ true) → HasFormedSides (view_profile name o)
+  profile_formed name None h Ingress = refl
+  profile_formed name None h Egress = refl
+  profile_formed name (Some p) h Ingress = all_formed p.ingress ∙ (both_pass (list_all is_formed_profile_rule p.ingress) (list_all is_formed_profile_rule p.egress) (h p refl)).0
+  profile_formed name (Some p) h Egress = all_formed p.egress ∙ (both_pass (list_all is_formed_profile_rule p.ingress) (list_all is_formed_profile_rule p.egress) (h p refl)).1
+
+  entries_formed : IsServable R → (names : List (List ℕ)) → AllByRecursion (λ e. HasFormedSides e.1) (map (profile_entry R) names)
+  entries_formed servable [] = tt
+  entries_formed servable (name ∷ names) = (profile_formed name (maps.get R.profiles name) (servable.rules name), entries_formed servable names)
+
+  nothing_there : {X A : Type 0} (q : List ℕ) (x : X) → maps.get (maps.empty {X = X} {R = slice_cmp nat_cmp}) q ≡ Some x → A
+  nothing_there q x e = absurd (none (sym (get_empty q) ∙ e))
+    where
+      none : {X : Type 0} {x : X} → None ≡ Some x → ⊥
+      none h = cc
+
+  pub formed_rules : IsServable R → HasFormedRules (view_of R)
+  formed_rules servable = record {
+    policies = λ d key p e. nothing_there key p e;
+    profiles = λ d key p e. at_extended (λ _ q. HasFormedSides q) maps.empty (map (profile_entry R) (active_profiles R)) (λ q x is. nothing_there q x is) (entries_formed servable (active_profiles R)) key p e d;
+  }
+
 module _ (R : Resources) (a : Packet) where
   -- ---- profiles
 
-  met_same : (why : ℕ → Reason) (place : ℕ) (rs : List Rule) → met_view_rules a why place (map view_rule rs) ≡ met_rules R a why place rs
-  met_same why place [] = refl
-  met_same why place (r ∷ rs) = ap (λ l. record { why = why place; action = r.action; matches = true } ∷ l) (met_same why (suc place) rs)
+  ports_same : (end : End) (ps : List PortRange) → some_view_port (view_of R).sets end (map Range ps) a ≡ some_port ps a.proto.0 (port_at end a)
+  ports_same end [] = refl
+  ports_same end (p ∷ ps) = ap (λ b. holds_port p a.proto.0 (port_at end a) || b) (ports_same end ps)
 
-  listed_same : (d : Direction) (name : List ℕ) (o : Option Profile) → listed_of d a (Some (view_profile name o)) ≡ there_or_missing R d a name o
+  given_same : (end : End) (ps : List PortRange) → some_view_port_given (view_of R).sets end (map Range ps) a ≡ some_port_given ps a.proto.0 (port_at end a)
+  given_same end [] = refl
+  given_same end (p ∷ ps) = ports_same end (p ∷ ps)
+
+  side_same : (end : End) (s : Side) → view_side_matches (view_of R).sets end (view_side s) a ≡ side_matches end s a
+  side_same end s =
+      ap (λ b. (lies_in_given s.nets (address_at end a) && not (lies_in s.not_nets (address_at end a))) && (b && not (some_view_port (view_of R).sets end (map Range s.not_ports) a))) (given_same end s.ports)
+      ∙ ap (λ b. (lies_in_given s.nets (address_at end a) && not (lies_in s.not_nets (address_at end a))) && (some_port_given s.ports a.proto.0 (port_at end a) && not b)) (ports_same end s.not_ports)
+
+  rule_same : (r : Rule) → view_rule_matches (view_of R).sets (view_rule r) a ≡ rule_matches R r a
+  rule_same r =
+      ap (λ b. not r.never && ((proto_is r.protocol a.proto.0 && proto_is_not r.not_protocol a.proto.0) && ((icmp_is r.icmp a && icmp_is_not r.not_icmp a) && (b && view_side_matches (view_of R).sets Dest (view_side r.destination) a)))) (side_same Source r.source)
+      ∙ ap (λ b. not r.never && ((proto_is r.protocol a.proto.0 && proto_is_not r.not_protocol a.proto.0) && ((icmp_is r.icmp a && icmp_is_not r.not_icmp a) && (side_matches Source r.source a && b)))) (side_same Dest r.destination)
+
+  met_same : (why : ℕ → Reason) (place : ℕ) (rs : List Rule) → met_view_rules (view_of R).sets a why place (map view_rule rs) ≡ met_rules R a why place rs
+  met_same why place [] = refl
+  met_same why place (r ∷ rs) =
+      ap (λ b. record { why = why place; action = r.action; matches = b } ∷ met_view_rules (view_of R).sets a why (suc place) (map view_rule rs)) (rule_same r)
+      ∙ ap (λ l. record { why = why place; action = r.action; matches = rule_matches R r a } ∷ l) (met_same why (suc place) rs)
+
+  listed_same : (d : Direction) (name : List ℕ) (o : Option Profile) → listed_of (view_of R).sets d a (Some (view_profile name o)) ≡ there_or_missing R d a name o
   listed_same d name None = refl
   listed_same Ingress name (Some p) = ap There (met_same (reason.Profile name) 1 p.ingress)
   listed_same Egress name (Some p) = ap There (met_same (reason.Profile name) 1 p.egress)
@@ -91,7 +170,7 @@ module _ (R : Resources) (a : Packet) where
   -- each active name has its profile in the view
   active_listed : (d : Direction) (name : List ℕ) → is_among name (active_profiles R) ≡ true → view_listed (view_of R) d a name ≡ listed_profile R d a name
   active_listed d name h =
-      ap (listed_of d a) (get-collected nat_list_cmp_total (map (profile_entry R) (active_profiles R)) name ∙ profile_found (active_profiles R) name None h)
+      ap (listed_of (view_of R).sets d a) (get-collected nat_list_cmp_total (map (profile_entry R) (active_profiles R)) name ∙ profile_found (active_profiles R) name None h)
       ∙ listed_same d name (maps.get R.profiles name)
 
   all_listed : (d : Direction) (names : List (List ℕ)) → Within names → map (view_listed (view_of R) d a) (map profile_key names) ≡ map (listed_profile R d a) names

@@ -15,10 +15,10 @@ use Rattle.fx_walk.proofs.Walks.{ended-run, one-end}
 
 module _ {S : Type 0} (note : Notes S) (tables : Tables) (a : Packet) (ranked : IsRanked tables.chains) where
   -- where the walk of the first chain ends so, the run does
-  run_of : (c : ChainName) → c ≡ forward → (s : S) (e : Ended S) → e ≡ over_chain note (holds a) tables.chains 5 c 0 s → Run S note (holds a) tables.chains (at_rule forward 0 [] 0 s) (verdict_of e) (noted_in e)
+  run_of : (c : ChainName) → c ≡ forward → (s : S) (e : Ended S) → e ≡ over_chain note (holds tables.sets a) tables.chains 5 c 0 s → Run S note (holds tables.sets a) tables.chains (at_rule forward 0 [] 0 s) (verdict_of e) (noted_in e)
   run_of c is s e walk =
-      subst (λ x. Run S note (holds a) tables.chains (at_rule forward 0 [] 0 s) (verdict_of x) (noted_in x))
-      (sym (walk ∙ ap (λ (k : ChainName). over_chain note (holds a) tables.chains 5 k 0 s) is)) (ended-run note (holds a) tables.chains ranked s)
+      subst (λ x. Run S note (holds tables.sets a) tables.chains (at_rule forward 0 [] 0 s) (verdict_of x) (noted_in x))
+      (sym (walk ∙ ap (λ (k : ChainName). over_chain note (holds tables.sets a) tables.chains 5 k 0 s) is)) (ended-run note (holds tables.sets a) tables.chains ranked s)
 
 module _ (tables : Tables) (a : Packet) (ranked : IsRanked tables.chains) (c : ChainName) (is : c ≡ forward) (m : ℕ) (zero : m ≡ 0) (first : Reasons) (none : first ≡ nothing_noted) where
   pub decides_run : (e : Ended Reasons) → e ≡ chain_walk tables a 5 c m first → (v : Verdict) (egress ingress : Option Reason) → v ≡ verdict_of e → egress ≡ (noted_in e).egress → ingress ≡ (noted_in e).ingress → Decides tables a v egress ingress
@@ -46,8 +46,8 @@ module _ (tables : Tables) (a : Packet) (ranked : IsRanked tables.chains) (c : C
   pub traces_run : (before after : List Hop) (e : Stop) → traced after e ≡ chain_trace tables a 5 c m (start first before) → (v : Verdict) (egress ingress : Option Reason) → v ≡ verdict_of (ended_of e) → egress ≡ (noted_in (ended_of e)).egress → ingress ≡ (noted_in (ended_of e)).ingress → Traces tables a (hops_of before) (hops_of after) v egress ingress
   traces_run before after e walk v egress ingress ev ee ei = (
     (noted_in (ended_of e)).side,
-    rw (ev, ee, ei) (subst (λ w. Run Trace hops_and_reasons (holds a) tables.chains (at_rule forward 0 [] 0 (from before)) w (record { hops = hops_of after; reasons = noted_in (ended_of e) })) (same_verdict after e)
-        (subst (λ t. Run Trace hops_and_reasons (holds a) tables.chains (at_rule forward 0 [] 0 (from before)) (verdict_of (traced after e)) t) (same_notes after e)
+    rw (ev, ee, ei) (subst (λ w. Run Trace hops_and_reasons (holds tables.sets a) tables.chains (at_rule forward 0 [] 0 (from before)) w (record { hops = hops_of after; reasons = noted_in (ended_of e) })) (same_verdict after e)
+        (subst (λ t. Run Trace hops_and_reasons (holds tables.sets a) tables.chains (at_rule forward 0 [] 0 (from before)) (verdict_of (traced after e)) t) (same_notes after e)
         (run_of hops_and_reasons tables a ranked c is (from before) (traced after e) (walk ∙ ap (λ k. chain_trace tables a 5 c k (start first before)) zero ∙ ap (λ s. chain_trace tables a 5 c 0 (start s before)) none)))),
   )
 
@@ -56,7 +56,7 @@ module _ (tables : Tables) (a : Packet) (ranked : IsRanked tables.chains) (c : C
     (h.more, h.grown),
     λ after v egress ingress run. (
       h.rest,
-      ap (λ (x : Trace). x.hops) (one-end hops_and_reasons (holds a) tables.chains run.1 (run_of hops_and_reasons tables a ranked c is (from before) _ refl)).1
+      ap (λ (x : Trace). x.hops) (one-end hops_and_reasons (holds tables.sets a) tables.chains run.1 (run_of hops_and_reasons tables a ranked c is (from before) _ refl)).1
           ∙ ap (λ s. hops_in (chain_trace tables a 5 c 0 (start s before))) (sym none) ∙ ap (λ k. hops_in (chain_trace tables a 5 c k (start first before))) (sym zero) ∙ h.whole,
     ),
   )

@@ -28,7 +28,7 @@ ended_of (stop.Through s) = Through s.mark (reasons_of s)
 
 -- the walk of a chain for its reasons
 abbrev pub chain_walk : Tables → Packet → ℕ → ChainName → Onward Reasons
-chain_walk tables a depth = over_chain last_reason (holds a) tables.chains depth
+chain_walk tables a depth = over_chain last_reason (holds tables.sets a) tables.chains depth
 
 -- ---- with the path
 
@@ -47,7 +47,7 @@ traced path (stop.Through s) = Through s.mark (trace_of path s)
 
 -- the walk of a chain for its path and its reasons
 abbrev pub chain_trace : Tables → Packet → ℕ → ChainName → Onward Trace
-chain_trace tables a depth = over_chain hops_and_reasons (holds a) tables.chains depth
+chain_trace tables a depth = over_chain hops_and_reasons (holds tables.sets a) tables.chains depth
 
 abbrev pub hops_in : Ended Trace → List (ChainName × ℕ)
 hops_in e = (noted_in e).hops

@@ -1,5 +1,5 @@
 //! The way of one packet through the tables: its path, its verdict and the rules that decided.
-#![tactic(auto, using(fx_base::proofs::AtKey::reads))]
+#![tactic(auto)]
 
 pub use laws::{
     first_chain_is_there, lone_local_is_servable, policy_is_kept, run_has_one_end, tables_agree,

@@ -117,7 +117,7 @@ fn tagged<'a>(tag: &'a Tag, seen: Seen<'a>) -> Seen<'a>
     ensures reasons { reasons_of result ≡ with_tag tag.entry.now (reasons_of seen.entry) }
 {
     match tag {
-        Tag::Plain => seen,
+        Tag::Plain | Tag::Log => seen,
         Tag::Why(why) => reasoned(why, seen),
     }
 }
@@ -142,13 +142,13 @@ pub fn noted<'a>(hop: Hop, rule: &'a ChainRule, seen: Seen<'a>) -> Seen<'a>
 pub fn is_on_path(rule: &ChainRule) -> bool
     ensures { result ≡ is_shown rule.now }
 {
-    let leads_or_ends = match &rule.target {
-        Target::Accept | Target::Drop | Target::Jump(_) | Target::Goto(_) => true,
+    let is_shown_target = match &rule.target {
+        Target::Accept | Target::Drop | Target::Jump(_) | Target::Goto(_) | Target::Log => true,
         Target::Return | Target::Mark { .. } => false,
     };
-    let has_reason = match &rule.tag {
+    let is_tagged = match &rule.tag {
         Tag::Plain => false,
-        Tag::Why(_) => true,
+        Tag::Log | Tag::Why(_) => true,
     };
-    leads_or_ends || has_reason
+    is_shown_target || is_tagged
 }

@@ -63,6 +63,7 @@ fn follow<'a>(
             mark: with_mark(seen.mark, *value, *mask),
             ..seen
         })),
+        Target::Log => Ok(Stop::Through(seen)),
     }
 }
 
@@ -78,10 +79,10 @@ fn trace_rule<'a>(
     seen: Seen<'a>,
     path: &mut Vec<Hop>,
 ) -> Result<Stop<'a>, Memory>
-    ensures ok { IfOk result (λ stop. traced path.new.items stop ≡ over_rule hops_and_reasons (holds packet.now) (chain_trace tables.entry.now packet.now depth) hop.chain hop.place rule.entry.now seen.entry.mark (trace_of path.old.items seen.entry)) }
-    ensures err { OnErr result (IsCut (hops_of path.old.items) (hops_of path.new.items) (over_rule hops_and_reasons (holds packet.now) (chain_trace tables.entry.now packet.now depth) hop.chain hop.place rule.entry.now seen.entry.mark (trace_of path.old.items seen.entry))) }
+    ensures ok { IfOk result (λ stop. traced path.new.items stop ≡ over_rule hops_and_reasons (holds tables.entry.now.sets packet.now) (chain_trace tables.entry.now packet.now depth) hop.chain hop.place rule.entry.now seen.entry.mark (trace_of path.old.items seen.entry)) }
+    ensures err { OnErr result (IsCut (hops_of path.old.items) (hops_of path.new.items) (over_rule hops_and_reasons (holds tables.entry.now.sets packet.now) (chain_trace tables.entry.now packet.now depth) hop.chain hop.place rule.entry.now seen.entry.mark (trace_of path.old.items seen.entry))) }
 {
-    if all_hold(packet, seen.mark, rule.matches.as_slice()) {
+    if all_hold(tables.sets(), packet, seen.mark, rule.matches.as_slice()) {
         let now = note_on_path(&hop, rule, seen, path)?;
         follow(tables, packet, depth, &rule.target, now, path)
     } else {
@@ -100,8 +101,8 @@ fn trace_rules<'a>(
     before: Seen<'a>,
     path: &mut Vec<Hop>,
 ) -> Result<Stop<'a>, Memory>
-    ensures ok { IfOk result (λ stop. traced path.new.items stop ≡ over_rules hops_and_reasons (holds packet.now) (chain_trace tables.entry.now packet.now depth) chain 1 rules.entry.now before.entry.mark (trace_of path.old.items before.entry)) }
-    ensures err { OnErr result (IsCut (hops_of path.old.items) (hops_of path.new.items) (over_rules hops_and_reasons (holds packet.now) (chain_trace tables.entry.now packet.now depth) chain 1 rules.entry.now before.entry.mark (trace_of path.old.items before.entry))) }
+    ensures ok { IfOk result (λ stop. traced path.new.items stop ≡ over_rules hops_and_reasons (holds tables.entry.now.sets packet.now) (chain_trace tables.entry.now packet.now depth) chain 1 rules.entry.now before.entry.mark (trace_of path.old.items before.entry)) }
+    ensures err { OnErr result (IsCut (hops_of path.old.items) (hops_of path.new.items) (over_rules hops_and_reasons (holds tables.entry.now.sets packet.now) (chain_trace tables.entry.now packet.now depth) chain 1 rules.entry.now before.entry.mark (trace_of path.old.items before.entry))) }
 {
     let mut seen = before;
     for (i, rule) in rules.iter().enumerate() {

@@ -1,7 +1,9 @@
 //! Decisions and paths over small tables. What is wanted follows from iptables(8).
-ghost use Rattle.std.specs.Prelude.{◌≡◌, true, IfOk, OnOk, codes};
+ghost use Rattle.std.specs.Prelude.{◌≡◌, true, IfOk, OnOk, [], ◌∷◌, codes};
 ghost use Rattle.std.specs.FinMap as map;
 ghost use Rattle.fx_model.specs.Directions.{Egress};
+ghost use Rattle.fx_model.specs.declared.chain.End.TheVariants.{Source};
+ghost use Rattle.fx_model.specs.declared.chain.Match.TheVariants as match;
 ghost use Rattle.fx_model.specs.Tables.{endpoint_chain, forward, root_of};
 
 use crate::{Hop, decide, trace};
@@ -29,25 +31,41 @@ fn endpoint() -> ChainName
     ChainName::join(b"cali-fw-", b"cali1")
 }
 
-fn from(alloc: Global, name: &[u8], wild: bool) -> Result<Seq<Match>, Memory> {
+fn one(alloc: Global, m: Match) -> Result<Seq<Match>, Memory>
+    ensures { IfOk result (λ ms. ms ≡ m ∷ []) }
+{
+    Ok(Seq::from_vec(vec![in alloc; m]?))
+}
+
+fn from(alloc: Global, name: &[u8], wild: bool) -> Result<Seq<Match>, Memory>
+    ensures { IfOk result (λ ms. ms ≡ match.Iface Source name.now wild ∷ []) }
+{
     let name = Text::new(alloc, name)?;
-    let from = Match::Iface {
-        end: End::Source,
-        name,
-        wild,
-    };
-    Ok(Seq::from_vec(vec![in alloc; from]?))
+    one(
+        alloc,
+        Match::Iface {
+            end: End::Source,
+            name,
+            wild,
+        },
+    )
 }
 
-fn mark(alloc: Global, value: u32, mask: u32) -> Result<Seq<Match>, Memory> {
-    Ok(Seq::from_vec(vec![in alloc; Match::Mark { value, mask }]?))
+fn mark(alloc: Global, value: u32, mask: u32) -> Result<Seq<Match>, Memory>
+    ensures { IfOk result (λ ms. ms ≡ match.Mark value mask ∷ []) }
+{
+    one(alloc, Match::Mark { value, mask })
 }
 
-fn established(alloc: Global) -> Result<Seq<Match>, Memory> {
-    let established = Match::State {
-        related_established: true,
-    };
-    Ok(Seq::from_vec(vec![in alloc; established]?))
+fn established(alloc: Global) -> Result<Seq<Match>, Memory>
+    ensures { IfOk result (λ ms. ms ≡ match.State true ∷ []) }
+{
+    one(
+        alloc,
+        Match::State {
+            related_established: true,
+        },
+    )
 }
 
 fn rule(matches: Seq<Match>, target: Target, tag: Tag) -> ChainRule
@@ -60,7 +78,7 @@ fn rule(matches: Seq<Match>, target: Target, tag: Tag) -> ChainRule
     }
 }
 
-/// The chain of an endpoint: accept what is established; mark, and return where the mark is set; else drop.
+/// The chain of an endpoint: accept what is established; log; mark, and return where the mark is set; else drop.
 fn write_endpoint(alloc: Global, tables: &mut Tables) -> Result<(), Memory>
     ensures { OnOk result (map.contains_key tables.new.chains (endpoint_chain Egress (codes "cali1")) ≡ true) }
 {
@@ -69,6 +87,7 @@ fn write_endpoint(alloc: Global, tables: &mut Tables) -> Result<(), Memory>
         Target::Accept,
         Tag::Why(Reason::Established),
     );
+    let log = rule(Seq::new(alloc), Target::Log, Tag::Log);
     let set = Target::Mark {
         value: 0x30000,
         mask: 0x10000,
@@ -84,7 +103,7 @@ fn write_endpoint(alloc: Global, tables: &mut Tables) -> Result<(), Memory>
         Target::Drop,
         Tag::Why(Reason::NoProfileRule),
     );
-    let rules = vec![in alloc; accept, allow, back, drop]?;
+    let rules = vec![in alloc; accept, log, allow, back, drop]?;
     tables.write_chain(endpoint(), Seq::from_vec(rules))?;
     Ok(())
 }
@@ -183,6 +202,7 @@ fn decides_and_traces(rt: HostRuntime) -> Result<(), Fail> {
                 ("cali-FORWARD", 2),
                 ("cali-from-wl-dispatch", 1),
                 ("cali-fw-cali1", 2),
+                ("cali-fw-cali1", 3),
             ],
         ),
         (

@@ -43,6 +43,7 @@ fn follow<'a>(
             mark: with_mark(seen.mark, *value, *mask),
             ..seen
         }),
+        Target::Log => Stop::Through(seen),
     }
 }
 
@@ -57,9 +58,9 @@ fn walk_rule<'a>(
     rule: &'a ChainRule,
     seen: Seen<'a>,
 ) -> Stop<'a>
-    ensures { ended_of result ≡ over_rule last_reason (holds packet.now) (chain_walk tables.entry.now packet.now depth) hop.chain hop.place rule.entry.now seen.entry.mark (reasons_of seen.entry) }
+    ensures { ended_of result ≡ over_rule last_reason (holds tables.entry.now.sets packet.now) (chain_walk tables.entry.now packet.now depth) hop.chain hop.place rule.entry.now seen.entry.mark (reasons_of seen.entry) }
 {
-    if all_hold(packet, seen.mark, rule.matches.as_slice()) {
+    if all_hold(tables.sets(), packet, seen.mark, rule.matches.as_slice()) {
         let now = noted(hop, rule, seen);
         follow(tables, packet, depth, &rule.target, now)
     } else {
@@ -77,7 +78,7 @@ fn walk_rules<'a>(
     rules: &'a [ChainRule],
     before: Seen<'a>,
 ) -> Stop<'a>
-    ensures { ended_of result ≡ over_rules last_reason (holds packet.now) (chain_walk tables.entry.now packet.now depth) chain 1 rules.entry.now before.entry.mark (reasons_of before.entry) }
+    ensures { ended_of result ≡ over_rules last_reason (holds tables.entry.now.sets packet.now) (chain_walk tables.entry.now packet.now depth) chain 1 rules.entry.now before.entry.mark (reasons_of before.entry) }
 {
     let mut seen = before;
     for (i, rule) in rules.iter().enumerate() {

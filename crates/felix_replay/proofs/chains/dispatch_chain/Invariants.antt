@@ -3,7 +3,7 @@ use Rattle.std.specs.List.{list_all}
 use Rattle.std.specs.FinMap.{keys}
 use Rattle.fx_model.specs.Formed.{is_formed_view_endpoint}
 use Rattle.fx_model.specs.Tables.{dispatch_rules}
-use Rattle.felix_replay.specs.Rendering.{direction_of}
+use Rattle.fx_rules.specs.Rules.{direction_of}
 use Rattle.felix_replay.proofs.chains.dispatch_chain.Given as goal
 
 -- with the interfaces that are left behind it, the chain is whole

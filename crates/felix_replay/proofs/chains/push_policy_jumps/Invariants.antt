@@ -1,6 +1,6 @@
 use Rattle.std.proofs.Common.{◌≡◌, ◌++◌, drop}
 use Rattle.fx_model.specs.Tables.{policy_jumps}
-use Rattle.felix_replay.specs.Rendering.{direction_of}
+use Rattle.fx_rules.specs.Rules.{direction_of}
 use Rattle.felix_replay.proofs.chains.push_policy_jumps.Given as goal
 
 -- with those that are left behind it, the chain is whole

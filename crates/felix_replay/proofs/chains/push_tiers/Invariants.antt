@@ -1,6 +1,7 @@
 use Rattle.std.proofs.Common.{◌≡◌, ◌++◌, drop}
 use Rattle.std.specs.List.{flat_map}
-use Rattle.felix_replay.specs.Rendering.{direction_of, one_tier}
+use Rattle.fx_rules.specs.Rules.{direction_of}
+use Rattle.felix_replay.specs.Rendering.{one_tier}
 use Rattle.felix_replay.proofs.chains.push_tiers.Given as goal
 
 -- with those that are left behind it, the chain is whole

@@ -1,54 +1,49 @@
-use Rattle.std.proofs.Common.{◌≡◌, sym, ◌∙◌, ap, subst}
-use Rattle.fx_base.specs.Extended.{extended}
-use Rattle.fx_model.specs.Tables.{Tables, Chains, dispatch_chains, tables_of}
-use Rattle.fx_model.specs.Writing.{CanBeWritten}
-use Rattle.felix_replay.proofs.Writing.{policies_part, profiles_part, endpoints_part, with_policies, with_profiles, with_endpoints, policies_writable, profiles_writable, endpoints_writable, dispatch_writable, chains-whole}
+use Rattle.std.proofs.Common.{◌≡◌, sym, ◌∙◌, ap}
+use Rattle.std.specs.FinMap as maps
+use Rattle.fx_model.specs.declared.view.View.{View}
+use Rattle.fx_model.specs.Tables.{Tables, Chains, dispatch_chains}
+use Rattle.felix_replay.proofs.Writing.{policies_part, profiles_part, endpoints_part, with_policies, with_profiles, with_endpoints, policies_writable, profiles_writable, endpoints_writable, dispatch_writable, chains-whole, writable_in, written_on}
 use Rattle.felix_replay.proofs.driver.tables_of.Goals as goal
+
+-- new tables have a view's sets where it has none
+begun : (v : View) (t : Tables) → v.sets ≡ maps.empty → t ≡ record { sets = maps.empty; chains = maps.empty } → t ≡ record { sets = v.sets; chains = maps.empty }
+begun v t none is = is ∙ (λ i. record { sets = sym none i; chains = maps.empty })
 
 pub write_policies-requires : goal.write_policies-requires
 write_policies-requires c =
     let v = c.args.view.now in
-    subst (λ (m : Chains). CanBeWritten m (policies_part v c.requires.closed)) (sym (ap (λ (t : Tables). t.chains) c.new-tables.ensures)) (policies_writable v c.requires.closed)
+    writable_in c.new-tables.result v.sets maps.empty (policies_part v c.requires.closed) (begun v _ c.requires.no_sets c.new-tables.ensures) (policies_writable v c.requires.closed)
 
 pub write_profiles-requires-clause-writable : goal.write_profiles-requires-clause-writable
 write_profiles-requires-clause-writable c =
     let v = c.args.view.now in
-    let is : c.write_policies.new.tables.chains ≡ with_policies v c.requires.closed =
-    ap (λ (t : Tables). t.chains) c.in_ok-write_policies.ensures ∙ ap (λ (t : Tables). extended t.chains (policies_part v c.requires.closed)) c.new-tables.ensures in
-    subst (λ (m : Chains). CanBeWritten m (profiles_part v c.requires.closed)) (sym is) (profiles_writable v c.requires.closed)
+    let closed = c.requires.closed in
+    let first = written_on _ _ v.sets maps.empty (policies_part v closed) (begun v _ c.requires.no_sets c.new-tables.ensures) c.in_ok-write_policies.ensures in
+    writable_in _ v.sets (with_policies v closed) (profiles_part v closed) first (profiles_writable v closed)
 
 pub write_endpoints-requires-clause-writable : goal.write_endpoints-requires-clause-writable
 write_endpoints-requires-clause-writable c =
     let v = c.args.view.now in
-    let first : c.write_policies.new.tables.chains ≡ with_policies v c.requires.closed =
-    ap (λ (t : Tables). t.chains) c.in_ok-write_policies.ensures ∙ ap (λ (t : Tables). extended t.chains (policies_part v c.requires.closed)) c.new-tables.ensures in
-    let is : c.write_profiles.new.tables.chains ≡ with_profiles v c.requires.closed =
-    ap (λ (t : Tables). t.chains) c.in_ok-write_profiles.ensures ∙ ap (λ (m : Chains). extended m (profiles_part v c.requires.closed)) first in
-    subst (λ (m : Chains). CanBeWritten m (endpoints_part v c.requires.closed)) (sym is) (endpoints_writable v c.requires.closed)
+    let closed = c.requires.closed in
+    let first = written_on _ _ v.sets maps.empty (policies_part v closed) (begun v _ c.requires.no_sets c.new-tables.ensures) c.in_ok-write_policies.ensures in
+    let second = written_on _ _ v.sets (with_policies v closed) (profiles_part v closed) first c.in_ok-write_profiles.ensures in
+    writable_in _ v.sets (with_profiles v closed) (endpoints_part v closed) second (endpoints_writable v closed)
 
 pub write_dispatch-requires-clause-writable : goal.write_dispatch-requires-clause-writable
 write_dispatch-requires-clause-writable c =
     let v = c.args.view.now in
-    let first : c.write_policies.new.tables.chains ≡ with_policies v c.requires.closed =
-    ap (λ (t : Tables). t.chains) c.in_ok-write_policies.ensures ∙ ap (λ (t : Tables). extended t.chains (policies_part v c.requires.closed)) c.new-tables.ensures in
-    let second : c.write_profiles.new.tables.chains ≡ with_profiles v c.requires.closed =
-    ap (λ (t : Tables). t.chains) c.in_ok-write_profiles.ensures ∙ ap (λ (m : Chains). extended m (profiles_part v c.requires.closed)) first in
-    let is : c.write_endpoints.new.tables.chains ≡ with_endpoints v c.requires.closed =
-    ap (λ (t : Tables). t.chains) c.in_ok-write_endpoints.ensures ∙ ap (λ (m : Chains). extended m (endpoints_part v c.requires.closed)) second in
-    subst (λ (m : Chains). CanBeWritten m (dispatch_chains v)) (sym is) (dispatch_writable v c.requires.closed)
+    let closed = c.requires.closed in
+    let first = written_on _ _ v.sets maps.empty (policies_part v closed) (begun v _ c.requires.no_sets c.new-tables.ensures) c.in_ok-write_policies.ensures in
+    let second = written_on _ _ v.sets (with_policies v closed) (profiles_part v closed) first c.in_ok-write_profiles.ensures in
+    let third = written_on _ _ v.sets (with_profiles v closed) (endpoints_part v closed) second c.in_ok-write_endpoints.ensures in
+    writable_in _ v.sets (with_endpoints v closed) (dispatch_chains v) third (dispatch_writable v closed)
 
 pub returns : goal.returns
 returns c =
     let v = c.args.view.now in
-    let first : c.write_policies.new.tables.chains ≡ with_policies v c.requires.closed =
-    ap (λ (t : Tables). t.chains) c.in_ok-write_policies.ensures ∙ ap (λ (t : Tables). extended t.chains (policies_part v c.requires.closed)) c.new-tables.ensures in
-    let second : c.write_profiles.new.tables.chains ≡ with_profiles v c.requires.closed =
-    ap (λ (t : Tables). t.chains) c.in_ok-write_profiles.ensures ∙ ap (λ (m : Chains). extended m (profiles_part v c.requires.closed)) first in
-    let third : c.write_endpoints.new.tables.chains ≡ with_endpoints v c.requires.closed =
-    ap (λ (t : Tables). t.chains) c.in_ok-write_endpoints.ensures ∙ ap (λ (m : Chains). extended m (endpoints_part v c.requires.closed)) second in
-    let chains : c.write_dispatch.new.tables.chains ≡ (tables_of v).chains =
-    ap (λ (t : Tables). t.chains) c.in_ok-write_dispatch.ensures ∙ ap (λ (m : Chains). extended m (dispatch_chains v)) third ∙ chains-whole v c.requires.closed in
-    let sets : c.write_dispatch.new.tables.sets ≡ v.sets =
-    ap (λ (t : Tables). t.sets) c.in_ok-write_dispatch.ensures ∙ ap (λ (t : Tables). t.sets) c.in_ok-write_endpoints.ensures ∙ ap (λ (t : Tables). t.sets) c.in_ok-write_profiles.ensures
-    ∙ ap (λ (t : Tables). t.sets) c.in_ok-write_policies.ensures ∙ ap (λ (t : Tables). t.sets) c.new-tables.ensures ∙ sym c.requires.no_sets in
-    λ i. record { sets = sets i; chains = chains i }
+    let closed = c.requires.closed in
+    let first = written_on _ _ v.sets maps.empty (policies_part v closed) (begun v _ c.requires.no_sets c.new-tables.ensures) c.in_ok-write_policies.ensures in
+    let second = written_on _ _ v.sets (with_policies v closed) (profiles_part v closed) first c.in_ok-write_profiles.ensures in
+    let third = written_on _ _ v.sets (with_profiles v closed) (endpoints_part v closed) second c.in_ok-write_endpoints.ensures in
+    let last = written_on _ _ v.sets (with_endpoints v closed) (dispatch_chains v) third c.in_ok-write_dispatch.ensures in
+    last ∙ ap (λ (m : Chains). record { sets = v.sets; chains = m }) (chains-whole v closed)

@@ -10,7 +10,7 @@ use Rattle.felix_replay.proofs.driver.write_profiles.Given as goal
 -- those that are left can be written, and with them all are
 abbrev pub invariant-loop-key : goal.invariant-loop-key
 invariant-loop-key l = record {
-  writable : CanBeWritten l.tables.chains (flat_map profile_chains l.key-iterator);
+  writable : CanBeWritten l.tables.sets l.tables.chains (flat_map profile_chains l.key-iterator);
   formed : list_all is_formed_view_profile l.key-iterator ≡ true;
   sets : l.tables.sets ≡ l.fn.tables.sets;
   whole : extended l.tables.chains (flat_map profile_chains l.key-iterator) ≡ extended l.fn.tables.chains (flat_map profile_chains (entries l.profiles));

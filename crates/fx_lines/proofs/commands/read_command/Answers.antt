@@ -1,21 +1,26 @@
-use Rattle.std.proofs.Common.{◌≡◌, true, Some, Result, IfOk, sym, ◌∙◌, subst}
-use Rattle.serde_json.specs.View.{view}
-use Rattle.fx_lines.specs.declared.commands.Command.{Command}
-use Rattle.fx_json.specs.declared.refusal.Refusal.{Refusal}
-use Rattle.fx_lines.specs.Formed.{is_formed_command}
-use Rattle.fx_lines.proofs.Kept.{of_value-formed}
+use Rattle.std.proofs.Common.{◌≡◌, true, Some, Result, sym, subst, inr}
 use Rattle.std.proofs.lemmas.Bool.{false≢true}
-use Rattle.fx_lines.proofs.Asking.{command_of-blank, command_of-value, command_of-none, IfOk_more}
+use Rattle.serde_json.specs.View.{view}
+use Rattle.fx_json.specs.declared.refusal.Refusal.{Refusal}
+use Rattle.fx_json.specs.Refusals.{Refuses}
+use Rattle.fx_lines.specs.declared.commands.Command.{Command}
+use Rattle.fx_lines.specs.Formed.{is_formed_command}
+use Rattle.fx_lines.specs.Commands.{of_value}
+use Rattle.fx_lines.proofs.Kept.{of_value-formed}
+use Rattle.fx_lines.proofs.Asking.{command_of-blank, command_of-value, command_of-none, kept}
 use Rattle.fx_lines.proofs.commands.read_command.Goals as goal
 
 pub returns-then-is_blank-clause-answer : goal.returns-then-is_blank-clause-answer
-returns-then-is_blank-clause-answer c = sym (command_of-blank c.args.line.now c.if-is_blank.ensures)
+returns-then-is_blank-clause-answer c = command_of-blank c.args.line.now c.if-is_blank.ensures
 
 pub returns-in-Ok-clause-answer : goal.returns-in-Ok-clause-answer
-returns-in-Ok-clause-answer c = IfOk_more c.command_in.result (λ answer is. is ∙ sym (command_of-value c.args.line.now _ c.if-is_blank.ensures c.in-Ok.ensures.ok)) c.command_in.ensures
+returns-in-Ok-clause-answer c =
+    let P : Result Command Refusal → Type 0 = λ r. Refuses r c.command_in.result in
+    subst P (sym (command_of-value c.args.line.now _ c.if-is_blank.ensures c.in-Ok.ensures.ok)) c.command_in.ensures
 
 pub returns-in-Ok-clause-formed : goal.returns-in-Ok-clause-formed
-returns-in-Ok-clause-formed c = IfOk_more c.command_in.result (λ answer is. let P : Result Command Refusal → Type 0 = λ r. IfOk r (λ command. is_formed_command command ≡ true) in subst P (sym is) (of_value-formed (Some (view c.in-Ok.value)))) c.command_in.ensures
+returns-in-Ok-clause-formed c =
+    kept (λ (command : Command). is_formed_command command ≡ true) (of_value (Some (view c.in-Ok.value))) c.command_in.result c.command_in.ensures (of_value-formed (Some (view c.in-Ok.value)))
 
 pub returns-else-is_memory-clause-answer : goal.returns-else-is_memory-clause-answer
-returns-else-is_memory-clause-answer c = sym (command_of-none c.args.line.now c.if-is_blank.ensures (c.in-Err.ensures.err (λ memory. false≢true (c.if-is_memory.ensures.1 memory))))
+returns-else-is_memory-clause-answer c = inr (command_of-none c.args.line.now c.if-is_blank.ensures (c.in-Err.ensures.err (λ memory. false≢true (c.if-is_memory.ensures.1 memory))))

@@ -37,7 +37,7 @@ trace_rule-returns-in_err-now-clause-err t c =
 
 pub trace_rule-returns-in_ok-now-clause-err : goal.trace_rule-returns-in_ok-now-clause-err
 trace_rule-returns-in_ok-now-clause-err t c =
-    on_err_then c.follow.result _ _ (λ h. cut_hit (holds c.args.packet.now) _ _ _ c.args.rule.now c.args.seen.mark _ _ _ _ (ap (hold_all (holds c.args.packet.now) c.args.seen.mark) (sym c.as_slice.ensures) ∙ sym c.all_hold.ensures ∙ c.if-all_hold.true) c.in_ok-now.ensures.mark c.in_ok-now.ensures.ok h) c.follow.ensures.err
+    on_err_then c.follow.result _ _ (λ h. cut_hit (holds c.args.tables.now.sets c.args.packet.now) _ _ _ c.args.rule.now c.args.seen.mark _ _ _ _ (ap (hold_all (holds c.args.tables.now.sets c.args.packet.now) c.args.seen.mark) (sym c.as_slice.ensures) ∙ ap (λ s. hold_all (holds s c.args.packet.now) c.args.seen.mark c.as_slice.result.now) (sym c.sets.ensures.all) ∙ sym c.all_hold.ensures ∙ c.if-all_hold.true) c.in_ok-now.ensures.mark c.in_ok-now.ensures.ok h) c.follow.ensures.err
 
 pub trace_rules-returns-in_err-other-clause-err : goal.trace_rules-returns-in_err-other-clause-err
 trace_rules-returns-in_err-other-clause-err t c =

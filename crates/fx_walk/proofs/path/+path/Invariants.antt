@@ -20,6 +20,6 @@ decreases-trace_chain l = 4 * l.depth
 -- the walk of all rules is that of the rules that are left, and the path has only grown
 abbrev pub invariant-trace_rules-loop-i : goal.invariant-trace_rules-loop-i
 invariant-trace_rules-loop-i l = record {
-  left : over_rules hops_and_reasons (holds l.packet) (chain_trace l.tables l.packet l.depth) l.chain 1 l.rules l.before.mark (trace_of l.fn.path.items l.before) ≡ over_rules hops_and_reasons (holds l.packet) (chain_trace l.tables l.packet l.depth) l.chain (l.i + 1) (drop l.i l.rules) l.seen.mark (trace_of l.path.items l.seen);
+  left : over_rules hops_and_reasons (holds l.tables.sets l.packet) (chain_trace l.tables l.packet l.depth) l.chain 1 l.rules l.before.mark (trace_of l.fn.path.items l.before) ≡ over_rules hops_and_reasons (holds l.tables.sets l.packet) (chain_trace l.tables l.packet l.depth) l.chain (l.i + 1) (drop l.i l.rules) l.seen.mark (trace_of l.path.items l.seen);
   grown : Extends (hops_of l.fn.path.items) (hops_of l.path.items);
 }

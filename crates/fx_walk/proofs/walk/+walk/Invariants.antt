@@ -18,4 +18,4 @@ decreases-walk_chain l = 4 * l.depth
 
 -- the walk of all rules is that of the rules that are left
 abbrev pub invariant-walk_rules-loop-i : goal.invariant-walk_rules-loop-i
-invariant-walk_rules-loop-i l = over_rules last_reason (holds l.packet) (chain_walk l.tables l.packet l.depth) l.chain 1 l.rules l.before.mark (reasons_of l.before) ≡ over_rules last_reason (holds l.packet) (chain_walk l.tables l.packet l.depth) l.chain (l.i + 1) (drop l.i l.rules) l.seen.mark (reasons_of l.seen)
+invariant-walk_rules-loop-i l = over_rules last_reason (holds l.tables.sets l.packet) (chain_walk l.tables l.packet l.depth) l.chain 1 l.rules l.before.mark (reasons_of l.before) ≡ over_rules last_reason (holds l.tables.sets l.packet) (chain_walk l.tables l.packet l.depth) l.chain (l.i + 1) (drop l.i l.rules) l.seen.mark (reasons_of l.seen)

@@ -1,8 +1,0 @@
-use Rattle.std.proofs.Common.{◌≡◌, ◌+◌, ◌++◌, drop}
-use Rattle.fx_model.specs.Tables.{rendered_rules}
-use Rattle.felix_replay.specs.Rendering.{reason_at}
-use Rattle.felix_replay.proofs.rules.push_rules.Given as goal
-
--- with the rules that are left rendered behind it, the chain is whole
-abbrev pub invariant-loop-i : goal.invariant-loop-i
-invariant-loop-i l = l.chain ++ rendered_rules (reason_at l.owner) (l.i + 1) (drop l.i l.rules) ≡ l.fn.chain ++ rendered_rules (reason_at l.owner) 1 l.rules

@@ -1,0 +1,325 @@
+//! Lines of JSON, each the only line of a run on the node `n1`, with the exact text of its refusal behind ` => `. A line without one
+//! is accepted, and nothing is written for it. A row that begins with `#` is a title.
+pub const ROWS: &str = r##"# lines
+{ => refused 1 21 BadJson
+{"tables":false} => refused 1 22 BadLine
+{"put":[]} => refused 1 22 BadLine
+{"delete":null} => refused 1 22 BadLine
+# kinds
+{"put":{}} => refused 1 1 UnknownKind
+{"delete":{}} => refused 1 1 UnknownKind
+{"put":{"apiVersion":"projectcalico.org/v3","metadata":{"name":"p"}}} => refused 1 1 UnknownKind
+{"put":{"apiVersion":"projectcalico.org/v3","kind":null,"metadata":{"name":"p"}}} => refused 1 1 UnknownKind
+{"put":{"apiVersion":3,"kind":"Profile","metadata":{"name":"p"}}} => refused 1 1 UnknownKind
+{"put":{"apiVersion":"projectcalico.org/v3","kind":"profile","metadata":{"name":"p"},"spec":{}}} => refused 1 1 UnknownKind
+{"put":{"apiVersion":"projectcalico.org/v1","kind":"Profile","metadata":{"name":"p"},"spec":{}}} => refused 1 1 UnknownKind
+{"put":{"apiVersion":"v1","kind":"Profile","metadata":{"name":"p"},"spec":{}}} => refused 1 1 UnknownKind
+{"put":{"apiVersion":"projectcalico.org/v3","kind":"Tier","metadata":[],"spec":[]}} => refused 1 5 Unsupported kind
+{"put":{"apiVersion":"projectcalico.org/v3","kind":"GlobalNetworkPolicy","metadata":{"name":"p"},"spec":{}}} => refused 1 5 Unsupported kind
+{"put":{"apiVersion":"projectcalico.org/v3","kind":"NetworkPolicy","metadata":{"name":"p"},"spec":{}}} => refused 1 5 Unsupported kind
+{"put":{"apiVersion":"networking.k8s.io/v1","kind":"NetworkPolicy","metadata":{"name":"p"},"spec":{}}} => refused 1 5 Unsupported kind
+{"put":{"apiVersion":"v1","kind":"NetworkPolicy","metadata":{"name":"p"},"spec":{}}} => refused 1 1 UnknownKind
+{"put":{"apiVersion":"v1","kind":"Namespace","metadata":{"name":"p"},"spec":{}}} => refused 1 5 Unsupported kind
+{"delete":{"apiVersion":"v1","kind":"ServiceAccount","metadata":{}}} => refused 1 5 Unsupported kind
+{"delete":{"apiVersion":"projectcalico.org/v3","kind":"NetworkSet","metadata":{}}} => refused 1 5 Unsupported kind
+{"delete":{"apiVersion":"projectcalico.org/v3","kind":"GlobalNetworkSet","metadata":{}}} => refused 1 5 Unsupported kind
+{"delete":{"apiVersion":"projectcalico.org/v3","kind":"HostEndpoint","metadata":{}}} => refused 1 1 UnknownKind
+# names and namespaces
+{"put":{"apiVersion":"projectcalico.org/v3","kind":"Profile"}} => refused 1 2 MissingField metadata.name
+{"put":{"apiVersion":"projectcalico.org/v3","kind":"Profile","metadata":{"name":"p"}}}
+{"put":{"apiVersion":"projectcalico.org/v3","kind":"Profile","metadata":null,"spec":[]}} => refused 1 2 MissingField metadata.name
+{"put":{"apiVersion":"projectcalico.org/v3","kind":"Profile","metadata":[],"spec":{}}} => refused 1 3 BadField metadata
+{"put":{"apiVersion":"projectcalico.org/v3","kind":"Profile","metadata":"p","spec":{}}} => refused 1 3 BadField metadata
+{"put":{"apiVersion":"projectcalico.org/v3","kind":"Profile","metadata":{"name":null},"spec":{}}} => refused 1 2 MissingField metadata.name
+{"put":{"apiVersion":"projectcalico.org/v3","kind":"Profile","metadata":{"name":7},"spec":{}}} => refused 1 3 BadField metadata.name
+{"put":{"apiVersion":"projectcalico.org/v3","kind":"Profile","metadata":{"name":""},"spec":{}}} => refused 1 3 BadField metadata.name
+{"put":{"apiVersion":"projectcalico.org/v3","kind":"Profile","metadata":{"name":"a/b"},"spec":{}}} => refused 1 3 BadField metadata.name
+{"put":{"apiVersion":"projectcalico.org/v3","kind":"Profile","metadata":{"name":"ä"},"spec":{}}} => refused 1 3 BadField metadata.name
+{"put":{"apiVersion":"projectcalico.org/v3","kind":"Profile","metadata":{"name":"Az_.-9"},"spec":{}}}
+{"put":{"apiVersion":"projectcalico.org/v3","kind":"Profile","metadata":{"name":"123456789_123456789"},"spec":{}}}
+{"put":{"apiVersion":"projectcalico.org/v3","kind":"Profile","metadata":{"name":"_23456789_12345678"},"spec":{}}}
+{"put":{"apiVersion":"projectcalico.org/v3","kind":"Profile","metadata":{"name":"_23456789_123456789"},"spec":{}}} => refused 1 5 Unsupported metadata.name
+{"put":{"apiVersion":"projectcalico.org/v3","kind":"Profile","metadata":{"name":"123456789_123456789_"},"spec":[]}} => refused 1 5 Unsupported metadata.name
+{"put":{"apiVersion":"projectcalico.org/v3","kind":"Profile","metadata":{"name":"aaaaaaaaaaaaaaaaaaaaaaaaaaaaaaaaaaaaaaaaaaaaaaaaaaaaaaaaaaaaaaaaaaaaaaaaaaaaaaaaaaaaaaaaaaaaaaaaaaaaaaaaaaaaaaaaaaaaaaaaaaaaaaaaaaaaaaaaaaaaaaaaaaaaaaaaaaaaaaaaaaaaaaaaaaaaaaaaaaaaaaaaaaaaaaaaaaaaaaaaaaaaaaaaaaaaaaaaaaaaaaaaaaaaaaaaaaaaaaaaaaaaaaaaaaaaa"},"spec":{}}} => refused 1 5 Unsupported metadata.name
+{"put":{"apiVersion":"projectcalico.org/v3","kind":"Profile","metadata":{"name":"aaaaaaaaaaaaaaaaaaaaaaaaaaaaaaaaaaaaaaaaaaaaaaaaaaaaaaaaaaaaaaaaaaaaaaaaaaaaaaaaaaaaaaaaaaaaaaaaaaaaaaaaaaaaaaaaaaaaaaaaaaaaaaaaaaaaaaaaaaaaaaaaaaaaaaaaaaaaaaaaaaaaaaaaaaaaaaaaaaaaaaaaaaaaaaaaaaaaaaaaaaaaaaaaaaaaaaaaaaaaaaaaaaaaaaaaaaaaaaaaaaaaaaaaaaaaaa"},"spec":{}}} => refused 1 3 BadField metadata.name
+{"put":{"apiVersion":"projectcalico.org/v3","kind":"Profile","metadata":{"name":"p","namespace":7,"labels":[]},"spec":null}}
+{"put":{"apiVersion":"projectcalico.org/v3","kind":"Profile","metadata":{"name":"/","name":"p"},"spec":{}}}
+{"put":{"apiVersion":"projectcalico.org/v3","kind":"Profile","metadata":{"name":"p","name":"/"},"spec":{}}} => refused 1 3 BadField metadata.name
+{"put":{"apiVersion":"projectcalico.org/v3","kind":"WorkloadEndpoint","metadata":{"namespace":"a"},"spec":{"node":"n2","interfaceName":"cali1"}}} => refused 1 2 MissingField metadata.name
+{"put":{"apiVersion":"projectcalico.org/v3","kind":"WorkloadEndpoint","metadata":{"name":"w/","namespace":"A"},"spec":{"node":"n2","interfaceName":"cali1"}}} => refused 1 3 BadField metadata.name
+{"put":{"apiVersion":"projectcalico.org/v3","kind":"WorkloadEndpoint","metadata":{"name":"w","namespace":null},"spec":{"node":"n2","interfaceName":"cali1"}}} => refused 1 2 MissingField metadata.namespace
+{"put":{"apiVersion":"projectcalico.org/v3","kind":"WorkloadEndpoint","metadata":{"name":"w","namespace":""},"spec":{"node":"n2","interfaceName":"cali1"}}} => refused 1 3 BadField metadata.namespace
+{"put":{"apiVersion":"projectcalico.org/v3","kind":"WorkloadEndpoint","metadata":{"name":"w","namespace":"A"},"spec":{"node":"n2","interfaceName":"cali1"}}} => refused 1 3 BadField metadata.namespace
+{"put":{"apiVersion":"projectcalico.org/v3","kind":"WorkloadEndpoint","metadata":{"name":"w","namespace":"a.b"},"spec":{"node":"n2","interfaceName":"cali1"}}} => refused 1 3 BadField metadata.namespace
+{"put":{"apiVersion":"projectcalico.org/v3","kind":"WorkloadEndpoint","metadata":{"name":"w","namespace":"aaaaaaaaaaaaaaaaaaaaaaaaaaaaaaaaaaaaaaaaaaaaaaaaaaaaaaaaaaaaaaa"},"spec":{"node":"n2","interfaceName":"cali1"}}}
+{"put":{"apiVersion":"projectcalico.org/v3","kind":"WorkloadEndpoint","metadata":{"name":"w","namespace":"aaaaaaaaaaaaaaaaaaaaaaaaaaaaaaaaaaaaaaaaaaaaaaaaaaaaaaaaaaaaaaaa"},"spec":{"node":"n2","interfaceName":"cali1"}}} => refused 1 3 BadField metadata.namespace
+{"put":{"apiVersion":"projectcalico.org/v3","kind":"WorkloadEndpoint","metadata":{"name":"wwwwwwwwwwwwwwwwwwwwwwwwwwwwwwwwwwwwwwwwwwwwwwwwwwwwwwwwwwwwwwwwwwwwwwwwwwwwwwwwwwwwwwwwwwwwwwwwwwwwwwwwwwwwwwwwwwwwwwwwwwwwwwwwwwwwwwwwwwwwwwwwwwwwwwwwwwwwwwwwwwwwwwwwwwwwwwwwwwwwwwwwwwwwwwwwwwwwwwwwwwwwwwwwwwwwwwwwwwwwwwwwwwwwwwwwwwwwwwwwwwwwwwwwwwwww","namespace":"a-1"},"spec":{"node":"n2","interfaceName":"cali1"}}}
+{"put":{"apiVersion":"projectcalico.org/v3","kind":"WorkloadEndpoint","metadata":{"name":"wwwwwwwwwwwwwwwwwwwwwwwwwwwwwwwwwwwwwwwwwwwwwwwwwwwwwwwwwwwwwwwwwwwwwwwwwwwwwwwwwwwwwwwwwwwwwwwwwwwwwwwwwwwwwwwwwwwwwwwwwwwwwwwwwwwwwwwwwwwwwwwwwwwwwwwwwwwwwwwwwwwwwwwwwwwwwwwwwwwwwwwwwwwwwwwwwwwwwwwwwwwwwwwwwwwwwwwwwwwwwwwwwwwwwwwwwwwwwwwwwwwwwwwwwwwwww","namespace":"a"},"spec":{"node":"n2","interfaceName":"cali1"}}} => refused 1 3 BadField metadata.name
+{"put":{"apiVersion":"projectcalico.org/v3","kind":"WorkloadEndpoint","metadata":{"name":"w","namespace":"a","labels":null},"spec":{"node":"n2","interfaceName":"cali1"}}}
+{"put":{"apiVersion":"projectcalico.org/v3","kind":"WorkloadEndpoint","metadata":{"name":"w","namespace":"a","labels":{"role":"a","x":null,"":""}},"spec":{"node":"n2","interfaceName":"cali1"}}}
+{"put":{"apiVersion":"projectcalico.org/v3","kind":"WorkloadEndpoint","metadata":{"name":"w","namespace":"a","labels":[]},"spec":{"node":"n2","interfaceName":"cali1"}}} => refused 1 3 BadField metadata.labels
+{"put":{"apiVersion":"projectcalico.org/v3","kind":"WorkloadEndpoint","metadata":{"name":"w","namespace":"a","labels":{"role":"a","x":1}},"spec":{"node":"n2","interfaceName":"cali1"}}} => refused 1 3 BadField metadata.labels
+# specs of profiles
+{"put":{"apiVersion":"projectcalico.org/v3","kind":"Profile","metadata":{"name":"p"},"spec":null}}
+{"put":{"apiVersion":"projectcalico.org/v3","kind":"Profile","metadata":{"name":"p"},"spec":[]}} => refused 1 3 BadField spec
+{"put":{"apiVersion":"projectcalico.org/v3","kind":"Profile","metadata":{"name":"p"},"spec":{"ingress":null,"egress":[],"order":"x"}}}
+{"put":{"apiVersion":"projectcalico.org/v3","kind":"Profile","metadata":{"name":"p"},"spec":{"ingress":{}}}} => refused 1 3 BadField spec.ingress
+{"put":{"apiVersion":"projectcalico.org/v3","kind":"Profile","metadata":{"name":"p"},"spec":{"egress":"Allow"}}} => refused 1 3 BadField spec.egress
+{"put":{"apiVersion":"projectcalico.org/v3","kind":"Profile","metadata":{"name":"p"},"spec":{"ingress":[null]}}} => refused 1 3 BadField spec.ingress[0]
+{"put":{"apiVersion":"projectcalico.org/v3","kind":"Profile","metadata":{"name":"p"},"spec":{"egress":[{"action":"Allow"},{"action":"Deny"},[]]}}} => refused 1 3 BadField spec.egress[2]
+{"put":{"apiVersion":"projectcalico.org/v3","kind":"Profile","metadata":{"name":"p"},"spec":{"ingress":5,"egress":5}}} => refused 1 3 BadField spec.ingress
+{"put":{"apiVersion":"projectcalico.org/v3","kind":"Profile","metadata":{"name":"p"},"spec":{"labelsToApply":{}}}}
+{"put":{"apiVersion":"projectcalico.org/v3","kind":"Profile","metadata":{"name":"p"},"spec":{"labelsToApply":"x"}}} => refused 1 3 BadField spec.labelsToApply
+{"put":{"apiVersion":"projectcalico.org/v3","kind":"Profile","metadata":{"name":"p"},"spec":{"labelsToApply":{"x":{}}}}} => refused 1 3 BadField spec.labelsToApply
+{"put":{"apiVersion":"projectcalico.org/v3","kind":"Profile","metadata":{"name":"p"},"spec":{"egress":[{}],"labelsToApply":5}}} => refused 1 2 MissingField spec.egress[0].action
+# rules
+{"put":{"apiVersion":"projectcalico.org/v3","kind":"Profile","metadata":{"name":"p"},"spec":{"ingress":[{}]}}} => refused 1 2 MissingField spec.ingress[0].action
+{"put":{"apiVersion":"projectcalico.org/v3","kind":"Profile","metadata":{"name":"p"},"spec":{"ingress":[{"action":null}]}}} => refused 1 2 MissingField spec.ingress[0].action
+{"put":{"apiVersion":"projectcalico.org/v3","kind":"Profile","metadata":{"name":"p"},"spec":{"ingress":[{"action":"allow"}]}}} => refused 1 3 BadField spec.ingress[0].action
+{"put":{"apiVersion":"projectcalico.org/v3","kind":"Profile","metadata":{"name":"p"},"spec":{"ingress":[{"action":true}]}}} => refused 1 3 BadField spec.ingress[0].action
+{"put":{"apiVersion":"projectcalico.org/v3","kind":"Profile","metadata":{"name":"p"},"spec":{"ingress":[{"action":""}]}}} => refused 1 3 BadField spec.ingress[0].action
+{"put":{"apiVersion":"projectcalico.org/v3","kind":"Profile","metadata":{"name":"p"},"spec":{"ingress":[{"action":"Deny","x":1}]}}}
+{"put":{"apiVersion":"projectcalico.org/v3","kind":"Profile","metadata":{"name":"p"},"spec":{"ingress":[{"action":"Log"}]}}}
+{"put":{"apiVersion":"projectcalico.org/v3","kind":"Profile","metadata":{"name":"p"},"spec":{"ingress":[{"action":"Pass"}]}}} => refused 1 8 PassInProfile spec.ingress[0].action
+{"put":{"apiVersion":"projectcalico.org/v3","kind":"Profile","metadata":{"name":"p"},"spec":{"egress":[{"action":"Log"},{"action":"Pass","protocol":0}]}}} => refused 1 8 PassInProfile spec.egress[1].action
+{"put":{"apiVersion":"projectcalico.org/v3","kind":"Profile","metadata":{"name":"p"},"spec":{"ingress":[{"action":"Nope","ipVersion":5}]}}} => refused 1 3 BadField spec.ingress[0].action
+{"put":{"apiVersion":"projectcalico.org/v3","kind":"Profile","metadata":{"name":"p"},"spec":{"ingress":[{"action":"Allow","ipVersion":4}]}}}
+{"put":{"apiVersion":"projectcalico.org/v3","kind":"Profile","metadata":{"name":"p"},"spec":{"ingress":[{"action":"Allow","ipVersion":6}]}}}
+{"put":{"apiVersion":"projectcalico.org/v3","kind":"Profile","metadata":{"name":"p"},"spec":{"ingress":[{"action":"Allow","ipVersion":null}]}}}
+{"put":{"apiVersion":"projectcalico.org/v3","kind":"Profile","metadata":{"name":"p"},"spec":{"ingress":[{"action":"Allow","ipVersion":5}]}}} => refused 1 3 BadField spec.ingress[0].ipVersion
+{"put":{"apiVersion":"projectcalico.org/v3","kind":"Profile","metadata":{"name":"p"},"spec":{"ingress":[{"action":"Allow","ipVersion":"4"}]}}} => refused 1 3 BadField spec.ingress[0].ipVersion
+{"put":{"apiVersion":"projectcalico.org/v3","kind":"Profile","metadata":{"name":"p"},"spec":{"ingress":[{"action":"Allow","ipVersion":4.0}]}}} => refused 1 3 BadField spec.ingress[0].ipVersion
+{"put":{"apiVersion":"projectcalico.org/v3","kind":"Profile","metadata":{"name":"p"},"spec":{"ingress":[{"action":"Allow","ipVersion":260}]}}} => refused 1 3 BadField spec.ingress[0].ipVersion
+{"put":{"apiVersion":"projectcalico.org/v3","kind":"Profile","metadata":{"name":"p"},"spec":{"ingress":[{"action":"Allow","ipVersion":-4,"protocol":0}]}}} => refused 1 3 BadField spec.ingress[0].ipVersion
+{"put":{"apiVersion":"projectcalico.org/v3","kind":"Profile","metadata":{"name":"p"},"spec":{"ingress":[{"action":"Allow","ipVersion":1000000000000000000000000000000000000000000000000000000000000000000000000000000000000000000000000000000000000000000000000000000000000000000000000000000000000000000000000000000000000000000000000000000000000000000000000000000000000000000000000000000000000000000000000000000000000000000000000000000000000000000000000000000000000000000000000000000000000000000000000000000000000000000000000000000000000000}]}}} => refused 1 21 BadJson
+{"put":{"apiVersion":"projectcalico.org/v3","kind":"Profile","metadata":{"name":"p"},"spec":{"ingress":[{"action":"Allow","protocol":"tcp"}]}}}
+{"put":{"apiVersion":"projectcalico.org/v3","kind":"Profile","metadata":{"name":"p"},"spec":{"ingress":[{"action":"Allow","protocol":"Udp"}]}}}
+{"put":{"apiVersion":"projectcalico.org/v3","kind":"Profile","metadata":{"name":"p"},"spec":{"ingress":[{"action":"Allow","protocol":"ICMP"}]}}}
+{"put":{"apiVersion":"projectcalico.org/v3","kind":"Profile","metadata":{"name":"p"},"spec":{"ingress":[{"action":"Allow","protocol":"icmpV6"}]}}}
+{"put":{"apiVersion":"projectcalico.org/v3","kind":"Profile","metadata":{"name":"p"},"spec":{"ingress":[{"action":"Allow","protocol":"SCTP"}]}}}
+{"put":{"apiVersion":"projectcalico.org/v3","kind":"Profile","metadata":{"name":"p"},"spec":{"ingress":[{"action":"Allow","protocol":"udpLITE"}]}}}
+{"put":{"apiVersion":"projectcalico.org/v3","kind":"Profile","metadata":{"name":"p"},"spec":{"ingress":[{"action":"Allow","protocol":1}]}}}
+{"put":{"apiVersion":"projectcalico.org/v3","kind":"Profile","metadata":{"name":"p"},"spec":{"ingress":[{"action":"Allow","protocol":255}]}}}
+{"put":{"apiVersion":"projectcalico.org/v3","kind":"Profile","metadata":{"name":"p"},"spec":{"ingress":[{"action":"Allow","protocol":null}]}}}
+{"put":{"apiVersion":"projectcalico.org/v3","kind":"Profile","metadata":{"name":"p"},"spec":{"ingress":[{"action":"Allow","protocol":""}]}}} => refused 1 3 BadField spec.ingress[0].protocol
+{"put":{"apiVersion":"projectcalico.org/v3","kind":"Profile","metadata":{"name":"p"},"spec":{"ingress":[{"action":"Allow","protocol":"TCPX"}]}}} => refused 1 3 BadField spec.ingress[0].protocol
+{"put":{"apiVersion":"projectcalico.org/v3","kind":"Profile","metadata":{"name":"p"},"spec":{"ingress":[{"action":"Allow","protocol":"TC"}]}}} => refused 1 3 BadField spec.ingress[0].protocol
+{"put":{"apiVersion":"projectcalico.org/v3","kind":"Profile","metadata":{"name":"p"},"spec":{"ingress":[{"action":"Allow","protocol":"6"}]}}} => refused 1 3 BadField spec.ingress[0].protocol
+{"put":{"apiVersion":"projectcalico.org/v3","kind":"Profile","metadata":{"name":"p"},"spec":{"ingress":[{"action":"Allow","protocol":0}]}}} => refused 1 3 BadField spec.ingress[0].protocol
+{"put":{"apiVersion":"projectcalico.org/v3","kind":"Profile","metadata":{"name":"p"},"spec":{"ingress":[{"action":"Allow","protocol":256}]}}} => refused 1 3 BadField spec.ingress[0].protocol
+{"put":{"apiVersion":"projectcalico.org/v3","kind":"Profile","metadata":{"name":"p"},"spec":{"ingress":[{"action":"Allow","protocol":-1}]}}} => refused 1 3 BadField spec.ingress[0].protocol
+{"put":{"apiVersion":"projectcalico.org/v3","kind":"Profile","metadata":{"name":"p"},"spec":{"ingress":[{"action":"Allow","protocol":6.0}]}}} => refused 1 3 BadField spec.ingress[0].protocol
+{"put":{"apiVersion":"projectcalico.org/v3","kind":"Profile","metadata":{"name":"p"},"spec":{"ingress":[{"action":"Allow","protocol":{}}]}}} => refused 1 3 BadField spec.ingress[0].protocol
+{"put":{"apiVersion":"projectcalico.org/v3","kind":"Profile","metadata":{"name":"p"},"spec":{"ingress":[{"action":"Allow","protocol":[6]}]}}} => refused 1 3 BadField spec.ingress[0].protocol
+{"put":{"apiVersion":"projectcalico.org/v3","kind":"Profile","metadata":{"name":"p"},"spec":{"ingress":[{"action":"Allow","notProtocol":"sctp"}]}}}
+{"put":{"apiVersion":"projectcalico.org/v3","kind":"Profile","metadata":{"name":"p"},"spec":{"ingress":[{"action":"Allow","notProtocol":0}]}}} => refused 1 3 BadField spec.ingress[0].notProtocol
+{"put":{"apiVersion":"projectcalico.org/v3","kind":"Profile","metadata":{"name":"p"},"spec":{"ingress":[{"action":"Allow","protocol":0,"notProtocol":0}]}}} => refused 1 3 BadField spec.ingress[0].protocol
+# messages of ICMP
+{"put":{"apiVersion":"projectcalico.org/v3","kind":"Profile","metadata":{"name":"p"},"spec":{"ingress":[{"action":"Allow","icmp":{}}]}}}
+{"put":{"apiVersion":"projectcalico.org/v3","kind":"Profile","metadata":{"name":"p"},"spec":{"ingress":[{"action":"Allow","icmp":{"type":null,"code":null,"x":1}}]}}}
+{"put":{"apiVersion":"projectcalico.org/v3","kind":"Profile","metadata":{"name":"p"},"spec":{"ingress":[{"action":"Allow","icmp":[]}]}}} => refused 1 3 BadField spec.ingress[0].icmp
+{"put":{"apiVersion":"projectcalico.org/v3","kind":"Profile","metadata":{"name":"p"},"spec":{"ingress":[{"action":"Allow","icmp":8}]}}} => refused 1 3 BadField spec.ingress[0].icmp
+{"put":{"apiVersion":"projectcalico.org/v3","kind":"Profile","metadata":{"name":"p"},"spec":{"ingress":[{"action":"Allow","icmp":{"type":8}}]}}} => refused 1 7 IcmpWithoutProtocol spec.ingress[0].icmp
+{"put":{"apiVersion":"projectcalico.org/v3","kind":"Profile","metadata":{"name":"p"},"spec":{"ingress":[{"action":"Allow","icmp":{"code":"x"}}]}}} => refused 1 7 IcmpWithoutProtocol spec.ingress[0].icmp
+{"put":{"apiVersion":"projectcalico.org/v3","kind":"Profile","metadata":{"name":"p"},"spec":{"ingress":[{"action":"Allow","protocol":"TCP","icmp":{"type":300}}]}}} => refused 1 7 IcmpWithoutProtocol spec.ingress[0].icmp
+{"put":{"apiVersion":"projectcalico.org/v3","kind":"Profile","metadata":{"name":"p"},"spec":{"ingress":[{"action":"Allow","protocol":"ICMP","icmp":{"type":0,"code":0}}]}}}
+{"put":{"apiVersion":"projectcalico.org/v3","kind":"Profile","metadata":{"name":"p"},"spec":{"ingress":[{"action":"Allow","protocol":1,"icmp":{"type":254,"code":255}}]}}}
+{"put":{"apiVersion":"projectcalico.org/v3","kind":"Profile","metadata":{"name":"p"},"spec":{"ingress":[{"action":"Allow","protocol":"ICMP","icmp":{"type":255}}]}}} => refused 1 3 BadField spec.ingress[0].icmp.type
+{"put":{"apiVersion":"projectcalico.org/v3","kind":"Profile","metadata":{"name":"p"},"spec":{"ingress":[{"action":"Allow","protocol":"ICMP","icmp":{"type":"8"}}]}}} => refused 1 3 BadField spec.ingress[0].icmp.type
+{"put":{"apiVersion":"projectcalico.org/v3","kind":"Profile","metadata":{"name":"p"},"spec":{"ingress":[{"action":"Allow","protocol":"ICMP","icmp":{"code":0}}]}}} => refused 1 2 MissingField spec.ingress[0].icmp.type
+{"put":{"apiVersion":"projectcalico.org/v3","kind":"Profile","metadata":{"name":"p"},"spec":{"ingress":[{"action":"Allow","protocol":"ICMP","icmp":{"code":"x"}}]}}} => refused 1 2 MissingField spec.ingress[0].icmp.type
+{"put":{"apiVersion":"projectcalico.org/v3","kind":"Profile","metadata":{"name":"p"},"spec":{"ingress":[{"action":"Allow","protocol":"ICMP","icmp":{"type":8,"code":256}}]}}} => refused 1 3 BadField spec.ingress[0].icmp.code
+{"put":{"apiVersion":"projectcalico.org/v3","kind":"Profile","metadata":{"name":"p"},"spec":{"ingress":[{"action":"Allow","protocol":"ICMP","icmp":{"type":8,"code":[]}}]}}} => refused 1 3 BadField spec.ingress[0].icmp.code
+{"put":{"apiVersion":"projectcalico.org/v3","kind":"Profile","metadata":{"name":"p"},"spec":{"ingress":[{"action":"Allow","protocol":"ICMPv6","icmp":{"type":128}}]}}}
+{"put":{"apiVersion":"projectcalico.org/v3","kind":"Profile","metadata":{"name":"p"},"spec":{"ingress":[{"action":"Allow","protocol":58,"notICMP":{"type":128,"code":300}}]}}} => refused 1 3 BadField spec.ingress[0].notICMP.code
+{"put":{"apiVersion":"projectcalico.org/v3","kind":"Profile","metadata":{"name":"p"},"spec":{"ingress":[{"action":"Allow","notICMP":{"type":8}}]}}} => refused 1 7 IcmpWithoutProtocol spec.ingress[0].notICMP
+{"put":{"apiVersion":"projectcalico.org/v3","kind":"Profile","metadata":{"name":"p"},"spec":{"ingress":[{"action":"Allow","protocol":"UDP","notICMP":"x"}]}}} => refused 1 3 BadField spec.ingress[0].notICMP
+{"put":{"apiVersion":"projectcalico.org/v3","kind":"Profile","metadata":{"name":"p"},"spec":{"ingress":[{"action":"Allow","protocol":"ICMP","notICMP":{"type":8}}]}}}
+# nets of sides
+{"put":{"apiVersion":"projectcalico.org/v3","kind":"Profile","metadata":{"name":"p"},"spec":{"ingress":[{"action":"Allow","source":null}]}}}
+{"put":{"apiVersion":"projectcalico.org/v3","kind":"Profile","metadata":{"name":"p"},"spec":{"ingress":[{"action":"Allow","source":{}}]}}}
+{"put":{"apiVersion":"projectcalico.org/v3","kind":"Profile","metadata":{"name":"p"},"spec":{"ingress":[{"action":"Allow","source":[]}]}}} => refused 1 3 BadField spec.ingress[0].source
+{"put":{"apiVersion":"projectcalico.org/v3","kind":"Profile","metadata":{"name":"p"},"spec":{"ingress":[{"action":"Allow","destination":"10.0.0.0/8"}]}}} => refused 1 3 BadField spec.ingress[0].destination
+{"put":{"apiVersion":"projectcalico.org/v3","kind":"Profile","metadata":{"name":"p"},"spec":{"ingress":[{"action":"Allow","source":{"nets":[]}}]}}}
+{"put":{"apiVersion":"projectcalico.org/v3","kind":"Profile","metadata":{"name":"p"},"spec":{"ingress":[{"action":"Allow","source":{"nets":{}}}]}}} => refused 1 3 BadField spec.ingress[0].source.nets
+{"put":{"apiVersion":"projectcalico.org/v3","kind":"Profile","metadata":{"name":"p"},"spec":{"ingress":[{"action":"Allow","source":{"nets":"10.0.0.0/8"}}]}}} => refused 1 3 BadField spec.ingress[0].source.nets
+{"put":{"apiVersion":"projectcalico.org/v3","kind":"Profile","metadata":{"name":"p"},"spec":{"ingress":[{"action":"Allow","source":{"nets":[null]}}]}}} => refused 1 3 BadField spec.ingress[0].source.nets[0]
+{"put":{"apiVersion":"projectcalico.org/v3","kind":"Profile","metadata":{"name":"p"},"spec":{"ingress":[{"action":"Allow","source":{"nets":[10]}}]}}} => refused 1 3 BadField spec.ingress[0].source.nets[0]
+{"put":{"apiVersion":"projectcalico.org/v3","kind":"Profile","metadata":{"name":"p"},"spec":{"ingress":[{"action":"Allow","source":{"nets":["0.0.0.0/0","255.255.255.255","10.1.2.3/8","10.0.0.0/32"]}}]}}}
+{"put":{"apiVersion":"projectcalico.org/v3","kind":"Profile","metadata":{"name":"p"},"spec":{"ingress":[{"action":"Allow","source":{"nets":["::","fd00::/8",":","1.2.3.4:5"]}}]}}}
+{"put":{"apiVersion":"projectcalico.org/v3","kind":"Profile","metadata":{"name":"p"},"spec":{"ingress":[{"action":"Allow","source":{"nets":["10.0.0.0/8",""]}}]}}} => refused 1 3 BadField spec.ingress[0].source.nets[1]
+{"put":{"apiVersion":"projectcalico.org/v3","kind":"Profile","metadata":{"name":"p"},"spec":{"ingress":[{"action":"Allow","source":{"nets":["10.0.0.0/8","10.0.0"]}}]}}} => refused 1 3 BadField spec.ingress[0].source.nets[1]
+{"put":{"apiVersion":"projectcalico.org/v3","kind":"Profile","metadata":{"name":"p"},"spec":{"ingress":[{"action":"Allow","source":{"nets":["10.0.0.0/8","10.0.0.0.0"]}}]}}} => refused 1 3 BadField spec.ingress[0].source.nets[1]
+{"put":{"apiVersion":"projectcalico.org/v3","kind":"Profile","metadata":{"name":"p"},"spec":{"ingress":[{"action":"Allow","source":{"nets":["10.0.0.0/8","10.0.0.256"]}}]}}} => refused 1 3 BadField spec.ingress[0].source.nets[1]
+{"put":{"apiVersion":"projectcalico.org/v3","kind":"Profile","metadata":{"name":"p"},"spec":{"ingress":[{"action":"Allow","source":{"nets":["10.0.0.0/8","10.0.0.01"]}}]}}} => refused 1 3 BadField spec.ingress[0].source.nets[1]
+{"put":{"apiVersion":"projectcalico.org/v3","kind":"Profile","metadata":{"name":"p"},"spec":{"ingress":[{"action":"Allow","source":{"nets":["10.0.0.0/8","10.0.0.1 "]}}]}}} => refused 1 3 BadField spec.ingress[0].source.nets[1]
+{"put":{"apiVersion":"projectcalico.org/v3","kind":"Profile","metadata":{"name":"p"},"spec":{"ingress":[{"action":"Allow","source":{"nets":["10.0.0.0/8","10.0.0.0/33"]}}]}}} => refused 1 3 BadField spec.ingress[0].source.nets[1]
+{"put":{"apiVersion":"projectcalico.org/v3","kind":"Profile","metadata":{"name":"p"},"spec":{"ingress":[{"action":"Allow","source":{"nets":["10.0.0.0/8","10.0.0.0/08"]}}]}}} => refused 1 3 BadField spec.ingress[0].source.nets[1]
+{"put":{"apiVersion":"projectcalico.org/v3","kind":"Profile","metadata":{"name":"p"},"spec":{"ingress":[{"action":"Allow","source":{"nets":["10.0.0.0/8","10.0.0.0/"]}}]}}} => refused 1 3 BadField spec.ingress[0].source.nets[1]
+{"put":{"apiVersion":"projectcalico.org/v3","kind":"Profile","metadata":{"name":"p"},"spec":{"ingress":[{"action":"Allow","source":{"nets":["10.0.0.0/8","10.0.0.0/8/8"]}}]}}} => refused 1 3 BadField spec.ingress[0].source.nets[1]
+{"put":{"apiVersion":"projectcalico.org/v3","kind":"Profile","metadata":{"name":"p"},"spec":{"ingress":[{"action":"Allow","source":{"nets":["10.0.0.0/8","10.0.0.0/-1"]}}]}}} => refused 1 3 BadField spec.ingress[0].source.nets[1]
+{"put":{"apiVersion":"projectcalico.org/v3","kind":"Profile","metadata":{"name":"p"},"spec":{"ingress":[{"action":"Allow","source":{"nets":["10.0.0.0/8","a.b.c.d"]}}]}}} => refused 1 3 BadField spec.ingress[0].source.nets[1]
+{"put":{"apiVersion":"projectcalico.org/v3","kind":"Profile","metadata":{"name":"p"},"spec":{"ingress":[{"action":"Allow","source":{"nets":["10.0.0.0/8","0x0.0.0.0"]}}]}}} => refused 1 3 BadField spec.ingress[0].source.nets[1]
+{"put":{"apiVersion":"projectcalico.org/v3","kind":"Profile","metadata":{"name":"p"},"spec":{"ingress":[{"action":"Allow","source":{"notNets":["fe80::1","10.0.0.0/8"]}}]}}}
+{"put":{"apiVersion":"projectcalico.org/v3","kind":"Profile","metadata":{"name":"p"},"spec":{"ingress":[{"action":"Allow","source":{"notNets":["10.0.0.0/8","10.0.0.0/9","x"]}}]}}} => refused 1 3 BadField spec.ingress[0].source.notNets[2]
+{"put":{"apiVersion":"projectcalico.org/v3","kind":"Profile","metadata":{"name":"p"},"spec":{"ingress":[{"action":"Allow","source":{"notNets":7,"nets":["x"]}}]}}} => refused 1 3 BadField spec.ingress[0].source.nets[0]
+# selectors of sides
+{"put":{"apiVersion":"projectcalico.org/v3","kind":"Profile","metadata":{"name":"p"},"spec":{"ingress":[{"action":"Allow","source":{"selector":null}}]}}}
+{"put":{"apiVersion":"projectcalico.org/v3","kind":"Profile","metadata":{"name":"p"},"spec":{"ingress":[{"action":"Allow","source":{"selector":""}}]}}}
+{"put":{"apiVersion":"projectcalico.org/v3","kind":"Profile","metadata":{"name":"p"},"spec":{"ingress":[{"action":"Allow","source":{"selector":7}}]}}} => refused 1 3 BadField spec.ingress[0].source.selector
+{"put":{"apiVersion":"projectcalico.org/v3","kind":"Profile","metadata":{"name":"p"},"spec":{"ingress":[{"action":"Allow","source":{"selector":"all()"}}]}}} => refused 1 5 Unsupported spec.ingress[0].source.selector
+{"put":{"apiVersion":"projectcalico.org/v3","kind":"Profile","metadata":{"name":"p"},"spec":{"ingress":[{"action":"Allow","source":{"notSelector":null}}]}}}
+{"put":{"apiVersion":"projectcalico.org/v3","kind":"Profile","metadata":{"name":"p"},"spec":{"ingress":[{"action":"Allow","source":{"notSelector":""}}]}}}
+{"put":{"apiVersion":"projectcalico.org/v3","kind":"Profile","metadata":{"name":"p"},"spec":{"ingress":[{"action":"Allow","source":{"notSelector":7}}]}}} => refused 1 3 BadField spec.ingress[0].source.notSelector
+{"put":{"apiVersion":"projectcalico.org/v3","kind":"Profile","metadata":{"name":"p"},"spec":{"ingress":[{"action":"Allow","source":{"notSelector":"all()"}}]}}} => refused 1 5 Unsupported spec.ingress[0].source.notSelector
+{"put":{"apiVersion":"projectcalico.org/v3","kind":"Profile","metadata":{"name":"p"},"spec":{"ingress":[{"action":"Allow","source":{"namespaceSelector":null}}]}}}
+{"put":{"apiVersion":"projectcalico.org/v3","kind":"Profile","metadata":{"name":"p"},"spec":{"ingress":[{"action":"Allow","source":{"namespaceSelector":""}}]}}}
+{"put":{"apiVersion":"projectcalico.org/v3","kind":"Profile","metadata":{"name":"p"},"spec":{"ingress":[{"action":"Allow","source":{"namespaceSelector":7}}]}}} => refused 1 3 BadField spec.ingress[0].source.namespaceSelector
+{"put":{"apiVersion":"projectcalico.org/v3","kind":"Profile","metadata":{"name":"p"},"spec":{"ingress":[{"action":"Allow","source":{"namespaceSelector":"all()"}}]}}} => refused 1 5 Unsupported spec.ingress[0].source.namespaceSelector
+{"put":{"apiVersion":"projectcalico.org/v3","kind":"Profile","metadata":{"name":"p"},"spec":{"ingress":[{"action":"Allow","source":{"selector":" "}}]}}} => refused 1 5 Unsupported spec.ingress[0].source.selector
+{"put":{"apiVersion":"projectcalico.org/v3","kind":"Profile","metadata":{"name":"p"},"spec":{"ingress":[{"action":"Allow","source":{"selector":"foo("}}]}}} => refused 1 5 Unsupported spec.ingress[0].source.selector
+{"put":{"apiVersion":"projectcalico.org/v3","kind":"Profile","metadata":{"name":"p"},"spec":{"ingress":[{"action":"Allow","source":{"serviceAccounts":{}}}]}}}
+{"put":{"apiVersion":"projectcalico.org/v3","kind":"Profile","metadata":{"name":"p"},"spec":{"ingress":[{"action":"Allow","source":{"serviceAccounts":{"names":null,"selector":""}}}]}}}
+{"put":{"apiVersion":"projectcalico.org/v3","kind":"Profile","metadata":{"name":"p"},"spec":{"ingress":[{"action":"Allow","source":{"serviceAccounts":[]}}]}}} => refused 1 3 BadField spec.ingress[0].source.serviceAccounts
+{"put":{"apiVersion":"projectcalico.org/v3","kind":"Profile","metadata":{"name":"p"},"spec":{"ingress":[{"action":"Allow","source":{"serviceAccounts":"a"}}]}}} => refused 1 3 BadField spec.ingress[0].source.serviceAccounts
+{"put":{"apiVersion":"projectcalico.org/v3","kind":"Profile","metadata":{"name":"p"},"spec":{"ingress":[{"action":"Allow","source":{"serviceAccounts":{"names":["a"]}}}]}}} => refused 1 5 Unsupported spec.ingress[0].source.serviceAccounts
+{"put":{"apiVersion":"projectcalico.org/v3","kind":"Profile","metadata":{"name":"p"},"spec":{"ingress":[{"action":"Allow","source":{"serviceAccounts":{"selector":"all()"}}}]}}} => refused 1 5 Unsupported spec.ingress[0].source.serviceAccounts
+{"put":{"apiVersion":"projectcalico.org/v3","kind":"Profile","metadata":{"name":"p"},"spec":{"ingress":[{"action":"Allow","source":{"namespaceSelector":"all()","notSelector":7,"nets":["10.0.0.0/8"]}}]}}} => refused 1 3 BadField spec.ingress[0].source.notSelector
+{"put":{"apiVersion":"projectcalico.org/v3","kind":"Profile","metadata":{"name":"p"},"spec":{"ingress":[{"action":"Allow","source":{"selector":"all()","ports":[80]}}]}}} => refused 1 5 Unsupported spec.ingress[0].source.selector
+# ports of sides
+{"put":{"apiVersion":"projectcalico.org/v3","kind":"Profile","metadata":{"name":"p"},"spec":{"ingress":[{"action":"Allow","source":{"ports":[]}}]}}}
+{"put":{"apiVersion":"projectcalico.org/v3","kind":"Profile","metadata":{"name":"p"},"spec":{"ingress":[{"action":"Allow","source":{"ports":{}}}]}}} => refused 1 3 BadField spec.ingress[0].source.ports
+{"put":{"apiVersion":"projectcalico.org/v3","kind":"Profile","metadata":{"name":"p"},"spec":{"ingress":[{"action":"Allow","source":{"ports":[80]}}]}}} => refused 1 6 PortsWithoutProtocol spec.ingress[0].source.ports
+{"put":{"apiVersion":"projectcalico.org/v3","kind":"Profile","metadata":{"name":"p"},"spec":{"ingress":[{"action":"Allow","source":{"ports":["?"]}}]}}} => refused 1 6 PortsWithoutProtocol spec.ingress[0].source.ports
+{"put":{"apiVersion":"projectcalico.org/v3","kind":"Profile","metadata":{"name":"p"},"spec":{"ingress":[{"action":"Allow","protocol":"ICMP","source":{"ports":[80]}}]}}} => refused 1 6 PortsWithoutProtocol spec.ingress[0].source.ports
+{"put":{"apiVersion":"projectcalico.org/v3","kind":"Profile","metadata":{"name":"p"},"spec":{"ingress":[{"action":"Allow","protocol":136,"source":{"ports":[80]}}]}}} => refused 1 6 PortsWithoutProtocol spec.ingress[0].source.ports
+{"put":{"apiVersion":"projectcalico.org/v3","kind":"Profile","metadata":{"name":"p"},"spec":{"ingress":[{"action":"Allow","protocol":"SCTP","source":{"ports":[80]}}]}}}
+{"put":{"apiVersion":"projectcalico.org/v3","kind":"Profile","metadata":{"name":"p"},"spec":{"ingress":[{"action":"Allow","protocol":17,"source":{"ports":[80]}}]}}}
+{"put":{"apiVersion":"projectcalico.org/v3","kind":"Profile","metadata":{"name":"p"},"spec":{"ingress":[{"action":"Allow","source":{"notPorts":["x"]}}]}}} => refused 1 6 PortsWithoutProtocol spec.ingress[0].source.notPorts
+{"put":{"apiVersion":"projectcalico.org/v3","kind":"Profile","metadata":{"name":"p"},"spec":{"ingress":[{"action":"Allow","protocol":"TCP","source":{"ports":[0,65535,"0","65535","1:1","0:65535"]}}]}}}
+{"put":{"apiVersion":"projectcalico.org/v3","kind":"Profile","metadata":{"name":"p"},"spec":{"ingress":[{"action":"Allow","protocol":"TCP","source":{"ports":[80,65536]}}]}}} => refused 1 3 BadField spec.ingress[0].source.ports[1]
+{"put":{"apiVersion":"projectcalico.org/v3","kind":"Profile","metadata":{"name":"p"},"spec":{"ingress":[{"action":"Allow","protocol":"TCP","source":{"ports":[80,-1]}}]}}} => refused 1 3 BadField spec.ingress[0].source.ports[1]
+{"put":{"apiVersion":"projectcalico.org/v3","kind":"Profile","metadata":{"name":"p"},"spec":{"ingress":[{"action":"Allow","protocol":"TCP","source":{"ports":[80,80.0]}}]}}} => refused 1 3 BadField spec.ingress[0].source.ports[1]
+{"put":{"apiVersion":"projectcalico.org/v3","kind":"Profile","metadata":{"name":"p"},"spec":{"ingress":[{"action":"Allow","protocol":"TCP","source":{"ports":[80,1e2]}}]}}} => refused 1 3 BadField spec.ingress[0].source.ports[1]
+{"put":{"apiVersion":"projectcalico.org/v3","kind":"Profile","metadata":{"name":"p"},"spec":{"ingress":[{"action":"Allow","protocol":"TCP","source":{"ports":[80,null]}}]}}} => refused 1 3 BadField spec.ingress[0].source.ports[1]
+{"put":{"apiVersion":"projectcalico.org/v3","kind":"Profile","metadata":{"name":"p"},"spec":{"ingress":[{"action":"Allow","protocol":"TCP","source":{"ports":[80,true]}}]}}} => refused 1 3 BadField spec.ingress[0].source.ports[1]
+{"put":{"apiVersion":"projectcalico.org/v3","kind":"Profile","metadata":{"name":"p"},"spec":{"ingress":[{"action":"Allow","protocol":"TCP","source":{"ports":[80,[80]]}}]}}} => refused 1 3 BadField spec.ingress[0].source.ports[1]
+{"put":{"apiVersion":"projectcalico.org/v3","kind":"Profile","metadata":{"name":"p"},"spec":{"ingress":[{"action":"Allow","protocol":"TCP","source":{"ports":[80,""]}}]}}} => refused 1 3 BadField spec.ingress[0].source.ports[1]
+{"put":{"apiVersion":"projectcalico.org/v3","kind":"Profile","metadata":{"name":"p"},"spec":{"ingress":[{"action":"Allow","protocol":"TCP","source":{"ports":[80,"080"]}}]}}} => refused 1 3 BadField spec.ingress[0].source.ports[1]
+{"put":{"apiVersion":"projectcalico.org/v3","kind":"Profile","metadata":{"name":"p"},"spec":{"ingress":[{"action":"Allow","protocol":"TCP","source":{"ports":[80,"65536"]}}]}}} => refused 1 3 BadField spec.ingress[0].source.ports[1]
+{"put":{"apiVersion":"projectcalico.org/v3","kind":"Profile","metadata":{"name":"p"},"spec":{"ingress":[{"action":"Allow","protocol":"TCP","source":{"ports":[80,"+80"]}}]}}} => refused 1 3 BadField spec.ingress[0].source.ports[1]
+{"put":{"apiVersion":"projectcalico.org/v3","kind":"Profile","metadata":{"name":"p"},"spec":{"ingress":[{"action":"Allow","protocol":"TCP","source":{"ports":[80,"80:79"]}}]}}} => refused 1 3 BadField spec.ingress[0].source.ports[1]
+{"put":{"apiVersion":"projectcalico.org/v3","kind":"Profile","metadata":{"name":"p"},"spec":{"ingress":[{"action":"Allow","protocol":"TCP","source":{"ports":[80,"80:"]}}]}}} => refused 1 3 BadField spec.ingress[0].source.ports[1]
+{"put":{"apiVersion":"projectcalico.org/v3","kind":"Profile","metadata":{"name":"p"},"spec":{"ingress":[{"action":"Allow","protocol":"TCP","source":{"ports":[80,":80"]}}]}}} => refused 1 3 BadField spec.ingress[0].source.ports[1]
+{"put":{"apiVersion":"projectcalico.org/v3","kind":"Profile","metadata":{"name":"p"},"spec":{"ingress":[{"action":"Allow","protocol":"TCP","source":{"ports":[80,"1:2:3"]}}]}}} => refused 1 3 BadField spec.ingress[0].source.ports[1]
+{"put":{"apiVersion":"projectcalico.org/v3","kind":"Profile","metadata":{"name":"p"},"spec":{"ingress":[{"action":"Allow","protocol":"TCP","source":{"ports":[80,"80:65536"]}}]}}} => refused 1 3 BadField spec.ingress[0].source.ports[1]
+{"put":{"apiVersion":"projectcalico.org/v3","kind":"Profile","metadata":{"name":"p"},"spec":{"ingress":[{"action":"Allow","protocol":"TCP","source":{"ports":[80,"a b"]}}]}}} => refused 1 3 BadField spec.ingress[0].source.ports[1]
+{"put":{"apiVersion":"projectcalico.org/v3","kind":"Profile","metadata":{"name":"p"},"spec":{"ingress":[{"action":"Allow","protocol":"TCP","source":{"ports":[80,"aaaaaaaaaaaaaaaaaaaaaaaaaaaaaaaaaaaaaaaaaaaaaaaaaaaaaaaaaaaaaaaaaaaaaaaaaaaaaaaaaaaaaaaaaaaaaaaaaaaaaaaaaaaaaaaaaaaaaaaaaaaaaaaaa"]}}]}}} => refused 1 3 BadField spec.ingress[0].source.ports[1]
+{"put":{"apiVersion":"projectcalico.org/v3","kind":"Profile","metadata":{"name":"p"},"spec":{"ingress":[{"action":"Allow","protocol":"TCP","source":{"ports":[80,"80:http"]}}]}}} => refused 1 3 BadField spec.ingress[0].source.ports[1]
+{"put":{"apiVersion":"projectcalico.org/v3","kind":"Profile","metadata":{"name":"p"},"spec":{"ingress":[{"action":"Allow","protocol":"TCP","source":{"ports":["http"]}}]}}} => refused 1 5 Unsupported spec.ingress[0].source.ports[0]
+{"put":{"apiVersion":"projectcalico.org/v3","kind":"Profile","metadata":{"name":"p"},"spec":{"ingress":[{"action":"Allow","protocol":"TCP","source":{"ports":["8o"]}}]}}} => refused 1 5 Unsupported spec.ingress[0].source.ports[0]
+{"put":{"apiVersion":"projectcalico.org/v3","kind":"Profile","metadata":{"name":"p"},"spec":{"ingress":[{"action":"Allow","protocol":"TCP","source":{"ports":["-"]}}]}}} => refused 1 5 Unsupported spec.ingress[0].source.ports[0]
+{"put":{"apiVersion":"projectcalico.org/v3","kind":"Profile","metadata":{"name":"p"},"spec":{"ingress":[{"action":"Allow","protocol":"TCP","source":{"ports":["1.2"]}}]}}} => refused 1 5 Unsupported spec.ingress[0].source.ports[0]
+{"put":{"apiVersion":"projectcalico.org/v3","kind":"Profile","metadata":{"name":"p"},"spec":{"ingress":[{"action":"Allow","protocol":"TCP","source":{"ports":["aaaaaaaaaaaaaaaaaaaaaaaaaaaaaaaaaaaaaaaaaaaaaaaaaaaaaaaaaaaaaaaaaaaaaaaaaaaaaaaaaaaaaaaaaaaaaaaaaaaaaaaaaaaaaaaaaaaaaaaaaaaaaaaa"]}}]}}} => refused 1 5 Unsupported spec.ingress[0].source.ports[0]
+{"put":{"apiVersion":"projectcalico.org/v3","kind":"Profile","metadata":{"name":"p"},"spec":{"ingress":[{"action":"Allow","protocol":"TCP","source":{"notPorts":[1,2,"3:4","5:4"]}}]}}} => refused 1 3 BadField spec.ingress[0].source.notPorts[3]
+{"put":{"apiVersion":"projectcalico.org/v3","kind":"Profile","metadata":{"name":"p"},"spec":{"ingress":[{"action":"Allow","protocol":"TCP","destination":{"notPorts":["x"]}}]}}} => refused 1 5 Unsupported spec.ingress[0].destination.notPorts[0]
+{"put":{"apiVersion":"projectcalico.org/v3","kind":"Profile","metadata":{"name":"p"},"spec":{"ingress":[{"action":"Allow","protocol":"TCP","source":{"notPorts":[70000]},"destination":5}]}}} => refused 1 3 BadField spec.ingress[0].source.notPorts[0]
+# what a rule may not have yet
+{"put":{"apiVersion":"projectcalico.org/v3","kind":"Profile","metadata":{"name":"p"},"spec":{"ingress":[{"action":"Allow","source":{"services":null}}]}}}
+{"put":{"apiVersion":"projectcalico.org/v3","kind":"Profile","metadata":{"name":"p"},"spec":{"ingress":[{"action":"Allow","source":{"services":{}}}]}}} => refused 1 5 Unsupported spec.ingress[0].source.services
+{"put":{"apiVersion":"projectcalico.org/v3","kind":"Profile","metadata":{"name":"p"},"spec":{"ingress":[{"action":"Allow","http":null}]}}}
+{"put":{"apiVersion":"projectcalico.org/v3","kind":"Profile","metadata":{"name":"p"},"spec":{"ingress":[{"action":"Allow","http":{}}]}}} => refused 1 5 Unsupported spec.ingress[0].http
+{"put":{"apiVersion":"projectcalico.org/v3","kind":"Profile","metadata":{"name":"p"},"spec":{"ingress":[{"action":"Allow","http":false}]}}} => refused 1 5 Unsupported spec.ingress[0].http
+{"put":{"apiVersion":"projectcalico.org/v3","kind":"Profile","metadata":{"name":"p"},"spec":{"ingress":[{"action":"Allow","destination":{"services":{"name":"s"}},"http":{}}]}}} => refused 1 5 Unsupported spec.ingress[0].destination.services
+{"put":{"apiVersion":"projectcalico.org/v3","kind":"Profile","metadata":{"name":"p"},"spec":{"ingress":[{"action":"Allow"}],"egress":[{"action":"Deny"},{"action":"Allow","protocol":"UDP","destination":{"ports":[53,54,"55"],"notPorts":[1,"2:1"]}}]}}} => refused 1 3 BadField spec.egress[1].destination.notPorts[1]
+# workload endpoints
+{"put":{"apiVersion":"projectcalico.org/v3","kind":"WorkloadEndpoint","metadata":{"name":"w","namespace":"a"},"spec":null}} => refused 1 2 MissingField spec.node
+{"put":{"apiVersion":"projectcalico.org/v3","kind":"WorkloadEndpoint","metadata":{"name":"w","namespace":"a"},"spec":"n2"}} => refused 1 3 BadField spec
+{"put":{"apiVersion":"projectcalico.org/v3","kind":"WorkloadEndpoint","metadata":{"name":"w","namespace":"a"},"spec":{"interfaceName":"eth0"}}} => refused 1 2 MissingField spec.node
+{"put":{"apiVersion":"projectcalico.org/v3","kind":"WorkloadEndpoint","metadata":{"name":"w","namespace":"a"},"spec":{"node":null}}} => refused 1 2 MissingField spec.node
+{"put":{"apiVersion":"projectcalico.org/v3","kind":"WorkloadEndpoint","metadata":{"name":"w","namespace":"a"},"spec":{"node":""}}} => refused 1 3 BadField spec.node
+{"put":{"apiVersion":"projectcalico.org/v3","kind":"WorkloadEndpoint","metadata":{"name":"w","namespace":"a"},"spec":{"node":["n2"]}}} => refused 1 3 BadField spec.node
+{"put":{"apiVersion":"projectcalico.org/v3","kind":"WorkloadEndpoint","metadata":{"name":"w","namespace":"a"},"spec":{"node":"n 2","interfaceName":"eth0"}}} => refused 1 3 BadField spec.node
+{"put":{"apiVersion":"projectcalico.org/v3","kind":"WorkloadEndpoint","metadata":{"name":"w","namespace":"a"},"spec":{"node":"nnnnnnnnnnnnnnnnnnnnnnnnnnnnnnnnnnnnnnnnnnnnnnnnnnnnnnnnnnnnnnnnnnnnnnnnnnnnnnnnnnnnnnnnnnnnnnnnnnnnnnnnnnnnnnnnnnnnnnnnnnnnnnnnnnnnnnnnnnnnnnnnnnnnnnnnnnnnnnnnnnnnnnnnnnnnnnnnnnnnnnnnnnnnnnnnnnnnnnnnnnnnnnnnnnnnnnnnnnnnnnnnnnnnnnnnnnnnnnnnnnnnnnnnnnnnn","interfaceName":"cali1"}}}
+{"put":{"apiVersion":"projectcalico.org/v3","kind":"WorkloadEndpoint","metadata":{"name":"w","namespace":"a"},"spec":{"node":"nnnnnnnnnnnnnnnnnnnnnnnnnnnnnnnnnnnnnnnnnnnnnnnnnnnnnnnnnnnnnnnnnnnnnnnnnnnnnnnnnnnnnnnnnnnnnnnnnnnnnnnnnnnnnnnnnnnnnnnnnnnnnnnnnnnnnnnnnnnnnnnnnnnnnnnnnnnnnnnnnnnnnnnnnnnnnnnnnnnnnnnnnnnnnnnnnnnnnnnnnnnnnnnnnnnnnnnnnnnnnnnnnnnnnnnnnnnnnnnnnnnnnnnnnnnnnn","interfaceName":"cali1"}}} => refused 1 3 BadField spec.node
+{"put":{"apiVersion":"projectcalico.org/v3","kind":"WorkloadEndpoint","metadata":{"name":"w","namespace":"a"},"spec":{"node":"n2","orchestrator":7}}} => refused 1 3 BadField spec.orchestrator
+{"put":{"apiVersion":"projectcalico.org/v3","kind":"WorkloadEndpoint","metadata":{"name":"w","namespace":"a"},"spec":{"node":"n2","orchestrator":""}}} => refused 1 3 BadField spec.orchestrator
+{"put":{"apiVersion":"projectcalico.org/v3","kind":"WorkloadEndpoint","metadata":{"name":"w","namespace":"a"},"spec":{"node":"n2","interfaceName":"cali1","orchestrator":"k8s","serviceAccountName":"s"}}}
+{"put":{"apiVersion":"projectcalico.org/v3","kind":"WorkloadEndpoint","metadata":{"name":"w","namespace":"a"},"spec":{"node":"n2","interfaceName":"cali1","orchestrator":null,"serviceAccountName":null}}}
+{"put":{"apiVersion":"projectcalico.org/v3","kind":"WorkloadEndpoint","metadata":{"name":"w","namespace":"a"},"spec":{"node":"n2","serviceAccountName":"a b"}}} => refused 1 3 BadField spec.serviceAccountName
+{"put":{"apiVersion":"projectcalico.org/v3","kind":"WorkloadEndpoint","metadata":{"name":"w","namespace":"a"},"spec":{"node":"n2","interfaceName":null}}} => refused 1 2 MissingField spec.interfaceName
+{"put":{"apiVersion":"projectcalico.org/v3","kind":"WorkloadEndpoint","metadata":{"name":"w","namespace":"a"},"spec":{"node":"n2","interfaceName":7}}} => refused 1 3 BadField spec.interfaceName
+{"put":{"apiVersion":"projectcalico.org/v3","kind":"WorkloadEndpoint","metadata":{"name":"w","namespace":"a"},"spec":{"node":"n2","interfaceName":""}}} => refused 1 3 BadField spec.interfaceName
+{"put":{"apiVersion":"projectcalico.org/v3","kind":"WorkloadEndpoint","metadata":{"name":"w","namespace":"a"},"spec":{"node":"n2","interfaceName":"cal"}}} => refused 1 3 BadField spec.interfaceName
+{"put":{"apiVersion":"projectcalico.org/v3","kind":"WorkloadEndpoint","metadata":{"name":"w","namespace":"a"},"spec":{"node":"n2","interfaceName":"eth0","ipNetworks":7}}} => refused 1 3 BadField spec.interfaceName
+{"put":{"apiVersion":"projectcalico.org/v3","kind":"WorkloadEndpoint","metadata":{"name":"w","namespace":"a"},"spec":{"node":"n2","interfaceName":"cali"}}}
+{"put":{"apiVersion":"projectcalico.org/v3","kind":"WorkloadEndpoint","metadata":{"name":"w","namespace":"a"},"spec":{"node":"n2","interfaceName":"cali56789012345"}}}
+{"put":{"apiVersion":"projectcalico.org/v3","kind":"WorkloadEndpoint","metadata":{"name":"w","namespace":"a"},"spec":{"node":"n2","interfaceName":"cali567890123456"}}} => refused 1 3 BadField spec.interfaceName
+{"put":{"apiVersion":"projectcalico.org/v3","kind":"WorkloadEndpoint","metadata":{"name":"w","namespace":"a"},"spec":{"node":"n2","interfaceName":"cali/1"}}} => refused 1 3 BadField spec.interfaceName
+{"put":{"apiVersion":"projectcalico.org/v3","kind":"WorkloadEndpoint","metadata":{"name":"w","namespace":"a"},"spec":{"node":"n2","interfaceName":"cali1","ipNetworks":[]}}}
+{"put":{"apiVersion":"projectcalico.org/v3","kind":"WorkloadEndpoint","metadata":{"name":"w","namespace":"a"},"spec":{"node":"n2","interfaceName":"cali1","ipNetworks":"10.0.0.1"}}} => refused 1 3 BadField spec.ipNetworks
+{"put":{"apiVersion":"projectcalico.org/v3","kind":"WorkloadEndpoint","metadata":{"name":"w","namespace":"a"},"spec":{"node":"n2","interfaceName":"cali1","ipNetworks":["10.0.0.1/32","10.0.0.1","fe80::1/64","10.0.0.1"]}}}
+{"put":{"apiVersion":"projectcalico.org/v3","kind":"WorkloadEndpoint","metadata":{"name":"w","namespace":"a"},"spec":{"node":"n2","interfaceName":"cali1","ipNetworks":[null]}}} => refused 1 3 BadField spec.ipNetworks[0]
+{"put":{"apiVersion":"projectcalico.org/v3","kind":"WorkloadEndpoint","metadata":{"name":"w","namespace":"a"},"spec":{"node":"n2","interfaceName":"cali1","ipNetworks":["10.0.0.1",""]}}} => refused 1 3 BadField spec.ipNetworks[1]
+{"put":{"apiVersion":"projectcalico.org/v3","kind":"WorkloadEndpoint","metadata":{"name":"w","namespace":"a"},"spec":{"node":"n2","interfaceName":"cali1","ipNetworks":["10.0.0.1","10.0.0.1/31"]}}} => refused 1 3 BadField spec.ipNetworks[1]
+{"put":{"apiVersion":"projectcalico.org/v3","kind":"WorkloadEndpoint","metadata":{"name":"w","namespace":"a"},"spec":{"node":"n2","interfaceName":"cali1","ipNetworks":["10.0.0.1","0.0.0.0/0"]}}} => refused 1 3 BadField spec.ipNetworks[1]
+{"put":{"apiVersion":"projectcalico.org/v3","kind":"WorkloadEndpoint","metadata":{"name":"w","namespace":"a"},"spec":{"node":"n2","interfaceName":"cali1","ipNetworks":["10.0.0.1","10.0.0.01"]}}} => refused 1 3 BadField spec.ipNetworks[1]
+{"put":{"apiVersion":"projectcalico.org/v3","kind":"WorkloadEndpoint","metadata":{"name":"w","namespace":"a"},"spec":{"node":"n2","interfaceName":"cali1","ipNetworks":["10.0.0.1","10.0.0.1/32/32"]}}} => refused 1 3 BadField spec.ipNetworks[1]
+{"put":{"apiVersion":"projectcalico.org/v3","kind":"WorkloadEndpoint","metadata":{"name":"w","namespace":"a"},"spec":{"node":"n2","interfaceName":"cali1","ipNetworks":["10.0.0.1","10.0.0.1/032"]}}} => refused 1 3 BadField spec.ipNetworks[1]
+{"put":{"apiVersion":"projectcalico.org/v3","kind":"WorkloadEndpoint","metadata":{"name":"w","namespace":"a"},"spec":{"node":"n2","interfaceName":"cali1","profiles":["open","open","123456789_123456789"]}}}
+{"put":{"apiVersion":"projectcalico.org/v3","kind":"WorkloadEndpoint","metadata":{"name":"w","namespace":"a"},"spec":{"node":"n2","interfaceName":"cali1","profiles":"open"}}} => refused 1 3 BadField spec.profiles
+{"put":{"apiVersion":"projectcalico.org/v3","kind":"WorkloadEndpoint","metadata":{"name":"w","namespace":"a"},"spec":{"node":"n2","interfaceName":"cali1","profiles":[null]}}} => refused 1 3 BadField spec.profiles[0]
+{"put":{"apiVersion":"projectcalico.org/v3","kind":"WorkloadEndpoint","metadata":{"name":"w","namespace":"a"},"spec":{"node":"n2","interfaceName":"cali1","profiles":["open",""]}}} => refused 1 3 BadField spec.profiles[1]
+{"put":{"apiVersion":"projectcalico.org/v3","kind":"WorkloadEndpoint","metadata":{"name":"w","namespace":"a"},"spec":{"node":"n2","interfaceName":"cali1","profiles":["open","123456789_123456789_"]}}} => refused 1 5 Unsupported spec.profiles[1]
+{"put":{"apiVersion":"projectcalico.org/v3","kind":"WorkloadEndpoint","metadata":{"name":"w","namespace":"a"},"spec":{"node":"n2","interfaceName":"cali1","profiles":["_23456789_123456789"]}}} => refused 1 5 Unsupported spec.profiles[0]
+{"put":{"apiVersion":"projectcalico.org/v3","kind":"WorkloadEndpoint","metadata":{"name":"w","namespace":"a"},"spec":{"node":"n2","interfaceName":"cali1","profiles":["a*","123456789_123456789_"]}}} => refused 1 3 BadField spec.profiles[0]
+{"put":{"apiVersion":"projectcalico.org/v3","kind":"WorkloadEndpoint","metadata":{"name":"w","namespace":"a"},"spec":{"node":"n2","interfaceName":"cali1","ports":[]}}}
+{"put":{"apiVersion":"projectcalico.org/v3","kind":"WorkloadEndpoint","metadata":{"name":"w","namespace":"a"},"spec":{"node":"n2","interfaceName":"cali1","ports":{}}}} => refused 1 3 BadField spec.ports
+{"put":{"apiVersion":"projectcalico.org/v3","kind":"WorkloadEndpoint","metadata":{"name":"w","namespace":"a"},"spec":{"node":"n2","interfaceName":"cali1","ports":[null]}}} => refused 1 3 BadField spec.ports[0]
+{"put":{"apiVersion":"projectcalico.org/v3","kind":"WorkloadEndpoint","metadata":{"name":"w","namespace":"a"},"spec":{"node":"n2","interfaceName":"cali1","ports":[{}]}}} => refused 1 2 MissingField spec.ports[0].name
+{"put":{"apiVersion":"projectcalico.org/v3","kind":"WorkloadEndpoint","metadata":{"name":"w","namespace":"a"},"spec":{"node":"n2","interfaceName":"cali1","ports":[{"name":"80","port":80}]}}} => refused 1 3 BadField spec.ports[0].name
+{"put":{"apiVersion":"projectcalico.org/v3","kind":"WorkloadEndpoint","metadata":{"name":"w","namespace":"a"},"spec":{"node":"n2","interfaceName":"cali1","ports":[{"name":"","port":80}]}}} => refused 1 3 BadField spec.ports[0].name
+{"put":{"apiVersion":"projectcalico.org/v3","kind":"WorkloadEndpoint","metadata":{"name":"w","namespace":"a"},"spec":{"node":"n2","interfaceName":"cali1","ports":[{"name":"ppppppppppppppppppppppppppppppppppppppppppppppppppppppppppppppppppppppppppppppppppppppppppppppppppppppppppppppppppppppppppppppppp","port":80}]}}} => refused 1 3 BadField spec.ports[0].name
+{"put":{"apiVersion":"projectcalico.org/v3","kind":"WorkloadEndpoint","metadata":{"name":"w","namespace":"a"},"spec":{"node":"n2","interfaceName":"cali1","ports":[{"name":"pppppppppppppppppppppppppppppppppppppppppppppppppppppppppppppppppppppppppppppppppppppppppppppppppppppppppppppppppppppppppppppppp","port":1},{"name":"8o","protocol":null,"port":65535},{"name":"x","protocol":"udp","port":53},{"name":"y","protocol":132,"port":9}]}}}
+{"put":{"apiVersion":"projectcalico.org/v3","kind":"WorkloadEndpoint","metadata":{"name":"w","namespace":"a"},"spec":{"node":"n2","interfaceName":"cali1","ports":[{"name":"a","port":1},{"name":"b","protocol":"ICMP","port":1}]}}} => refused 1 3 BadField spec.ports[1].protocol
+{"put":{"apiVersion":"projectcalico.org/v3","kind":"WorkloadEndpoint","metadata":{"name":"w","namespace":"a"},"spec":{"node":"n2","interfaceName":"cali1","ports":[{"name":"b","protocol":"UDPLite","port":0}]}}} => refused 1 3 BadField spec.ports[0].protocol
+{"put":{"apiVersion":"projectcalico.org/v3","kind":"WorkloadEndpoint","metadata":{"name":"w","namespace":"a"},"spec":{"node":"n2","interfaceName":"cali1","ports":[{"name":"b","protocol":"tcp"}]}}} => refused 1 2 MissingField spec.ports[0].port
+{"put":{"apiVersion":"projectcalico.org/v3","kind":"WorkloadEndpoint","metadata":{"name":"w","namespace":"a"},"spec":{"node":"n2","interfaceName":"cali1","ports":[{"name":"b","port":0}]}}} => refused 1 3 BadField spec.ports[0].port
+{"put":{"apiVersion":"projectcalico.org/v3","kind":"WorkloadEndpoint","metadata":{"name":"w","namespace":"a"},"spec":{"node":"n2","interfaceName":"cali1","ports":[{"name":"b","port":65536}]}}} => refused 1 3 BadField spec.ports[0].port
+{"put":{"apiVersion":"projectcalico.org/v3","kind":"WorkloadEndpoint","metadata":{"name":"w","namespace":"a"},"spec":{"node":"n2","interfaceName":"cali1","ports":[{"name":"b","port":"80"}]}}} => refused 1 3 BadField spec.ports[0].port
+{"put":{"apiVersion":"projectcalico.org/v3","kind":"WorkloadEndpoint","metadata":{"name":"w","namespace":"a"},"spec":{"node":"n2","interfaceName":"cali1","ports":[{"name":"b","port":80.5}]}}} => refused 1 3 BadField spec.ports[0].port
+{"put":{"apiVersion":"projectcalico.org/v3","kind":"WorkloadEndpoint","metadata":{"name":"w","namespace":"a"},"spec":{"node":"n2","interfaceName":"cali1","profiles":["p/"],"ports":[5]}}} => refused 1 3 BadField spec.profiles[0]
+# deletes
+{"delete":{"apiVersion":"projectcalico.org/v3","kind":"Profile","metadata":{"name":"p"},"spec":7}}
+{"delete":{"apiVersion":"projectcalico.org/v3","kind":"Profile","metadata":{}}} => refused 1 2 MissingField metadata.name
+{"delete":{"apiVersion":"projectcalico.org/v3","kind":"Profile","metadata":{"name":"123456789_123456789_"}}} => refused 1 5 Unsupported metadata.name
+{"delete":{"apiVersion":"projectcalico.org/v3","kind":"Profile","metadata":7}} => refused 1 3 BadField metadata
+{"delete":{"apiVersion":"projectcalico.org/v3","kind":"WorkloadEndpoint","metadata":{"name":"w","namespace":"a","labels":7}}}
+{"delete":{"apiVersion":"projectcalico.org/v3","kind":"WorkloadEndpoint","metadata":{"name":"w"}}} => refused 1 2 MissingField metadata.namespace
+{"delete":{"apiVersion":"projectcalico.org/v3","kind":"WorkloadEndpoint","metadata":{"name":"w","namespace":"a_b"}}} => refused 1 3 BadField metadata.namespace
+# packets
+{"packet":{}} => refused 1 2 MissingField packet.in
+{"packet":{"in":"eth0"}} => refused 1 2 MissingField packet.out
+{"packet":{"in":null,"out":7,"src":"10.0.0.1","dst":"10.0.0.2","proto":"TCP"}} => refused 1 2 MissingField packet.in
+{"packet":{"in":"","out":"eth0","src":"10.0.0.1","dst":"10.0.0.2","proto":"TCP"}} => refused 1 3 BadField packet.in
+{"packet":{"in":"cali1","out":"a234567890123456","src":"10.0.0.1","dst":"10.0.0.2","proto":"TCP"}} => refused 1 3 BadField packet.out
+{"packet":{"in":"cali1","out":"eth0","proto":"TCP"}} => refused 1 2 MissingField packet.src
+{"packet":{"in":"cali1","out":"eth0","src":"10.0.0.01","dst":"10.0.0.2","proto":"TCP"}} => refused 1 3 BadField packet.src
+{"packet":{"in":"cali1","out":"eth0","src":"10.0.0.1/32","dst":"10.0.0.2","proto":"TCP"}} => refused 1 3 BadField packet.src
+{"packet":{"in":"cali1","out":"eth0","src":"10.0.0.1","dst":"::1","proto":"TCP"}} => refused 1 3 BadField packet.dst
+{"packet":{"in":"cali1","out":"eth0","src":"10.0.0.1","dst":"10.0.0.2","proto":"6"}} => refused 1 3 BadField packet.proto
+{"packet":{"in":"cali1","out":"eth0","src":"10.0.0.1","dst":"10.0.0.2","proto":0}} => refused 1 3 BadField packet.proto
+{"packet":{"in":"cali1","out":"eth0","src":"10.0.0.1","dst":"10.0.0.2","proto":"TCP","sport":"80"}} => refused 1 3 BadField packet.sport
+{"packet":{"in":"cali1","out":"eth0","src":"10.0.0.1","dst":"10.0.0.2","proto":"TCP","sport":80.0,"dport":-1}} => refused 1 3 BadField packet.sport
+{"packet":{"in":"cali1","out":"eth0","src":"10.0.0.1","dst":"10.0.0.2","proto":"TCP","dport":65536}} => refused 1 3 BadField packet.dport
+{"packet":{"in":"cali1","out":"eth0","src":"10.0.0.1","dst":"10.0.0.2","proto":"TCP","icmpType":256}} => refused 1 3 BadField packet.icmpType
+{"packet":{"in":"cali1","out":"eth0","src":"10.0.0.1","dst":"10.0.0.2","proto":"TCP","icmpCode":true}} => refused 1 3 BadField packet.icmpCode
+{"packet":{"in":"cali1","out":"eth0","src":"10.0.0.1","dst":"10.0.0.2","proto":"TCP","state":"new"}} => refused 1 3 BadField packet.state
+# hostile values
+{"put":{"apiVersion":"projectcalico.org/v3","kind":"Profile","metadata":{"name":"\ud800"},"spec":{}}} => refused 1 21 BadJson
+{"put":{"apiVersion":"projectcalico.org/v3","kind":"Profile","metadata":{"name":"\ud83d\ude00"},"spec":{}}} => refused 1 3 BadField metadata.name
+{"put":{"apiVersion":"projectcalico.org/v3","kind":"Profile","metadata":{"name":"p"},"spec":{"ingress":[{"action":"Allow","action":"Pass","action":"Deny"}]}}}
+{"put":{"kind":"Profile","kind":null}} => refused 1 1 UnknownKind
+{"put":{"apiVersion":"projectcalico.org/v3","kind":"Profile","metadata":{"name":"p","x":[[[[[[[[[[[[[[[[[[[[[[[[[[[[[[[[[[[[[[[[[[[[[[[[[[[[[[[[[[[[[[[[[[[[[[[[[[[[[[[[[[[[[[[[[[[[[[[[[[[[[[[[[[[[[[[[[[[[[[[[]]]]]]]]]]]]]]]]]]]]]]]]]]]]]]]]]]]]]]]]]]]]]]]]]]]]]]]]]]]]]]]]]]]]]]]]]]]]]]]]]]]]]]]]]]]]]]]]]]]]]]]]]]]]]]]]]]]]]]]]},"spec":{}}}
+[[[[[[[[[[[[[[[[[[[[[[[[[[[[[[[[[[[[[[[[[[[[[[[[[[[[[[[[[[[[[[[[[[[[[[[[[[[[[[[[[[[[[[[[[[[[[[[[[[[[[[[[[[[[[[[[[[[[[[[[[[[[[[[]]]]]]]]]]]]]]]]]]]]]]]]]]]]]]]]]]]]]]]]]]]]]]]]]]]]]]]]]]]]]]]]]]]]]]]]]]]]]]]]]]]]]]]]]]]]]]]]]]]]]]]]]]]]]]]]]]]]]]]]]]]]]]] => refused 1 22 BadLine
+[[[[[[[[[[[[[[[[[[[[[[[[[[[[[[[[[[[[[[[[[[[[[[[[[[[[[[[[[[[[[[[[[[[[[[[[[[[[[[[[[[[[[[[[[[[[[[[[[[[[[[[[[[[[[[[[[[[[[[[[[[[[[[[[]]]]]]]]]]]]]]]]]]]]]]]]]]]]]]]]]]]]]]]]]]]]]]]]]]]]]]]]]]]]]]]]]]]]]]]]]]]]]]]]]]]]]]]]]]]]]]]]]]]]]]]]]]]]]]]]]]]]]]]]]]]]]]]] => refused 1 21 BadJson"##;

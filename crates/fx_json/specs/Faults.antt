@@ -1,0 +1,33 @@
+-- The numbers and names of faults. The README of this repository is their public source.
+use Rattle.std.specs.Prelude.{◌≡◌, ◌⊎◌, ℕ, List, codes, Result, Ok, Err}
+use Rattle.fx_json.specs.declared.fault.ReadFault.{ReadFault}
+use Rattle.fx_json.specs.declared.fault.ReadFault.TheVariants.{UnknownKind, MissingField, BadField, Unsupported, PortsWithoutProtocol, IcmpWithoutProtocol, PassInProfile, Memory}
+
+abbrev pub fault_number : ReadFault → ℕ
+fault_number UnknownKind = 1
+fault_number (MissingField path) = 2
+fault_number (BadField path) = 3
+fault_number (Unsupported path) = 5
+fault_number (PortsWithoutProtocol path) = 6
+fault_number (IcmpWithoutProtocol path) = 7
+fault_number (PassInProfile path) = 8
+fault_number Memory = 9
+
+abbrev pub fault_name : ReadFault → List ℕ
+fault_name UnknownKind = codes "UnknownKind"
+fault_name (MissingField path) = codes "MissingField"
+fault_name (BadField path) = codes "BadField"
+fault_name (Unsupported path) = codes "Unsupported"
+fault_name (PortsWithoutProtocol path) = codes "PortsWithoutProtocol"
+fault_name (IcmpWithoutProtocol path) = codes "IcmpWithoutProtocol"
+fault_name (PassInProfile path) = codes "PassInProfile"
+fault_name Memory = codes "Memory"
+
+-- What code answers where a value isn't read: the fault, unless memory is wanted.
+abbrev pub IsFault : {A : Type 0} → Result A ReadFault → ReadFault → Type 0
+IsFault answer told = (told ≡ Memory) ⊎ (answer ≡ Err told)
+
+-- What code answers: what is read or the fault, unless memory is wanted.
+abbrev pub Answers : {A : Type 0} → Result A ReadFault → Result A ReadFault → Type 0
+Answers answer (Ok x) = answer ≡ Ok x
+Answers answer (Err told) = IsFault answer told

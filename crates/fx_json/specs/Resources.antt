@@ -1,0 +1,173 @@
+-- A resource, field by field in the order of Calico's resource reference (`projectcalico.org/v3`): a Profile or a WorkloadEndpoint. The
+-- other kinds of that reference, and those of Kubernetes' API reference that select or name workloads, are known and aren't read yet.
+-- Members that aren't named here are ignored.
+use Rattle.std.specs.Prelude.{ℕ, List, [], ◌∷◌, Bool, true, ◌&&◌, ◌||◌, if◌then◌else◌, Option, Some, None, is_some, option_and_then, Result, Ok, Err, codes}
+use Rattle.std.specs.List.{list_any}
+use Rattle.std.specs.Str.{bytes_eq}
+use Rattle.serde_json.specs.Data.{Data, Members, no_members, member}
+use Rattle.serde_json.specs.Find.{as_str, as_object}
+use Rattle.fx_model.specs.declared.ids.ItemKey.TheVariants as item_key
+use Rattle.fx_model.specs.declared.ids.Key.{Key}
+use Rattle.fx_model.specs.declared.ids.Key.TheVariants as key
+use Rattle.fx_model.specs.declared.resources.Endpoint.{Endpoint}
+use Rattle.fx_model.specs.declared.resources.Profile.{Profile}
+use Rattle.fx_model.specs.declared.resources.Item.TheVariants as item
+use Rattle.fx_model.specs.declared.resources.Update.{Update}
+use Rattle.fx_model.specs.declared.resources.Update.TheVariants as update
+use Rattle.fx_json.specs.declared.fault.ReadFault.{ReadFault}
+use Rattle.fx_json.specs.declared.fault.ReadFault.TheVariants.{UnknownKind, Unsupported}
+use Rattle.fx_json.specs.declared.resources.Kind.{Kind}
+use Rattle.fx_json.specs.declared.resources.Kind.TheVariants.{Profile as AProfile, WorkloadEndpoint}
+use Rattle.fx_json.specs.declared.texts.TextForm.TheVariants.{Name, Namespace, WorkloadInterface, PortName}
+use Rattle.fx_json.specs.Forms.{text, profile_name}
+use Rattle.fx_json.specs.Fields.{◌>>=◌, Reader, field, is_null, formed, required, optional, object_at, section, items}
+use Rattle.fx_json.specs.Values.{whole, port_protocol, host_net}
+use Rattle.fx_json.specs.Rules.{rule}
+
+-- ---- kinds
+
+abbrev pub is_among : List (List ℕ) → List ℕ → Bool
+is_among names s = list_any (λ name. bytes_eq s name) names
+
+-- a kind that is known and isn't read yet
+abbrev pub unread_kind : Result Kind ReadFault
+unread_kind = Err (Unsupported (codes "kind"))
+
+unfoldable pub calico_kind : List ℕ → Result Kind ReadFault
+calico_kind kind =
+    if bytes_eq kind (codes "Profile") then Ok AProfile
+    else (if bytes_eq kind (codes "WorkloadEndpoint") then Ok WorkloadEndpoint
+    else (if is_among (codes "Tier" ∷ codes "GlobalNetworkPolicy" ∷ codes "NetworkPolicy" ∷ codes "NetworkSet" ∷ codes "GlobalNetworkSet" ∷ []) kind then unread_kind
+    else Err UnknownKind))
+
+unfoldable pub core_kind : List ℕ → Result Kind ReadFault
+core_kind kind = if is_among (codes "Namespace" ∷ codes "ServiceAccount" ∷ []) kind then unread_kind else Err UnknownKind
+
+unfoldable pub network_kind : List ℕ → Result Kind ReadFault
+network_kind kind = if bytes_eq kind (codes "NetworkPolicy") then unread_kind else Err UnknownKind
+
+-- a kind of this version of an API
+abbrev pub kind_named : List ℕ → List ℕ → Result Kind ReadFault
+kind_named version kind =
+    if bytes_eq version (codes "projectcalico.org/v3") then calico_kind kind
+    else (if bytes_eq version (codes "v1") then core_kind kind
+    else (if bytes_eq version (codes "networking.k8s.io/v1") then network_kind kind else Err UnknownKind))
+
+-- the text of this name
+abbrev pub text_at : List ℕ → Data → Option (List ℕ)
+text_at name d = option_and_then as_str (field name d)
+
+unfoldable pub kind_of : Data → Result Kind ReadFault
+kind_of d = of_texts (text_at (codes "apiVersion") d) (text_at (codes "kind") d)
+  where
+    of_texts : Option (List ℕ) → Option (List ℕ) → Result Kind ReadFault
+    of_texts None kind = Err UnknownKind
+    of_texts (Some version) None = Err UnknownKind
+    of_texts (Some version) (Some kind) = kind_named version kind
+
+-- ---- labels
+
+-- labels are an object of texts
+abbrev pub is_label : Data → Bool
+is_label d = is_null d || is_some (as_str d)
+
+abbrev pub are_labels : Members → Bool
+are_labels no_members = true
+are_labels (member k d ms) = is_label d && are_labels ms
+
+abbrev pub labels_in : Data → Option (Unit {0})
+labels_in d = option_and_then (λ ms. if are_labels ms then Some tt else None) (as_object d)
+
+abbrev pub labels : Reader (Unit {0})
+labels path d = formed path (labels_in d)
+
+-- ---- profiles
+
+-- the key that `metadata` holds
+unfoldable pub profile_key : Reader Key
+profile_key path metadata = do
+  name ← required profile_name path (codes "name") metadata
+  Ok (key.Profile name)
+
+-- the profile that `spec` holds
+unfoldable pub profile_of : Reader Profile
+profile_of path spec = do
+  ingress ← items rule path (codes "ingress") spec
+  egress ← items rule path (codes "egress") spec
+  _ ← optional labels path (codes "labelsToApply") spec
+  Ok (record { ingress = ingress; egress = egress })
+
+unfoldable pub profile_put : Data → Result Update ReadFault
+profile_put d = do
+  metadata ← section (codes "metadata") (codes "metadata") d
+  k ← profile_key (codes "metadata") metadata
+  spec ← section (codes "spec") (codes "spec") d
+  profile ← profile_of (codes "spec") spec
+  Ok (update.Put k (item.Profile profile))
+
+-- ---- workload endpoints
+
+-- the key that `metadata` holds
+unfoldable pub endpoint_key : Reader Key
+endpoint_key path metadata = do
+  name ← required (text Name) path (codes "name") metadata
+  namespace ← required (text Namespace) path (codes "namespace") metadata
+  Ok (key.Item (item_key.Endpoint namespace name))
+
+-- a port's name, its protocol and its number
+unfoldable pub port_fields : Reader (Unit {0})
+port_fields path d = do
+  _ ← required (text PortName) path (codes "name") d
+  _ ← optional port_protocol path (codes "protocol") d
+  _ ← required (whole 1 65535) path (codes "port") d
+  Ok tt
+
+abbrev pub endpoint_port : Reader (Unit {0})
+endpoint_port path d = object_at path d >>= port_fields path
+
+-- the endpoint that `spec` holds
+unfoldable pub endpoint_of : Reader Endpoint
+endpoint_of path spec = do
+  node ← required (text Name) path (codes "node") spec
+  _ ← optional (text Name) path (codes "orchestrator") spec
+  _ ← optional (text Name) path (codes "serviceAccountName") spec
+  iface ← required (text WorkloadInterface) path (codes "interfaceName") spec
+  _ ← items host_net path (codes "ipNetworks") spec
+  profiles ← items profile_name path (codes "profiles") spec
+  _ ← items endpoint_port path (codes "ports") spec
+  Ok (record { node = node; iface = iface; profiles = profiles })
+
+unfoldable pub endpoint_put : Data → Result Update ReadFault
+endpoint_put d = do
+  metadata ← section (codes "metadata") (codes "metadata") d
+  k ← endpoint_key (codes "metadata") metadata
+  _ ← optional labels (codes "metadata") (codes "labels") metadata
+  spec ← section (codes "spec") (codes "spec") d
+  endpoint ← endpoint_of (codes "spec") spec
+  Ok (update.Put k (item.Endpoint endpoint))
+
+-- ---- puts and deletes
+
+-- a resource of this kind that is put
+abbrev pub put_of : Kind → Data → Result Update ReadFault
+put_of AProfile d = profile_put d
+put_of WorkloadEndpoint d = endpoint_put d
+
+-- what a put of a resource is read as
+unfoldable pub resource_of : Data → Result Update ReadFault
+resource_of d = do
+  kind ← kind_of d
+  put_of kind d
+
+-- the key of a resource of this kind
+abbrev pub key_of : Kind → Reader Key
+key_of AProfile path metadata = profile_key path metadata
+key_of WorkloadEndpoint path metadata = endpoint_key path metadata
+
+-- what a delete of a resource is read as
+unfoldable pub delete_of : Data → Result Update ReadFault
+delete_of d = do
+  kind ← kind_of d
+  metadata ← section (codes "metadata") (codes "metadata") d
+  k ← key_of kind (codes "metadata") metadata
+  Ok (update.Delete k)

@@ -1,0 +1,78 @@
+//! Why a resource or a packet isn't read.
+ghost use Rattle.std.specs.Prelude.{◌≡◌};
+ghost use Rattle.fx_json.specs.declared.fault.ReadFault.TheVariants as fault;
+ghost use Rattle.fx_json.specs.Faults.{fault_number, fault_name};
+
+use fx_base::{Memory, Text};
+use std::alloc::{AllocError, AllocFailed};
+
+/// The first fault of a value, in the order in which its members are read. A path leads from the value to the one at
+/// fault, as `spec.ingress[0].action`.
+#[derive(Debug, Drop)]
+pub enum ReadFault {
+    UnknownKind,
+    MissingField { path: Text },
+    BadField { path: Text },
+    Unsupported { path: Text },
+    PortsWithoutProtocol { path: Text },
+    IcmpWithoutProtocol { path: Text },
+    PassInProfile { path: Text },
+    Memory,
+}
+
+impl ReadFault {
+    /// The number under which scripts know it.
+    pub fn number(&self) -> u64
+        ensures { result ≡ fault_number self.now }
+    {
+        match self {
+            ReadFault::UnknownKind => 1,
+            ReadFault::MissingField { .. } => 2,
+            ReadFault::BadField { .. } => 3,
+            ReadFault::Unsupported { .. } => 5,
+            ReadFault::PortsWithoutProtocol { .. } => 6,
+            ReadFault::IcmpWithoutProtocol { .. } => 7,
+            ReadFault::PassInProfile { .. } => 8,
+            ReadFault::Memory => 9,
+        }
+    }
+
+    pub fn name(&self) -> &'static [u8]
+        ensures { result.now ≡ fault_name self.now }
+    {
+        match self {
+            ReadFault::UnknownKind => b"UnknownKind",
+            ReadFault::MissingField { .. } => b"MissingField",
+            ReadFault::BadField { .. } => b"BadField",
+            ReadFault::Unsupported { .. } => b"Unsupported",
+            ReadFault::PortsWithoutProtocol { .. } => b"PortsWithoutProtocol",
+            ReadFault::IcmpWithoutProtocol { .. } => b"IcmpWithoutProtocol",
+            ReadFault::PassInProfile { .. } => b"PassInProfile",
+            ReadFault::Memory => b"Memory",
+        }
+    }
+}
+
+impl From<Memory> for ReadFault {
+    ghost from_gives = { λ _ e. e ≡ fault.Memory };
+
+    fn from(_memory: Memory) -> Self {
+        ReadFault::Memory
+    }
+}
+
+impl From<AllocError> for ReadFault {
+    ghost from_gives = { λ _ e. e ≡ fault.Memory };
+
+    fn from(_refused: AllocError) -> Self {
+        ReadFault::Memory
+    }
+}
+
+impl<T: Drop> From<AllocFailed<T>> for ReadFault {
+    ghost from_gives = { λ _ e. e ≡ fault.Memory };
+
+    fn from(_refused: AllocFailed<T>) -> Self {
+        ReadFault::Memory
+    }
+}

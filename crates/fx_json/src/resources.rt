@@ -1,0 +1,287 @@
+//! Reads a resource that is put or deleted: a Profile or a WorkloadEndpoint.
+ghost use Rattle.std.specs.Prelude.{◌≡◌, option_map};
+ghost use Rattle.serde_json.specs.Find.{as_object};
+ghost use Rattle.serde_json.specs.View.{view, members_view};
+ghost use Rattle.fx_json.specs.Faults.{IsFault, Answers};
+ghost use Rattle.fx_json.specs.Paths.{text_of};
+ghost use Rattle.fx_json.specs.Resources.{unread_kind, calico_kind, core_kind, network_kind, kind_named, text_at, kind_of, is_label, are_labels, labels_in, labels, profile_key, profile_of, profile_put, endpoint_key, port_fields, endpoint_port, endpoint_of, endpoint_put, put_of, resource_of, key_of, delete_of};
+
+use crate::fault::ReadFault;
+use crate::fields::{Form, field, formed, items, object, optional, required, section};
+use crate::path::Path;
+use crate::rules::RuleForm;
+use crate::texts::{ProfileNameForm, TextForm};
+use crate::values::{HostForm, PortProtocolForm, WordForm};
+use fx_model::{Endpoint, Item, ItemKey, Key, Profile, Update};
+use serde_json::{Map, Value};
+use std::alloc::Global;
+
+// The kinds that are read.
+#[derive(Clone, Copy)]
+enum Kind {
+    Profile,
+    WorkloadEndpoint,
+}
+
+/// The update that a put of this resource is, or the first fault of the resource.
+#[tactic(auto, unfolding(crate::specs::Resources::resource_of))]
+pub fn read_resource(alloc: Global, value: &Value) -> Result<Update, ReadFault>
+    ensures { Answers (resource_of (view value.now)) result }
+{
+    match kind_of(alloc, value)? {
+        Kind::Profile => profile_put(alloc, value),
+        Kind::WorkloadEndpoint => endpoint_put(alloc, value),
+    }
+}
+
+/// The update that a delete of this resource is, or the first fault of what names the resource.
+#[tactic(auto, unfolding(crate::specs::Resources::delete_of))]
+pub fn read_delete(alloc: Global, value: &Value) -> Result<Update, ReadFault>
+    ensures { Answers (delete_of (view value.now)) result }
+{
+    let kind = kind_of(alloc, value)?;
+    let nothing = Value::Null;
+    let path = Path::top("metadata");
+    let metadata = section(alloc, &path, "metadata", value, &nothing)?;
+    let key = key_of(alloc, kind, &path, metadata)?;
+    Ok(Update::Delete { key })
+}
+
+fn key_of(alloc: Global, kind: Kind, path: &Path<'_>, metadata: &Value) -> Result<Key, ReadFault>
+    ensures { Answers (key_of kind (text_of path.now) (view metadata.now)) result }
+{
+    match kind {
+        Kind::Profile => profile_key(alloc, path, metadata),
+        Kind::WorkloadEndpoint => endpoint_key(alloc, path, metadata),
+    }
+}
+
+// ---- kinds
+
+#[tactic(auto, unfolding(crate::specs::Resources::kind_of))]
+fn kind_of(alloc: Global, resource: &Value) -> Result<Kind, ReadFault>
+    ensures { Answers (kind_of (view resource.now)) result }
+{
+    let Some(version) = text_at(resource, "apiVersion") else {
+        return Err(ReadFault::UnknownKind);
+    };
+    let Some(kind) = text_at(resource, "kind") else {
+        return Err(ReadFault::UnknownKind);
+    };
+    kind_named(alloc, version, kind)
+}
+
+fn text_at<'v>(object: &'v Value, key: &str) -> Option<&'v str>
+    ensures { option_map (λ text. text.now) result ≡ text_at key.now (view object.now) }
+{
+    field(object, key)?.as_str()
+}
+
+fn kind_named(alloc: Global, version: &str, kind: &str) -> Result<Kind, ReadFault>
+    ensures { Answers (kind_named version.now kind.now) result }
+{
+    match version {
+        "projectcalico.org/v3" => calico_kind(alloc, kind),
+        "v1" => core_kind(alloc, kind),
+        "networking.k8s.io/v1" => network_kind(alloc, kind),
+        _ => Err(ReadFault::UnknownKind),
+    }
+}
+
+#[tactic(auto, unfolding(crate::specs::Resources::calico_kind))]
+fn calico_kind(alloc: Global, kind: &str) -> Result<Kind, ReadFault>
+    ensures { Answers (calico_kind kind.now) result }
+{
+    match kind {
+        "Profile" => Ok(Kind::Profile),
+        "WorkloadEndpoint" => Ok(Kind::WorkloadEndpoint),
+        "Tier" | "GlobalNetworkPolicy" | "NetworkPolicy" | "NetworkSet" | "GlobalNetworkSet" => {
+            unread_kind(alloc)
+        }
+        _ => Err(ReadFault::UnknownKind),
+    }
+}
+
+#[tactic(auto, unfolding(crate::specs::Resources::core_kind))]
+fn core_kind(alloc: Global, kind: &str) -> Result<Kind, ReadFault>
+    ensures { Answers (core_kind kind.now) result }
+{
+    match kind {
+        "Namespace" | "ServiceAccount" => unread_kind(alloc),
+        _ => Err(ReadFault::UnknownKind),
+    }
+}
+
+#[tactic(auto, unfolding(crate::specs::Resources::network_kind))]
+fn network_kind(alloc: Global, kind: &str) -> Result<Kind, ReadFault>
+    ensures { Answers (network_kind kind.now) result }
+{
+    match kind {
+        "NetworkPolicy" => unread_kind(alloc),
+        _ => Err(ReadFault::UnknownKind),
+    }
+}
+
+// A kind that is known and isn't read yet.
+fn unread_kind(alloc: Global) -> Result<Kind, ReadFault>
+    ensures { Answers unread_kind result }
+{
+    Err(ReadFault::Unsupported {
+        path: Path::top("kind").text(alloc)?,
+    })
+}
+
+// ---- profiles
+
+#[tactic(auto, unfolding(crate::specs::Resources::profile_put))]
+fn profile_put(alloc: Global, resource: &Value) -> Result<Update, ReadFault>
+    ensures { Answers (profile_put (view resource.now)) result }
+{
+    let nothing = Value::Null;
+    let path = Path::top("metadata");
+    let metadata = section(alloc, &path, "metadata", resource, &nothing)?;
+    let key = profile_key(alloc, &path, metadata)?;
+    let path = Path::top("spec");
+    let spec = section(alloc, &path, "spec", resource, &nothing)?;
+    let profile = read_profile(alloc, &path, spec)?;
+    Ok(Update::Put {
+        key,
+        item: Item::Profile(profile),
+    })
+}
+
+#[tactic(auto, unfolding(crate::specs::Resources::profile_key))]
+fn profile_key(alloc: Global, path: &Path<'_>, metadata: &Value) -> Result<Key, ReadFault>
+    ensures { Answers (profile_key (text_of path.now) (view metadata.now)) result }
+{
+    let name = required(alloc, &ProfileNameForm, path, "name", metadata)?;
+    Ok(Key::Profile { name })
+}
+
+#[tactic(auto, unfolding(crate::specs::Resources::profile_of))]
+fn read_profile(alloc: Global, path: &Path<'_>, spec: &Value) -> Result<Profile, ReadFault>
+    ensures { Answers (profile_of (text_of path.now) (view spec.now)) result }
+{
+    let ingress = items(alloc, &RuleForm, path, "ingress", spec)?;
+    let egress = items(alloc, &RuleForm, path, "egress", spec)?;
+    optional(alloc, &LabelsForm, path, "labelsToApply", spec)?;
+    Ok(Profile { ingress, egress })
+}
+
+// ---- workload endpoints
+
+#[tactic(auto, unfolding(crate::specs::Resources::endpoint_put))]
+fn endpoint_put(alloc: Global, resource: &Value) -> Result<Update, ReadFault>
+    ensures { Answers (endpoint_put (view resource.now)) result }
+{
+    let nothing = Value::Null;
+    let path = Path::top("metadata");
+    let metadata = section(alloc, &path, "metadata", resource, &nothing)?;
+    let key = endpoint_key(alloc, &path, metadata)?;
+    optional(alloc, &LabelsForm, &path, "labels", metadata)?;
+    let path = Path::top("spec");
+    let spec = section(alloc, &path, "spec", resource, &nothing)?;
+    let endpoint = read_endpoint(alloc, &path, spec)?;
+    Ok(Update::Put {
+        key,
+        item: Item::Endpoint(endpoint),
+    })
+}
+
+#[tactic(auto, unfolding(crate::specs::Resources::endpoint_key))]
+fn endpoint_key(alloc: Global, path: &Path<'_>, metadata: &Value) -> Result<Key, ReadFault>
+    ensures { Answers (endpoint_key (text_of path.now) (view metadata.now)) result }
+{
+    let name = required(alloc, &TextForm::Name, path, "name", metadata)?;
+    let ns = required(alloc, &TextForm::Namespace, path, "namespace", metadata)?;
+    Ok(Key::Item(ItemKey::Endpoint { ns, name }))
+}
+
+#[tactic(auto, unfolding(crate::specs::Resources::endpoint_of))]
+fn read_endpoint(alloc: Global, path: &Path<'_>, spec: &Value) -> Result<Endpoint, ReadFault>
+    ensures { Answers (endpoint_of (text_of path.now) (view spec.now)) result }
+{
+    let node = required(alloc, &TextForm::Name, path, "node", spec)?;
+    optional(alloc, &TextForm::Name, path, "orchestrator", spec)?;
+    optional(alloc, &TextForm::Name, path, "serviceAccountName", spec)?;
+    let iface = required(
+        alloc,
+        &TextForm::WorkloadInterface,
+        path,
+        "interfaceName",
+        spec,
+    )?;
+    items(alloc, &HostForm, path, "ipNetworks", spec)?;
+    let profiles = items(alloc, &ProfileNameForm, path, "profiles", spec)?;
+    items(alloc, &EndpointPortForm, path, "ports", spec)?;
+    Ok(Endpoint {
+        node,
+        iface,
+        profiles,
+    })
+}
+
+// A port of an endpoint, which nothing is made of yet.
+struct EndpointPortForm;
+
+impl Form for EndpointPortForm {
+    type Read = ();
+
+    ghost read_by = { λ _. endpoint_port };
+
+    fn read(&self, alloc: Global, path: &Path<'_>, value: &Value) -> Result<(), ReadFault> {
+        read_endpoint_port(alloc, path, object(alloc, path, value)?)
+    }
+}
+
+#[tactic(auto, unfolding(crate::specs::Resources::port_fields))]
+fn read_endpoint_port(alloc: Global, path: &Path<'_>, port: &Value) -> Result<(), ReadFault>
+    ensures { Answers (port_fields (text_of path.now) (view port.now)) result }
+{
+    required(alloc, &TextForm::PortName, path, "name", port)?;
+    optional(alloc, &PortProtocolForm, path, "protocol", port)?;
+    required(alloc, &WordForm { low: 1 }, path, "port", port)?;
+    Ok(())
+}
+
+// ---- labels
+
+// Labels, which nothing is made of yet.
+struct LabelsForm;
+
+impl Form for LabelsForm {
+    type Read = ();
+
+    ghost read_by = { λ _. labels };
+
+    fn read(&self, alloc: Global, path: &Path<'_>, value: &Value) -> Result<(), ReadFault> {
+        formed(alloc, path, labels_in(value))
+    }
+}
+
+fn labels_in(value: &Value) -> Option<()>
+    ensures { result ≡ labels_in (view value.now) }
+{
+    if are_labels(value.as_object()?) {
+        Some(())
+    } else {
+        None
+    }
+}
+
+fn are_labels(map: &Map<String, Value>) -> bool
+    ensures { result ≡ are_labels (members_view map.now.entries) }
+{
+    for (_, value) in map.iter() {
+        if !is_label(value) {
+            return false;
+        }
+    }
+    true
+}
+
+fn is_label(value: &Value) -> bool
+    ensures { result ≡ is_label (view value.now) }
+{
+    value.is_null() || value.is_string()
+}

@@ -1,0 +1,40 @@
+//! Rules, as Calico's resource reference (`projectcalico.org/v3`) has them: what a packet must meet, and what is done with it.
+use fx_base::{Net, PortRange, Proto, Seq};
+
+/// What a rule does with a packet that it matches. `Log` lets the next rule decide, and `Pass` the next tier or the profiles.
+#[derive(Clone, Copy, Debug, PartialEq, Eq)]
+pub enum Action {
+    Allow,
+    Deny,
+    Log,
+    Pass,
+}
+
+/// A message of ICMP by its type, and by its code where one is given.
+#[derive(Clone, Copy, Debug, PartialEq, Eq)]
+pub struct Icmp {
+    pub kind: u8,
+    pub code: Option<u8>,
+}
+
+/// What a rule asks of one end of a packet's way. An empty list asks nothing.
+#[derive(Debug, Drop)]
+pub struct Side {
+    pub nets: Seq<Net>,
+    pub not_nets: Seq<Net>,
+    pub ports: Seq<PortRange>,
+    pub not_ports: Seq<PortRange>,
+}
+
+/// A rule. One that is `never` met asks for packets that aren't of IPv4.
+#[derive(Debug, Drop)]
+pub struct Rule {
+    pub action: Action,
+    pub never: bool,
+    pub protocol: Option<Proto>,
+    pub not_protocol: Option<Proto>,
+    pub icmp: Option<Icmp>,
+    pub not_icmp: Option<Icmp>,
+    pub source: Side,
+    pub destination: Side,
+}

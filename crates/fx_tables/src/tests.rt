@@ -1,0 +1,39 @@
+//! The operations with ample memory.
+use crate::Tables;
+use fx_base::{ChainName, Ipv4, Proto, Seq, SetKind, SetName};
+use fx_model::{ChainRule, Member, Tag, Target};
+use std::test::Fail;
+
+#[test]
+#[tactic(auto, using(crate::proofs::Filled::filled))]
+fn a_set_is_created_and_filled(rt: HostRuntime) -> Result<(), Fail> {
+    let name = SetName::new(SetKind::Ports, [b'a'; 23]);
+    let web = Member::PortAt {
+        addr: Ipv4(0x0a00_0001),
+        proto: Proto(6),
+        number: 80,
+    };
+    let mut tables = Tables::new(rt.alloc());
+    tables.create_set(name)?;
+    tables.add_member(name, web)?;
+    match tables.set(name) {
+        Some(members) => assert!(rt; members.contains(web)),
+        None => assert!(rt; false),
+    }
+    Ok(())
+}
+
+#[test]
+fn a_chain_is_written(rt: HostRuntime) -> Result<(), Fail> {
+    let alloc = rt.alloc();
+    let name = ChainName::join(b"cali-pri-", b"open");
+    let drop = ChainRule {
+        matches: Seq::new(alloc),
+        target: Target::Drop,
+        tag: Tag::Plain,
+    };
+    let mut tables = Tables::new(alloc);
+    tables.write_chain(name, Seq::from_vec(vec![in alloc; drop]?))?;
+    assert!(rt; tables.chain(name).is_some());
+    Ok(())
+}

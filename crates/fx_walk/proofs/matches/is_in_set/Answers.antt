@@ -1,0 +1,18 @@
+use Rattle.std.proofs.Common.{◌≡◌, Bool, false, None, map, sym, ap, ◌∙◌}
+use Rattle.std.specs.List.{list_any}
+use Rattle.std.specs.Option.{option_copied}
+use Rattle.fx_base.specs.Set as set
+use Rattle.fx_base.proofs.Entries.{entries-empty}
+use Rattle.fx_model.specs.contracts.member.MemberOrd.TheImpl.{cmp-value}
+use Rattle.fx_model.specs.declared.member.Member.{Member}
+use Rattle.fx_model.specs.Messages.{members_of}
+use Rattle.fx_model.specs.Machine.{member_holds}
+use Rattle.fx_walk.proofs.matches.is_in_set.Goals as goal
+
+no_members : (test : Member → Bool) → list_any test (set.items (members_of None)) ≡ false
+no_members test = ap (λ es. list_any test (map (λ e. e.0) es)) (entries-empty cmp-value.it)
+
+pub returns-in-None : goal.returns-in-None
+returns-in-None c =
+    let found = sym c.get.ensures ∙ ap option_copied c.in-None.is in
+    sym (ap (λ o. list_any (member_holds c.args.end c.args.packet.now) (set.items (members_of o))) found ∙ no_members (member_holds c.args.end c.args.packet.now))
