@@ -1,4 +1,6 @@
 //! Decisions and paths over small tables. What is wanted follows from iptables(8).
+#![tactic(auto, using(fx_base::proofs::AtKey::reads))]
+
 ghost use Rattle.std.specs.Prelude.{◌≡◌, true, IfOk, OnOk, [], ◌∷◌, codes};
 ghost use Rattle.std.specs.FinMap as map;
 ghost use Rattle.fx_model.specs.Directions.{Egress};
