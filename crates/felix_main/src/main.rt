@@ -6,12 +6,15 @@ ghost use Rattle.felix_main.specs.ExitStatus.{exit_status};
 
 mod adapters;
 mod arguments;
+mod digest;
 #[cfg(test)]
 mod tests;
 
 use adapters::{ReadSource, WriteSink};
 use arguments::arguments;
+use digest::Sha256Digest;
 use felix_replay::{Status, felix_replay};
+use fx_names::Namer;
 use std::process::ExitCode;
 
 fn main(rt: HostRuntime) -> ExitCode {
@@ -20,7 +23,8 @@ fn main(rt: HostRuntime) -> ExitCode {
     };
     let mut source = ReadSource::new(rt.stdin());
     let mut sink = WriteSink::new(rt.stdout());
-    let status = felix_replay(rt.alloc(), &words, &mut source, &mut sink);
+    let namer = Namer::new(Sha256Digest);
+    let status = felix_replay(rt.alloc(), &words, &mut source, &mut sink, namer);
     ExitCode::from(code_of(status))
 }
 

@@ -3,14 +3,13 @@ use Rattle.std.proofs.Common.{◌≡◌, ◌⊎◌, inl, inr, true, false, Resul
 use Rattle.fx_json.specs.declared.fault.ReadFault.TheVariants.{Memory}
 use Rattle.fx_json.specs.declared.refusal.Refusal.{Refusal}
 use Rattle.fx_json.specs.declared.refusal.Refusal.TheVariants.{Read}
-use Rattle.fx_json.specs.Refusals.{Refuses}
-use Rattle.felix_replay.specs.Stops.{wants_memory}
+use Rattle.fx_json.specs.Refusals.{Refuses, is_memory}
 
 no_truth : {A : Type 0} → true ≡ false → A
 no_truth e = cc
 
-pub told_as_defined : {A : Type 0} (answer : Result A Refusal) (told : Refusal) → wants_memory told ≡ false → Refuses answer (Err told) → answer ≡ Err told
+pub told_as_defined : {A : Type 0} (answer : Result A Refusal) (told : Refusal) → is_memory told ≡ false → Refuses answer (Err told) → answer ≡ Err told
 told_as_defined answer told none h = elim h as (λ _. answer ≡ Err told) [
-  | inl is ↦ no_truth (sym (ap wants_memory is) ∙ none)
+  | inl is ↦ no_truth (sym (ap is_memory is) ∙ none)
   | inr is ↦ is
 ]

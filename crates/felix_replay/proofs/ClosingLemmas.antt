@@ -7,6 +7,7 @@ use Rattle.fx_model.proofs.Flushes.{flush-closed}
 use Rattle.fx_model.proofs.Leading.{closed-tables}
 use Rattle.fx_model.proofs.ViewClosed.{view_of-closed}
 use Rattle.fx_json.specs.declared.refusal.Refusal.{Refusal}
+use Rattle.fx_names.specs.Digests.{Digest}
 use Rattle.fx_lines.specs.Lines.{lines_of}
 use Rattle.fx_lines.specs.declared.commands.Command.{Command}
 use Rattle.fx_lines.specs.declared.commands.Command.TheVariants as command
@@ -25,7 +26,7 @@ wholes (v ∷ vs) all = (record { view = all.0; tables = closed-tables v all.0 }
 in_line : (s : State) (a : Result Command Refusal) → IsClosedView s.sent → AllByRecursion IsWhole (views_in s a)
 in_line s (Ok command.Blank) closed = tt
 in_line s (Ok command.Tables) closed = tt
-in_line s (Ok command.Flush) closed = wholes _ (flush-closed s.sent _ closed (view_of-closed s.resources))
+in_line s (Ok command.Flush) closed = wholes _ (flush-closed s.sent _ closed (view_of-closed s.digest s.resources))
 in_line s (Ok (command.Update u)) closed = tt
 in_line s (Ok (command.Packet a)) closed = tt
 in_line s (Err r) closed = tt
@@ -33,7 +34,7 @@ in_line s (Err r) closed = tt
 after_line : (s : State) (a : Result Command Refusal) → IsClosedView s.sent → IsClosedView (step s a).sent
 after_line s (Ok command.Blank) closed = closed
 after_line s (Ok command.Tables) closed = closed
-after_line s (Ok command.Flush) closed = view_of-closed s.resources
+after_line s (Ok command.Flush) closed = view_of-closed s.digest s.resources
 after_line s (Ok (command.Update u)) closed = closed
 after_line s (Ok (command.Packet a)) closed = closed
 after_line s (Err r) closed = closed
@@ -44,5 +45,5 @@ along s [] closed = tt
 along s (line ∷ lines) closed =
     all_both IsWhole (views_in s (answer_of s line)) (views_along (next s line) lines) (in_line s (answer_of s line) closed) (along (next s line) lines (after_line s (answer_of s line) closed))
 
-pub run_stays_whole : (node input : List ℕ) → AllByRecursion IsWhole (views_along (start node) (lines_of input))
-run_stays_whole node input = along (start node) (lines_of input) empty_view-closed
+pub run_stays_whole : (dg : Digest) (node input : List ℕ) → AllByRecursion IsWhole (views_along (start dg node) (lines_of input))
+run_stays_whole dg node input = along (start dg node) (lines_of input) empty_view-closed

@@ -11,6 +11,7 @@ use Rattle.fx_model.specs.Closed.{IsClosedView}
 use Rattle.fx_model.specs.Formed.{are_formed, is_formed_view}
 use Rattle.fx_model.specs.Views.{empty_view}
 use Rattle.fx_model.specs.contracts.ids.ItemKeyOrd.TheImpl as item_cmp
+use Rattle.fx_names.specs.Digests.{Digest}
 use Rattle.felix_replay.specs.Output.{start}
 
 nothing_there : {A : Type 0} (e : ViewEndpoint) → None ≡ Some e → A
@@ -33,5 +34,5 @@ pub empty_view-formed : is_formed_view empty_view ≡ true
 empty_view-formed = rw (entries-empty (slice_cmp nat_cmp), entries-empty (slice_cmp nat_cmp)) refl
 
 -- and so are the resources at the start
-pub start-formed : (node : List ℕ) → are_formed (start node).resources ≡ true
-start-formed node = rw (entries-empty item_cmp.cmp-value.it, entries-empty (slice_cmp nat_cmp)) refl
+pub start-formed : (dg : Digest) (node : List ℕ) → are_formed (start dg node).resources ≡ true
+start-formed dg node = rw (entries-empty item_cmp.cmp-value.it, entries-empty (slice_cmp nat_cmp)) refl

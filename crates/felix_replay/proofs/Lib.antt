@@ -8,4 +8,5 @@ pub mod EmptyView
 pub mod ClosingLemmas
 pub mod Lone
 pub mod Policing
+pub mod Checking
 pub mod Asked

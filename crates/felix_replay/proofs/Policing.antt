@@ -1,5 +1,5 @@
 -- What a packet line writes, and that after a flush it is the policy reference's answer.
-use Rattle.std.proofs.Common.{◌≡◌, ℕ, List, [], ◌∷◌, Bool, true, false, Option, None, Some, Result, Ok, Err, refl, sym, ◌∙◌, ap, subst}
+use Rattle.std.proofs.Common.{◌≡◌, ℕ, List, [], ◌∷◌, Bool, true, false, Option, None, Some, Result, Ok, Err, refl, sym, ◌∙◌, ap, subst, ◌+◌}
 use Rattle.std.specs.Prelude.{IfOk, if◌then◌else◌, codes}
 use Rattle.std.specs.List.{concat}
 use Rattle.std.specs.FinMap as maps
@@ -19,8 +19,12 @@ use Rattle.fx_model.specs.Ranks.{IsRanked}
 use Rattle.fx_model.specs.Tables.{ChainName, Tables, forward, tables_of}
 use Rattle.fx_model.specs.ViewPolicy.{HasLoneLocal}
 use Rattle.fx_model.specs.Closed.{IsClosedView}
+use Rattle.fx_names.specs.Digests.{Digest}
+use Rattle.fx_names.specs.Claims.{Clash}
+use Rattle.fx_model.specs.Claims.{clash, IsClashFree}
 use Rattle.fx_model.specs.Views.{view_of}
 use Rattle.fx_model.specs.Walk.{Ended, verdict_of, noted_in}
+use Rattle.fx_model.proofs.ClaimsApart.{clash_free_after, clash_free_none}
 use Rattle.fx_model.proofs.FormedLemmas.{are_formed-after}
 use Rattle.fx_model.proofs.Leading.{ranked-tables}
 use Rattle.fx_model.proofs.ViewClosed.{view_of-closed}
@@ -37,24 +41,24 @@ use Rattle.fx_lines.specs.Commands.{command_of}
 use Rattle.fx_lines.specs.Formed.{is_formed_command}
 use Rattle.fx_lines.proofs.Kept.{command_of-formed}
 use Rattle.fx_print.specs.PacketTexts.{packet_lines}
-use Rattle.felix_replay.specs.Engine.{IsKept}
+use Rattle.felix_replay.specs.Engine.{IsRendered}
 use Rattle.felix_replay.specs.declared.engine.Engine.{Engine}
 use Rattle.felix_replay.specs.Run.{state_after}
 use Rattle.felix_replay.specs.PacketRuns.{nothing_traced, packet_run, packet_text}
-use Rattle.felix_replay.specs.Output.{State, start, is_second_local, checked, answer_of, step, next, answer_text}
+use Rattle.felix_replay.specs.Output.{State, start, is_second_local, unless_taken, checked, accepted, answer_of, step, next, answer_text}
 use Rattle.felix_replay.specs.Policed.{TellsPolicy, KeepsPolicy}
 use Rattle.felix_replay.proofs.EmptyView.{start-formed}
 use Rattle.felix_replay.proofs.Lone.{lone-after}
 
 -- ---- the engine
 
-pub wanted_closed : (R : Resources) → IsClosedView (view_of R)
+pub wanted_closed : (dg : Digest) (R : Resources) → IsClosedView (view_of dg R)
 wanted_closed = view_of-closed
 
-pub kept_first : (e : Engine) → IsKept e → maps.contains_key e.tables.chains forward ≡ true
+pub kept_first : (e : Engine) → IsRendered e → maps.contains_key e.tables.chains forward ≡ true
 kept_first e kept = subst (λ (t : Tables). maps.contains_key t.chains forward ≡ true) (sym kept.rendered) (first_there e.sent)
 
-pub kept_ranked : (e : Engine) → IsKept e → IsRanked e.tables.chains
+pub kept_ranked : (e : Engine) → IsRendered e → IsRanked e.tables.chains
 kept_ranked e kept = subst (λ (t : Tables). IsRanked t.chains) (sym kept.rendered) (ranked-tables e.sent kept.closed)
 
 -- where a run ends so, the packet's text is this
@@ -65,28 +69,41 @@ run_text tables a ranked path v e i run =
     ap (λ (w : Verdict). concat (packet_lines path a.iface_in a.iface_out e i w)) end.0
     ∙ ap (λ (t : Trace). concat (packet_lines t.hops a.iface_in a.iface_out t.reasons.egress t.reasons.ingress (verdict_of (packet_run tables a)))) end.1
 
-pub kept_text : (e : Engine) → IsKept e → (a : Packet) (path : List (ChainName × ℕ)) (v : Verdict) (egress ingress : Option Reason) → Traces e.tables a [] path v egress ingress
+pub kept_text : (e : Engine) → IsRendered e → (a : Packet) (path : List (ChainName × ℕ)) (v : Verdict) (egress ingress : Option Reason) → Traces e.tables a [] path v egress ingress
     → concat (packet_lines path a.iface_in a.iface_out egress ingress v) ≡ packet_text (tables_of e.sent) a
 kept_text e kept a path v egress ingress run =
     run_text e.tables a (kept_ranked e kept) path v egress ingress run ∙ ap (λ (t : Tables). packet_text t a) kept.rendered
 
 -- ---- what is accepted stays servable
 
-record IsSafe (R : Resources) : Type 0 where
+record IsSafe (dg : Digest) (R : Resources) : Type 0 where
   formed : are_formed R ≡ true
   lone : HasLoneLocal R
+  free : IsClashFree dg R
 
 nothing_there : {A : Type 0} (e : Endpoint) → None ≡ Some e → A
 nothing_there e is = cc
 
-start-safe : (node : List ℕ) → IsSafe (start node).resources
-start-safe node = record { formed = start-formed node; lone = λ k l e f there at s t. nothing_there e (sym (maps.get-empty item_cmp.cmp-value.it k) ∙ there) }
+start-safe : (dg : Digest) (node : List ℕ) → IsSafe dg (start dg node).resources
+start-safe dg node = record {
+  formed = start-formed dg node;
+  lone = λ k l e f there at s t. nothing_there e (sym (maps.get-empty item_cmp.cmp-value.it k) ∙ there);
+  free = clash_free_none dg (start dg node).resources refl refl;
+}
 
-updated-safe : (s : State) → IsSafe s.resources → (u : Update) → is_formed u ≡ true → (b : Bool) → is_second_local s.resources u ≡ b → IsSafe (step s (if b then Err (Read (Unsupported (codes "spec.node"))) else Ok (command.Update u))).resources
+untaken-safe : (s : State) → IsSafe s.digest s.resources → (u : Update) → is_formed u ≡ true → is_second_local s.resources u ≡ false → (o : Option Clash) → clash s.digest s.resources u ≡ o → IsSafe s.digest (step s (unless_taken o u)).resources
+untaken-safe s safe u formed first (Some c) is = safe
+untaken-safe s safe u formed first None is = record {
+  formed = are_formed-after s.resources safe.formed u formed;
+  lone = lone-after s.resources safe.lone u first;
+  free = clash_free_after s.digest s.resources u formed safe.free is;
+}
+
+updated-safe : (s : State) → IsSafe s.digest s.resources → (u : Update) → is_formed u ≡ true → (b : Bool) → is_second_local s.resources u ≡ b → IsSafe s.digest (step s (if b then Err (Read (Unsupported (codes "spec.node"))) else unless_taken (clash s.digest s.resources u) u)).resources
 updated-safe s safe u formed true is = safe
-updated-safe s safe u formed false is = record { formed = are_formed-after s.resources safe.formed u formed; lone = lone-after s.resources safe.lone u is }
+updated-safe s safe u formed false is = untaken-safe s safe u formed is (clash s.digest s.resources u) refl
 
-stepped-safe : (s : State) → IsSafe s.resources → (said : Result Command Refusal) → IfOk said (λ c. is_formed_command c ≡ true) → IsSafe (step s (checked s.resources said)).resources
+stepped-safe : (s : State) → IsSafe s.digest s.resources → (said : Result Command Refusal) → IfOk said (λ c. is_formed_command c ≡ true) → IsSafe s.digest (step s (checked s.digest s.resources said)).resources
 stepped-safe s safe (Ok command.Blank) formed = safe
 stepped-safe s safe (Ok command.Tables) formed = safe
 stepped-safe s safe (Ok command.Flush) formed = safe
@@ -94,25 +111,41 @@ stepped-safe s safe (Ok (command.Update u)) formed = updated-safe s safe u forme
 stepped-safe s safe (Ok (command.Packet a)) formed = safe
 stepped-safe s safe (Err r) formed = safe
 
-along-safe : (s : State) (lines : List (List ℕ)) → IsSafe s.resources → IsSafe (state_after next s lines).resources
+-- the digest stays
+accepted-digest : (s : State) (c : Command) → (accepted s c).digest ≡ s.digest
+accepted-digest s command.Blank = refl
+accepted-digest s command.Tables = refl
+accepted-digest s command.Flush = refl
+accepted-digest s (command.Update u) = refl
+accepted-digest s (command.Packet a) = refl
+
+step-digest : (s : State) (r : Result Command Refusal) → (step s r).digest ≡ s.digest
+step-digest s (Ok c) = accepted-digest (record s { lines = s.lines + 1 }) c
+step-digest s (Err r) = refl
+
+next-safe : (s : State) → IsSafe s.digest s.resources → (line : List ℕ) → IsSafe (next s line).digest (next s line).resources
+next-safe s safe line =
+    subst (λ dg. IsSafe dg (next s line).resources) (sym (step-digest s (answer_of s line))) (stepped-safe s safe (command_of line) (command_of-formed line))
+
+along-safe : (s : State) (lines : List (List ℕ)) → IsSafe s.digest s.resources → IsSafe (state_after next s lines).digest (state_after next s lines).resources
 unfolding state_after
 along-safe s [] safe = safe
-along-safe s (line ∷ lines) safe = along-safe (next s line) lines (stepped-safe s safe (command_of line) (command_of-formed line))
+along-safe s (line ∷ lines) safe = along-safe (next s line) lines (next-safe s safe line)
 
 -- ---- after a flush
 
-told_policy : (s : State) → IsSafe s.resources → (line : List ℕ) (a : Packet) → answer_of s line ≡ Ok (command.Packet a) → a.state ≡ New → s.sent ≡ view_of s.resources → TellsPolicy s line a
+told_policy : (s : State) → IsSafe s.digest s.resources → (line : List ℕ) (a : Packet) → answer_of s line ≡ Ok (command.Packet a) → a.state ≡ New → s.sent ≡ view_of s.digest s.resources → TellsPolicy s line a
 told_policy s safe line a said new same =
     let run : Ended Trace = packet_run (tables_of s.sent) a in
     let noted : Trace = noted_in run in
     let answer : Outcome = packet_verdict s.resources a in
-    let ranked : IsRanked (tables_of s.sent).chains = subst (λ (v : View). IsRanked (tables_of v).chains) (sym same) (ranked-tables (view_of s.resources) (view_of-closed s.resources)) in
+    let ranked : IsRanked (tables_of s.sent).chains = subst (λ (v : View). IsRanked (tables_of v).chains) (sym same) (ranked-tables (view_of s.digest s.resources) (view_of-closed s.digest s.resources)) in
     let traces : Traces (tables_of s.sent) a [] noted.hops (verdict_of run) noted.reasons.egress noted.reasons.ingress =
     (noted.reasons.side, ended-run hops_and_reasons (holds (tables_of s.sent).sets a) (tables_of s.sent).chains ranked nothing_traced) in
     let decides : Decides (tables_of s.sent) a (verdict_of run) noted.reasons.egress noted.reasons.ingress =
     traced_decides (tables_of s.sent) a ranked [] noted.hops (verdict_of run) noted.reasons.egress noted.reasons.ingress traces in
     let wanted : Decides (tables_of s.sent) a answer.verdict answer.egress answer.ingress =
-    subst (λ (v : View). Decides (tables_of v) a answer.verdict answer.egress answer.ingress) (sym same) (policy_is_kept s.resources a (lone_local s.resources safe.formed safe.lone) new) in
+    subst (λ (v : View). Decides (tables_of v) a answer.verdict answer.egress answer.ingress) (sym same) (policy_is_kept s.digest s.resources a (lone_local s.digest s.resources safe.formed safe.lone safe.free) new) in
     let one = run_has_one_end (tables_of s.sent) a (verdict_of run) answer.verdict noted.reasons.egress answer.egress noted.reasons.ingress answer.ingress decides wanted in
     record {
       path = noted.hops;
@@ -122,5 +155,5 @@ told_policy s safe line a said new same =
           ∙ ap (λ (i : Option Reason). concat (packet_lines noted.hops a.iface_in a.iface_out answer.egress i answer.verdict)) one.2;
     }
 
-pub keeps_policy : (node : List ℕ) → KeepsPolicy node
-keeps_policy node lines line a said new same = told_policy (state_after next (start node) lines) (along-safe (start node) lines (start-safe node)) line a said new same
+pub keeps_policy : (dg : Digest) (node : List ℕ) → KeepsPolicy dg node
+keeps_policy dg node lines line a said new same = told_policy (state_after next (start dg node) lines) (along-safe (start dg node) lines (start-safe dg node)) line a said new same

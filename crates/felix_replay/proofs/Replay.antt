@@ -8,6 +8,7 @@ use Rattle.fx_base.specs.Streams.{Gives, AppendsFront}
 use Rattle.fx_base.proofs.Compose.{Appends-more, AppendsFront-all, AppendsFront-after, AppendsFront-longer, Gives-more, Gives-none}
 use Rattle.fx_lines.specs.Reading.{HasRead}
 use Rattle.fx_lines.proofs.Cuts.{answerable-lines, nothing_given}
+use Rattle.fx_names.specs.Digests.{Digest}
 use Rattle.felix_replay.specs.Top.{Stopped}
 use Rattle.felix_replay.specs.Run.{state_after, written}
 use Rattle.fx_json.specs.declared.refusal.Refusal.{Refusal}
@@ -16,52 +17,52 @@ use Rattle.fx_lines.specs.declared.commands.Command.TheVariants as command
 use Rattle.felix_replay.specs.Output.{State, start, next, step, text, output}
 use Rattle.felix_replay.proofs.Runs.{state_after-push, written-push, written-append}
 
-module _ (node : List ℕ) (lines : List (List ℕ)) (line bytes : List ℕ) (s : State) (is : s ≡ state_after next (start node) lines) (same : bytes ≡ line) where
-  pub state_more : (now : State) → now ≡ next s bytes → now ≡ state_after next (start node) (lines ++ line ∷ [])
-  state_more now e = e ∙ ap (λ (b : List ℕ). next s b) same ∙ ap (λ (t : State). next t line) is ∙ sym (state_after-push next (start node) lines line)
+module _ (dg : Digest) (node : List ℕ) (lines : List (List ℕ)) (line bytes : List ℕ) (s : State) (is : s ≡ state_after next (start dg node) lines) (same : bytes ≡ line) where
+  pub state_more : (now : State) → now ≡ next s bytes → now ≡ state_after next (start dg node) (lines ++ line ∷ [])
+  state_more now e = e ∙ ap (λ (b : List ℕ). next s b) same ∙ ap (λ (t : State). next t line) is ∙ sym (state_after-push next (start dg node) lines line)
 
-  pub output_more : (a b c : Option (List ℕ)) → Appends a b (written next text (start node) lines) → Appends b c (text s bytes) → Appends a c (written next text (start node) (lines ++ line ∷ []))
+  pub output_more : (a b c : Option (List ℕ)) → Appends a b (written next text (start dg node) lines) → Appends b c (text s bytes) → Appends a c (written next text (start dg node) (lines ++ line ∷ []))
   output_more a b c p q =
-      let e : written next text (start node) lines ++ text s bytes ≡ written next text (start node) (lines ++ line ∷ []) =
-      ap (λ (b : List ℕ). written next text (start node) lines ++ text s b) same
-      ∙ ap (λ (t : State). written next text (start node) lines ++ text t line) is
-      ∙ sym (written-push next text (start node) lines line) in
-      subst (Appends a c) e (Appends-more a b c (written next text (start node) lines) (text s bytes) p q)
+      let e : written next text (start dg node) lines ++ text s bytes ≡ written next text (start dg node) (lines ++ line ∷ []) =
+      ap (λ (b : List ℕ). written next text (start dg node) lines ++ text s b) same
+      ∙ ap (λ (t : State). written next text (start dg node) lines ++ text t line) is
+      ∙ sym (written-push next text (start dg node) lines line) in
+      subst (Appends a c) e (Appends-more a b c (written next text (start dg node) lines) (text s bytes) p q)
 
 -- what the lines write is a front of what bytes with these lines at their front write
-front_of : (node : List ℕ) (bytes : List ℕ) (lines rest : List (List ℕ)) (before now : Option (List ℕ)) → lines_of bytes ≡ lines ++ rest → AppendsFront before now (written next text (start node) lines) → AppendsFront before now (output node bytes)
-front_of node bytes lines rest before now is wrote =
-    subst (AppendsFront before now) (sym (ap (λ (l : List (List ℕ)). written next text (start node) l) is ∙ written-append next text (start node) lines rest))
-    (AppendsFront-longer before now (written next text (start node) lines) (written next text (state_after next (start node) lines) rest) wrote)
+front_of : (dg : Digest) (node : List ℕ) (bytes : List ℕ) (lines rest : List (List ℕ)) (before now : Option (List ℕ)) → lines_of bytes ≡ lines ++ rest → AppendsFront before now (written next text (start dg node) lines) → AppendsFront before now (output dg node bytes)
+front_of dg node bytes lines rest before now is wrote =
+    subst (AppendsFront before now) (sym (ap (λ (l : List (List ℕ)). written next text (start dg node) l) is ∙ written-append next text (start dg node) lines rest))
+    (AppendsFront-longer before now (written next text (start dg node) lines) (written next text (state_after next (start dg node) lines) rest) wrote)
 
 -- a run that ends with a fault of the reader, which took one more piece
-pub stopped_between : (node : List ℕ) (left_before left left_now : Option (List ℕ)) (given_before given given_now : ℕ) (held : List ℕ) (ended ended_now : Bool) (lines : List (List ℕ)) (piece : List ℕ) (out_before out_now : Option (List ℕ))
-    → HasRead left_before left given_before given held ended lines → Gives left left_now given given_now piece → (ended ≡ true → (given_now ≡ given) × (ended_now ≡ true)) → Appends out_before out_now (written next text (start node) lines)
-    → Stopped node left_before left_now given_before given_now ended_now out_before out_now
-stopped_between node left_before left left_now given_before given given_now held ended ended_now lines piece out_before out_now was gives quiet wrote =
+pub stopped_between : (dg : Digest) (node : List ℕ) (left_before left left_now : Option (List ℕ)) (given_before given given_now : ℕ) (held : List ℕ) (ended ended_now : Bool) (lines : List (List ℕ)) (piece : List ℕ) (out_before out_now : Option (List ℕ))
+    → HasRead left_before left given_before given held ended lines → Gives left left_now given given_now piece → (ended ≡ true → (given_now ≡ given) × (ended_now ≡ true)) → Appends out_before out_now (written next text (start dg node) lines)
+    → Stopped dg node left_before left_now given_before given_now ended_now out_before out_now
+stopped_between dg node left_before left left_now given_before given given_now held ended ended_now lines piece out_before out_now was gives quiet wrote =
     let more = answerable-lines was.taken held piece ended ended_now lines was.cut (λ end. (nothing_given left left_now given given_now piece gives (quiet end).0, (quiet end).1)) in
     record {
       taken = was.taken ++ piece;
       gives = Gives-more left_before left left_now given_before given given_now was.taken piece was.gives gives;
-      output = front_of node (answerable ended_now (was.taken ++ piece)) lines more.0 out_before out_now more.1
-          (subst (AppendsFront out_before out_now) (append-nil (written next text (start node) lines)) (AppendsFront-all out_before out_now (written next text (start node) lines) [] wrote));
+      output = front_of dg node (answerable ended_now (was.taken ++ piece)) lines more.0 out_before out_now more.1
+          (subst (AppendsFront out_before out_now) (append-nil (written next text (start dg node) lines)) (AppendsFront-all out_before out_now (written next text (start dg node) lines) [] wrote));
     }
 
 -- a run that ends within the answer to a line
-pub stopped_within : (node : List ℕ) (left_before left_now : Option (List ℕ)) (given_before given_now : ℕ) (held : List ℕ) (ended ended_now : Bool) (lines : List (List ℕ)) (line bytes : List ℕ) (s : State) (out_before out out_now : Option (List ℕ))
-    → HasRead left_before left_now given_before given_now held ended (lines ++ line ∷ []) → ended_now ≡ ended → s ≡ state_after next (start node) lines → bytes ≡ line
-    → Appends out_before out (written next text (start node) lines) → AppendsFront out out_now (text s bytes) → Stopped node left_before left_now given_before given_now ended_now out_before out_now
-stopped_within node left_before left_now given_before given_now held ended ended_now lines line bytes s out_before out out_now was now is same wrote stop =
+pub stopped_within : (dg : Digest) (node : List ℕ) (left_before left_now : Option (List ℕ)) (given_before given_now : ℕ) (held : List ℕ) (ended ended_now : Bool) (lines : List (List ℕ)) (line bytes : List ℕ) (s : State) (out_before out out_now : Option (List ℕ))
+    → HasRead left_before left_now given_before given_now held ended (lines ++ line ∷ []) → ended_now ≡ ended → s ≡ state_after next (start dg node) lines → bytes ≡ line
+    → Appends out_before out (written next text (start dg node) lines) → AppendsFront out out_now (text s bytes) → Stopped dg node left_before left_now given_before given_now ended_now out_before out_now
+stopped_within dg node left_before left_now given_before given_now held ended ended_now lines line bytes s out_before out out_now was now is same wrote stop =
     let more = answerable-lines was.taken held [] ended ended_now (lines ++ line ∷ []) was.cut (λ end. (refl, now ∙ end)) in
-    let e : written next text (start node) lines ++ text s bytes ≡ written next text (start node) (lines ++ line ∷ []) =
-    ap (λ (b : List ℕ). written next text (start node) lines ++ text s b) same
-    ∙ ap (λ (t : State). written next text (start node) lines ++ text t line) is
-    ∙ sym (written-push next text (start node) lines line) in
+    let e : written next text (start dg node) lines ++ text s bytes ≡ written next text (start dg node) (lines ++ line ∷ []) =
+    ap (λ (b : List ℕ). written next text (start dg node) lines ++ text s b) same
+    ∙ ap (λ (t : State). written next text (start dg node) lines ++ text t line) is
+    ∙ sym (written-push next text (start dg node) lines line) in
     record {
       taken = was.taken ++ [];
       gives = Gives-more left_before left_now left_now given_before given_now given_now was.taken [] was.gives (Gives-none left_now given_now);
-      output = front_of node (answerable ended_now (was.taken ++ [])) (lines ++ line ∷ []) more.0 out_before out_now more.1
-          (subst (AppendsFront out_before out_now) e (AppendsFront-after out_before out out_now (written next text (start node) lines) (text s bytes) wrote stop));
+      output = front_of dg node (answerable ended_now (was.taken ++ [])) (lines ++ line ∷ []) more.0 out_before out_now more.1
+          (subst (AppendsFront out_before out_now) e (AppendsFront-after out_before out out_now (written next text (start dg node) lines) (text s bytes) wrote stop));
     }
 
 -- each line is counted

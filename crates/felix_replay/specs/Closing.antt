@@ -14,7 +14,7 @@ use Rattle.felix_replay.specs.Output.{State, answer_of, next}
 abbrev pub views_in : State → Result Command Refusal → List View
 views_in s (Ok command.Blank) = []
 views_in s (Ok command.Tables) = []
-views_in s (Ok command.Flush) = sent_views (flush s.sent (view_of s.resources)) s.sent (view_of s.resources)
+views_in s (Ok command.Flush) = sent_views (flush s.sent (view_of s.digest s.resources)) s.sent (view_of s.digest s.resources)
 views_in s (Ok (command.Update u)) = []
 views_in s (Ok (command.Packet a)) = []
 views_in s (Err r) = []

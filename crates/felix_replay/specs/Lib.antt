@@ -6,6 +6,7 @@ pub mod Output
 pub mod Stops
 pub mod Writing
 pub mod Engine
+pub mod Fitting
 pub mod Top
 pub mod Closing
 pub mod Policed

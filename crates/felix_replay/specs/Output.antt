@@ -11,11 +11,14 @@ use Rattle.fx_model.specs.declared.resources.Update.TheVariants as update
 use Rattle.fx_model.specs.declared.resources.Resources.{Resources}
 use Rattle.fx_model.specs.declared.view.View.{View}
 use Rattle.fx_model.specs.Resources.{after, is_local}
+use Rattle.fx_names.specs.Digests.{Digest}
+use Rattle.fx_names.specs.Claims.{Clash}
+use Rattle.fx_model.specs.Claims.{clash}
 use Rattle.fx_model.specs.Views.{view_of, empty_view}
 use Rattle.fx_model.specs.Tables.{tables_of}
 use Rattle.fx_model.specs.Messages.{Change, flush}
 use Rattle.fx_json.specs.declared.refusal.Refusal.{Refusal}
-use Rattle.fx_json.specs.declared.refusal.Refusal.TheVariants.{Read}
+use Rattle.fx_json.specs.declared.refusal.Refusal.TheVariants.{Read, Taken}
 use Rattle.fx_json.specs.declared.fault.ReadFault.TheVariants.{Unsupported}
 use Rattle.fx_lines.specs.declared.commands.Command.{Command}
 use Rattle.fx_lines.specs.declared.commands.Command.TheVariants as command
@@ -27,16 +30,19 @@ use Rattle.fx_print.specs.TableTexts.{table_lines}
 use Rattle.felix_replay.specs.PacketRuns.{packet_text}
 use Rattle.felix_replay.specs.Run.{state_after, written}
 
--- what stands between two lines: the resources, the view that was sent, how many lines there were and whether one was refused
+-- what stands between two lines: the digest by which names are made, which stays, the resources, the view that was sent, how many
+-- lines there were and whether one was refused
 pub record State : Type 0 where
+  pub digest : Digest
   pub resources : Resources
   pub sent : View
   pub lines : ℕ
   pub refused : Bool
 
 -- before the first line of the node of this name
-abbrev pub start : List ℕ → State
-start node = record {
+abbrev pub start : Digest → List ℕ → State
+start dg node = record {
+  digest = dg;
   resources = record { node = node; in_sync = false; endpoints = maps.empty; profiles = maps.empty };
   sent = empty_view;
   lines = 0;
@@ -53,27 +59,32 @@ is_second_local R (update.Put (key.Item k) (item.Profile p)) = false
 is_second_local R (update.Put (key.Profile name) x) = false
 is_second_local R (update.Delete k) = false
 
-abbrev pub update_answer : Resources → Update → Result Command Refusal
-update_answer R u = if is_second_local R u then Err (Read (Unsupported (codes "spec.node"))) else Ok (command.Update u)
+-- an update whose claims clash is refused, with the first clash
+abbrev pub unless_taken : Option Clash → Update → Result Command Refusal
+unless_taken None u = Ok (command.Update u)
+unless_taken (Some c) u = Err (Taken c.name c.holder)
 
-abbrev pub checked : Resources → Result Command Refusal → Result Command Refusal
-checked R (Ok command.Blank) = Ok command.Blank
-checked R (Ok command.Tables) = Ok command.Tables
-checked R (Ok command.Flush) = Ok command.Flush
-checked R (Ok (command.Update u)) = update_answer R u
-checked R (Ok (command.Packet a)) = Ok (command.Packet a)
-checked R (Err r) = Err r
+abbrev pub update_answer : Digest → Resources → Update → Result Command Refusal
+update_answer dg R u = if is_second_local R u then Err (Read (Unsupported (codes "spec.node"))) else unless_taken (clash dg R u) u
+
+abbrev pub checked : Digest → Resources → Result Command Refusal → Result Command Refusal
+checked dg R (Ok command.Blank) = Ok command.Blank
+checked dg R (Ok command.Tables) = Ok command.Tables
+checked dg R (Ok command.Flush) = Ok command.Flush
+checked dg R (Ok (command.Update u)) = update_answer dg R u
+checked dg R (Ok (command.Packet a)) = Ok (command.Packet a)
+checked dg R (Err r) = Err r
 
 -- the command or the refusal of a line
 abbrev pub answer_of : State → List ℕ → Result Command Refusal
-answer_of s line = checked s.resources (command_of line)
+answer_of s line = checked s.digest s.resources (command_of line)
 
 -- ---- what a line does
 
 abbrev pub accepted : State → Command → State
 accepted s command.Blank = s
 accepted s command.Tables = s
-accepted s command.Flush = record s { sent = view_of s.resources }
+accepted s command.Flush = record s { sent = view_of s.digest s.resources }
 accepted s (command.Update u) = record s { resources = after s.resources u }
 accepted s (command.Packet a) = s
 
@@ -106,7 +117,7 @@ flush_text sent wanted = messages_text sent wanted ++ flushed_line (told_count s
 abbrev pub command_text : State → Command → List ℕ
 command_text s command.Blank = []
 command_text s command.Tables = concat (table_lines (tables_of s.sent))
-command_text s command.Flush = flush_text s.sent (view_of s.resources)
+command_text s command.Flush = flush_text s.sent (view_of s.digest s.resources)
 command_text s (command.Update u) = []
 command_text s (command.Packet a) = packet_text (tables_of s.sent) a
 
@@ -119,8 +130,8 @@ text s line = answer_text s (answer_of s line)
 
 -- ---- the whole output
 
-abbrev pub output : List ℕ → List ℕ → List ℕ
-output node bytes = written next text (start node) (lines_of bytes)
+abbrev pub output : Digest → List ℕ → List ℕ → List ℕ
+output dg node bytes = written next text (start dg node) (lines_of bytes)
 
-abbrev pub is_refused : List ℕ → List ℕ → Bool
-is_refused node bytes = (state_after next (start node) (lines_of bytes)).refused
+abbrev pub is_refused : Digest → List ℕ → List ℕ → Bool
+is_refused dg node bytes = (state_after next (start dg node) (lines_of bytes)).refused

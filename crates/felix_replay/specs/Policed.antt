@@ -7,6 +7,7 @@ use Rattle.fx_model.specs.declared.packet.State.TheVariants.{New}
 use Rattle.fx_model.specs.declared.resources.Resources.{Resources}
 use Rattle.fx_model.specs.Policy.{packet_verdict}
 use Rattle.fx_model.specs.Tables.{ChainName}
+use Rattle.fx_names.specs.Digests.{Digest}
 use Rattle.fx_model.specs.Views.{view_of}
 use Rattle.fx_lines.specs.declared.commands.Command.TheVariants as command
 use Rattle.fx_print.specs.PacketTexts.{packet_lines}
@@ -23,7 +24,7 @@ pub record TellsPolicy (s : State) (line : List ℕ) (a : Packet) : Type 0 where
   pub told : text s line ≡ concat (policy_lines path s.resources a)
 
 -- after any lines, a line with a first packet is answered so
-abbrev pub KeepsPolicy : List ℕ → Type 0
-KeepsPolicy node =
-    (lines : List (List ℕ)) (line : List ℕ) (a : Packet) → let s = state_after next (start node) lines in
-    answer_of s line ≡ Ok (command.Packet a) → a.state ≡ New → s.sent ≡ view_of s.resources → TellsPolicy s line a
+abbrev pub KeepsPolicy : Digest → List ℕ → Type 0
+KeepsPolicy dg node =
+    (lines : List (List ℕ)) (line : List ℕ) (a : Packet) → let s = state_after next (start dg node) lines in
+    answer_of s line ≡ Ok (command.Packet a) → a.state ≡ New → s.sent ≡ view_of s.digest s.resources → TellsPolicy s line a

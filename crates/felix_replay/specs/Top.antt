@@ -5,22 +5,23 @@ use Rattle.fx_base.specs.Streams.{Gives, AppendsFront}
 use Rattle.felix_replay.specs.declared.top.Status.{Status}
 use Rattle.felix_replay.specs.declared.top.Status.TheVariants.{Done, Refused, Usage, ReadFault, WriteFault, Memory, InputTooLong}
 use Rattle.fx_lines.specs.Lines.{answerable}
+use Rattle.fx_names.specs.Digests.{Digest}
 use Rattle.felix_replay.specs.Output.{output, is_refused}
 
 -- The input was read to its end, and the output is the definition's. The input is all that the source had left, where it tells.
-pub record Ran (node : List ℕ) (left_before left_now : Option (List ℕ)) (given_before given_now : ℕ) (ended : Bool) (held_before held_now : Option (List ℕ)) (refused : Bool) : Type 0 where
+pub record Ran (dg : Digest) (node : List ℕ) (left_before left_now : Option (List ℕ)) (given_before given_now : ℕ) (ended : Bool) (held_before held_now : Option (List ℕ)) (refused : Bool) : Type 0 where
   pub input : List ℕ
   pub gives : Gives left_before left_now given_before given_now input
   pub end : ended ≡ true
   pub all : IsAtEnd left_now
-  pub output : Appends held_before held_now (output node input)
-  pub status : refused ≡ is_refused node input
+  pub output : Appends held_before held_now (output dg node input)
+  pub status : refused ≡ is_refused dg node input
 
 -- The run ended early. The output is a front of the definition's: for all that was taken once the end was met, else for its whole lines.
-pub record Stopped (node : List ℕ) (left_before left_now : Option (List ℕ)) (given_before given_now : ℕ) (ended : Bool) (held_before held_now : Option (List ℕ)) : Type 0 where
+pub record Stopped (dg : Digest) (node : List ℕ) (left_before left_now : Option (List ℕ)) (given_before given_now : ℕ) (ended : Bool) (held_before held_now : Option (List ℕ)) : Type 0 where
   pub taken : List ℕ
   pub gives : Gives left_before left_now given_before given_now taken
-  pub output : AppendsFront held_before held_now (output node (answerable ended taken))
+  pub output : AppendsFront held_before held_now (output dg node (answerable ended taken))
 
 -- the statuses of a run that ended early
 abbrev pub IsStop : Status → Type 0
@@ -43,5 +44,5 @@ HasRun Memory = ⊥
 HasRun InputTooLong = ⊥
 
 -- how a run over these bytes ends
-abbrev pub output_status : List ℕ → List ℕ → Status
-output_status node input = if is_refused node input then Refused else Done
+abbrev pub output_status : Digest → List ℕ → List ℕ → Status
+output_status dg node input = if is_refused dg node input then Refused else Done

@@ -3,7 +3,7 @@ ghost use Rattle.std.specs.Prelude.{◌≡◌, ◌≤◌, ◌++◌, [], ◌∷�
 ghost use Rattle.std.specs.List.{list_all, flat_map};
 ghost use Rattle.std.specs.FinMap as maps;
 ghost use Rattle.fx_model.specs.Tables.{policy_jumps, endpoint_rules, dispatch_rules, forward, forward_rules, policy_chain, profile_chain, endpoint_chain, root_of};
-ghost use Rattle.fx_model.specs.Formed.{is_formed_profile_name, is_formed_view_endpoint};
+ghost use Rattle.fx_model.specs.Formed.{is_formed_profile_key, is_formed_view_endpoint};
 ghost use Rattle.fx_rules.specs.Rules.{direction_of};
 ghost use Rattle.felix_replay.specs.Rendering.{policy_jump, one_tier, profile_jump, state_rules, dispatch_goto};
 
@@ -131,7 +131,7 @@ fn push_profile_jump(
     key: &NameKey,
     chain: &mut Seq<ChainRule>,
 ) -> Result<(), Memory>
-    requires { is_formed_profile_name key.now ≡ true }
+    requires { is_formed_profile_key key.now ≡ true }
     ensures { OnOk result (chain.new ≡ chain.old ++ profile_jump (direction_of ingress) key.now) }
 {
     let jump = Target::Jump(profile_name(ingress, key));
@@ -145,7 +145,7 @@ fn push_profile_jumps(
     keys: &Seq<NameKey>,
     chain: &mut Seq<ChainRule>,
 ) -> Result<(), Memory>
-    requires { list_all is_formed_profile_name keys.now ≡ true }
+    requires { list_all is_formed_profile_key keys.now ≡ true }
     ensures { OnOk result (chain.new ≡ chain.old ++ flat_map (profile_jump (direction_of ingress)) keys.now) }
 {
     for key in keys.as_slice() {
@@ -176,7 +176,7 @@ pub fn endpoint_chain(
     endpoint: &ViewEndpoint,
     ingress: bool,
 ) -> Result<Seq<ChainRule>, Memory>
-    requires { list_all is_formed_profile_name endpoint.now.profiles ≡ true }
+    requires { list_all is_formed_profile_key endpoint.now.profiles ≡ true }
     ensures { IfOk result (λ rules. rules ≡ endpoint_rules (direction_of ingress) endpoint.now) }
 {
     let tiers = if ingress {

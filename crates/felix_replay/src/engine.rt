@@ -2,17 +2,19 @@
 ghost use Rattle.std.specs.Prelude.{◌≡◌, ◌+◌, ◌-◌, ◌^◌, ◌<◌, ◌≤◌, ◌&&◌, not, OnOk, OnErr, IfOk, Ok, Err, true};
 ghost use Rattle.std.specs.List.{concat, list_any};
 ghost use Rattle.std.specs.FinMap as maps;
-ghost use Rattle.fx_model.specs.Formed.{is_formed};
+ghost use Rattle.fx_names.specs.Digests.{Digest};
+ghost use Rattle.fx_store.specs.Keeping.{KeepsClaims};
 ghost use Rattle.fx_model.specs.Resources.{after, is_local};
 ghost use Rattle.fx_model.specs.Tables.{tables_of};
 ghost use Rattle.fx_model.specs.Views.{view_of};
 ghost use Rattle.fx_model.specs.contracts.ids.ItemKeyPartialEq.TheImpl as item_eq;
 ghost use Rattle.fx_print.specs.Texts.{refusal_line, flushed_line};
 ghost use Rattle.fx_lines.specs.Formed.{is_formed_command};
-ghost use Rattle.felix_replay.specs.Output.{start, next, text, checked, update_answer, step, answer_text, is_second_local, flush_text, command_text};
+ghost use Rattle.felix_replay.specs.Output.{start, next, text, checked, update_answer, step, answer_text, is_second_local, flush_text};
+ghost use Rattle.fx_print.specs.TableTexts.{table_lines};
 ghost use Rattle.felix_replay.specs.PacketRuns.{packet_text};
+ghost use Rattle.felix_replay.specs.Fitting.{Fits};
 ghost use Rattle.fx_lines.specs.Commands.{command_of};
-ghost use Rattle.felix_replay.specs.Stops.{wants_memory, is_memory};
 ghost use Rattle.felix_replay.specs.Writing.{Writes};
 
 use crate::driver::tables_of;
@@ -22,16 +24,18 @@ use fx_base::{Memory, Sink, Text};
 use fx_json::{ReadFault, Refusal};
 use fx_lines::{Command, read_command};
 use fx_model::{Item, ItemKey, Key, Packet, Resources, Update, View, view_of};
+use fx_names::{Answers, DigestRule, Namer};
 use fx_print::{flushed_text, packet_texts, refusal_text, tables_text};
+use fx_store::{CheckFault, Store};
 use fx_tables::Tables;
 use fx_walk::trace;
 use std::alloc::Global;
 
-/// The resources of a node, the view that was sent and its tables, and the number of lines so far.
+/// The resources of a node and what they claim, the view that was sent and its tables, and the number of lines so far.
 #[derive(Drop)]
 pub struct Engine {
     alloc: Global,
-    pub resources: Resources,
+    pub store: Store,
     pub sent: View,
     pub tables: Tables,
     pub lines: u64,
@@ -39,17 +43,17 @@ pub struct Engine {
 }
 
 impl Engine {
-    ghost use Rattle.felix_replay.specs.Engine.{state_of, IsKept};
+    ghost use Rattle.felix_replay.specs.Engine.{state_of, IsKept, IsRendered};
 
     pub fn new(alloc: Global, node: Text) -> Result<Engine, Memory>
-        ensures state { IfOk result (λ e. state_of e ≡ start node) }
-        ensures kept { IfOk result IsKept }
+        ensures state { IfOk result (λ e. (dg : Digest) → state_of dg e ≡ start dg node) }
+        ensures kept { IfOk result (λ e. (dg : Digest) → IsKept dg e) }
     {
         let sent = View::new(alloc);
         let tables = tables_of(alloc, &sent)?;
         Ok(Engine {
             alloc,
-            resources: Resources::new(alloc, node),
+            store: Store::new(alloc, node),
             sent,
             tables,
             lines: 0,
@@ -58,58 +62,72 @@ impl Engine {
     }
 
     /// Answers the next line.
-    pub fn answer<K: Sink>(&mut self, line: &[u8], sink: &mut K) -> Result<(), Stop>
-        requires kept { IsKept self.old }
+    pub fn answer<K: Sink, R: DigestRule, F: Answers<R> + Drop>(
+        &mut self,
+        line: &[u8],
+        namer: &Namer<R, F>,
+        sink: &mut K,
+    ) -> Result<(), Stop>
+        requires kept { IsKept R.digest_of self.old }
         requires few { self.old.lines < 2 ^ 64 - 1 }
-        ensures kept { OnOk result (IsKept self.new) }
-        ensures state { OnOk result (state_of self.new ≡ next (state_of self.old) line.now) }
-        ensures writes { Writes (K.held sink.old) (K.held sink.new) (K.faults sink.old) (K.faults sink.new) (text (state_of self.old) line.now) result }
+        ensures kept { OnOk result (IsKept R.digest_of self.new) }
+        ensures state { OnOk result (state_of R.digest_of self.new ≡ next (state_of R.digest_of self.old) line.now) }
+        ensures writes { Writes (K.held sink.old) (K.held sink.new) (K.faults sink.old) (K.faults sink.new) (text (state_of R.digest_of self.old) line.now) result }
     {
         let said = command_in(self.alloc, line)?;
-        let answer = checked(self.alloc, &self.resources, said)?;
-        self.obey(answer, sink)
+        let answer = checked(self.alloc, &self.store, said, namer)?;
+        self.obey(answer, namer, sink)
     }
 
-    fn obey<K: Sink>(&mut self, answer: Result<Command, Refusal>, sink: &mut K) -> Result<(), Stop>
-        requires kept { IsKept self.old }
+    fn obey<K: Sink, R: DigestRule, F: Answers<R> + Drop>(
+        &mut self,
+        answer: Result<Command, Refusal>,
+        namer: &Namer<R, F>,
+        sink: &mut K,
+    ) -> Result<(), Stop>
+        requires kept { IsKept R.digest_of self.old }
         requires few { self.old.lines < 2 ^ 64 - 1 }
-        requires formed { IfOk answer (λ c. is_formed_command c ≡ true) }
-        ensures kept { OnOk result (IsKept self.new) }
-        ensures state { OnOk result (state_of self.new ≡ step (state_of self.old) answer) }
-        ensures writes { Writes (K.held sink.old) (K.held sink.new) (K.faults sink.old) (K.faults sink.new) (answer_text (state_of self.old) answer) result }
+        requires fits { IfOk answer (Fits R.digest_of self.old.store.resources) }
+        ensures kept { OnOk result (IsKept R.digest_of self.new) }
+        ensures state { OnOk result (state_of R.digest_of self.new ≡ step (state_of R.digest_of self.old) answer) }
+        ensures writes { Writes (K.held sink.old) (K.held sink.new) (K.faults sink.old) (K.faults sink.new) (answer_text (state_of R.digest_of self.old) answer) result }
     {
         self.lines += 1;
         match answer {
             Ok(Command::Blank) => Ok(()),
             Ok(Command::Tables) => self.put_tables(sink),
-            Ok(Command::Flush) => self.flush(sink),
-            Ok(Command::Update(update)) => Ok(self.apply(update)?),
+            Ok(Command::Flush) => self.flush(namer, sink),
+            Ok(Command::Update(update)) => Ok(self.apply(update, namer)?),
             Ok(Command::Packet(packet)) => self.put_packet(&packet, sink),
             Err(refusal) => self.refuse(&refusal, sink),
         }
     }
 
-    fn apply(&mut self, update: Update) -> Result<(), Memory>
-        requires kept { IsKept self.old }
-        requires formed { is_formed update ≡ true }
-        ensures kept { OnOk result (IsKept self.new) }
-        ensures state { OnOk result (state_of self.new ≡ record (state_of self.old) { resources = after self.old.resources update }) }
+    fn apply<R: DigestRule, F: Answers<R> + Drop>(
+        &mut self,
+        update: Update,
+        namer: &Namer<R, F>,
+    ) -> Result<(), Memory>
+        requires kept { IsKept R.digest_of self.old }
+        requires fits { Fits R.digest_of self.old.store.resources (Command.Update update) }
+        ensures kept { OnOk result (IsKept R.digest_of self.new) }
+        ensures state { OnOk result (state_of R.digest_of self.new ≡ record (state_of R.digest_of self.old) { resources = after self.old.store.resources update }) }
     {
-        self.resources.apply(update)?;
+        self.store.apply(update, namer)?;
         Ok(())
     }
 
     fn put_tables<K: Sink>(&self, sink: &mut K) -> Result<(), Stop>
-        requires kept { IsKept self.now }
-        ensures writes { Writes (K.held sink.old) (K.held sink.new) (K.faults sink.old) (K.faults sink.new) (command_text (state_of self.now) Command.Tables) result }
+        requires rendered { IsRendered self.now }
+        ensures writes { Writes (K.held sink.old) (K.held sink.new) (K.faults sink.old) (K.faults sink.new) (concat (table_lines (tables_of self.now.sent))) result }
     {
         let lines = tables_text(self.alloc, self.tables.sets(), self.tables.chains())?;
         put_all(&lines, sink)
     }
 
     fn put_packet<K: Sink>(&self, packet: &Packet, sink: &mut K) -> Result<(), Stop>
-        requires kept { IsKept self.now }
-        ensures writes { Writes (K.held sink.old) (K.held sink.new) (K.faults sink.old) (K.faults sink.new) (command_text (state_of self.now) (Command.Packet packet.now)) result }
+        requires rendered { IsRendered self.now }
+        ensures writes { Writes (K.held sink.old) (K.held sink.new) (K.faults sink.old) (K.faults sink.new) (packet_text (tables_of self.now.sent) packet.now) result }
     {
         let lines = self.decided(packet)?;
         put_all(&lines, sink)
@@ -118,7 +136,7 @@ impl Engine {
     // What the tables decide on a packet, and why.
     #[tactic(auto, using(crate::proofs::Policing::kept_first, crate::proofs::Policing::kept_text))]
     fn decided(&self, packet: &Packet) -> Result<Vec<Text>, Memory>
-        requires kept { IsKept self.now }
+        requires rendered { IsRendered self.now }
         ensures { IfOk result (λ lines. concat lines.items ≡ packet_text (tables_of self.now.sent) packet.now) }
     {
         let mut path = Vec::new(self.alloc);
@@ -144,13 +162,17 @@ impl Engine {
 
     // Sends what the wanted view has and the sent view hasn't, and renders it.
     #[tactic(auto, using(fx_base::proofs::AtKey::reads, crate::proofs::Policing::wanted_closed))]
-    fn flush<K: Sink>(&mut self, sink: &mut K) -> Result<(), Stop>
-        requires kept { IsKept self.old }
-        ensures kept { OnOk result (IsKept self.new) }
-        ensures state { OnOk result (state_of self.new ≡ record (state_of self.old) { sent = view_of self.old.resources }) }
-        ensures writes { Writes (K.held sink.old) (K.held sink.new) (K.faults sink.old) (K.faults sink.new) (flush_text self.old.sent (view_of self.old.resources)) result }
+    fn flush<K: Sink, R: DigestRule, F: Answers<R> + Drop>(
+        &mut self,
+        namer: &Namer<R, F>,
+        sink: &mut K,
+    ) -> Result<(), Stop>
+        requires kept { IsKept R.digest_of self.old }
+        ensures kept { OnOk result (IsKept R.digest_of self.new) }
+        ensures state { OnOk result (state_of R.digest_of self.new ≡ record (state_of R.digest_of self.old) { sent = view_of R.digest_of self.old.store.resources }) }
+        ensures writes { Writes (K.held sink.old) (K.held sink.new) (K.faults sink.old) (K.faults sink.new) (flush_text self.old.sent (view_of R.digest_of self.old.store.resources)) result }
     {
-        let wanted = view_of(self.alloc, &self.resources)?;
+        let wanted = view_of(self.alloc, self.store.resources(), namer)?;
         let tables = tables_of(self.alloc, &wanted)?;
         let count = send(self.alloc, &mut self.sent, &wanted, sink)?;
         self.tables = tables;
@@ -174,7 +196,7 @@ fn command_in(alloc: Global, line: &[u8]) -> Result<Result<Command, Refusal>, Me
     match read_command(alloc, line) {
         Ok(command) => Ok(Ok(command)),
         Err(refusal) => {
-            if wants_memory(&refusal) {
+            if refusal.is_memory() {
                 return Err(Memory);
             }
             Ok(Err(refusal))
@@ -182,50 +204,43 @@ fn command_in(alloc: Global, line: &[u8]) -> Result<Result<Command, Refusal>, Me
     }
 }
 
-fn wants_memory(refusal: &Refusal) -> bool
-    ensures { result ≡ wants_memory refusal.now }
-{
-    match refusal {
-        Refusal::Read(fault) => is_memory(fault),
-        Refusal::BadJson | Refusal::BadLine => false,
-    }
-}
-
-fn is_memory(fault: &ReadFault) -> bool
-    ensures { result ≡ is_memory fault.now }
-{
-    match fault {
-        ReadFault::Memory => true,
-        _ => false,
-    }
-}
-
-// A put of a second local endpoint is refused.
-fn checked(
+// A put of a second local endpoint is refused, and one whose claims clash.
+#[tactic(auto, using(crate::proofs::Checking::checked_fits))]
+fn checked<R: DigestRule, F: Answers<R> + Drop>(
     alloc: Global,
-    resources: &Resources,
+    store: &Store,
     said: Result<Command, Refusal>,
+    namer: &Namer<R, F>,
 ) -> Result<Result<Command, Refusal>, Memory>
-    ensures answer { IfOk result (λ answer. answer ≡ checked resources.now said) }
+    requires claims { KeepsClaims R.digest_of store.now }
+    requires formed { IfOk said (λ c. is_formed_command c ≡ true) }
+    ensures answer { IfOk result (λ answer. answer ≡ checked R.digest_of store.now.resources said) }
+    ensures fits { IfOk result (λ answer. IfOk answer (Fits R.digest_of store.now.resources)) }
 {
     match said {
-        Ok(Command::Update(update)) => checked_update(alloc, resources, update),
+        Ok(Command::Update(update)) => checked_update(alloc, store, update, namer),
         other => Ok(other),
     }
 }
 
-fn checked_update(
+fn checked_update<R: DigestRule, F: Answers<R> + Drop>(
     alloc: Global,
-    resources: &Resources,
+    store: &Store,
     update: Update,
+    namer: &Namer<R, F>,
 ) -> Result<Result<Command, Refusal>, Memory>
-    ensures { IfOk result (λ answer. answer ≡ update_answer resources.now update) }
+    requires claims { KeepsClaims R.digest_of store.now }
+    ensures { IfOk result (λ answer. answer ≡ update_answer R.digest_of store.now.resources update) }
 {
-    if is_second_local(resources, &update) {
+    if is_second_local(store.resources(), &update) {
         let path = Text::new(alloc, b"spec.node")?;
         return Ok(Err(Refusal::Read(ReadFault::Unsupported { path })));
     }
-    Ok(Ok(Command::Update(update)))
+    match store.check(&update, namer) {
+        Ok(()) => Ok(Ok(Command::Update(update))),
+        Err(CheckFault::Taken { name, holder }) => Ok(Err(Refusal::Taken { name, holder })),
+        Err(CheckFault::Memory) => Err(Memory),
+    }
 }
 
 fn is_second_local(resources: &Resources, update: &Update) -> bool

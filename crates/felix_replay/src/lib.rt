@@ -7,6 +7,8 @@ mod chains;
 mod driver;
 mod engine;
 #[cfg(test)]
+mod name_tests;
+#[cfg(test)]
 mod refusal_rows;
 #[cfg(test)]
 mod refusal_tests;

@@ -38,9 +38,9 @@ pub const ROWS: &str = r##"# lines
 {"put":{"apiVersion":"projectcalico.org/v3","kind":"Profile","metadata":{"name":"Az_.-9"},"spec":{}}}
 {"put":{"apiVersion":"projectcalico.org/v3","kind":"Profile","metadata":{"name":"123456789_123456789"},"spec":{}}}
 {"put":{"apiVersion":"projectcalico.org/v3","kind":"Profile","metadata":{"name":"_23456789_12345678"},"spec":{}}}
-{"put":{"apiVersion":"projectcalico.org/v3","kind":"Profile","metadata":{"name":"_23456789_123456789"},"spec":{}}} => refused 1 5 Unsupported metadata.name
-{"put":{"apiVersion":"projectcalico.org/v3","kind":"Profile","metadata":{"name":"123456789_123456789_"},"spec":[]}} => refused 1 5 Unsupported metadata.name
-{"put":{"apiVersion":"projectcalico.org/v3","kind":"Profile","metadata":{"name":"aaaaaaaaaaaaaaaaaaaaaaaaaaaaaaaaaaaaaaaaaaaaaaaaaaaaaaaaaaaaaaaaaaaaaaaaaaaaaaaaaaaaaaaaaaaaaaaaaaaaaaaaaaaaaaaaaaaaaaaaaaaaaaaaaaaaaaaaaaaaaaaaaaaaaaaaaaaaaaaaaaaaaaaaaaaaaaaaaaaaaaaaaaaaaaaaaaaaaaaaaaaaaaaaaaaaaaaaaaaaaaaaaaaaaaaaaaaaaaaaaaaaaaaaaaaaa"},"spec":{}}} => refused 1 5 Unsupported metadata.name
+{"put":{"apiVersion":"projectcalico.org/v3","kind":"Profile","metadata":{"name":"_23456789_123456789"},"spec":{}}}
+{"put":{"apiVersion":"projectcalico.org/v3","kind":"Profile","metadata":{"name":"123456789_123456789_"},"spec":[]}} => refused 1 3 BadField spec
+{"put":{"apiVersion":"projectcalico.org/v3","kind":"Profile","metadata":{"name":"aaaaaaaaaaaaaaaaaaaaaaaaaaaaaaaaaaaaaaaaaaaaaaaaaaaaaaaaaaaaaaaaaaaaaaaaaaaaaaaaaaaaaaaaaaaaaaaaaaaaaaaaaaaaaaaaaaaaaaaaaaaaaaaaaaaaaaaaaaaaaaaaaaaaaaaaaaaaaaaaaaaaaaaaaaaaaaaaaaaaaaaaaaaaaaaaaaaaaaaaaaaaaaaaaaaaaaaaaaaaaaaaaaaaaaaaaaaaaaaaaaaaaaaaaaaaa"},"spec":{}}}
 {"put":{"apiVersion":"projectcalico.org/v3","kind":"Profile","metadata":{"name":"aaaaaaaaaaaaaaaaaaaaaaaaaaaaaaaaaaaaaaaaaaaaaaaaaaaaaaaaaaaaaaaaaaaaaaaaaaaaaaaaaaaaaaaaaaaaaaaaaaaaaaaaaaaaaaaaaaaaaaaaaaaaaaaaaaaaaaaaaaaaaaaaaaaaaaaaaaaaaaaaaaaaaaaaaaaaaaaaaaaaaaaaaaaaaaaaaaaaaaaaaaaaaaaaaaaaaaaaaaaaaaaaaaaaaaaaaaaaaaaaaaaaaaaaaaaaaa"},"spec":{}}} => refused 1 3 BadField metadata.name
 {"put":{"apiVersion":"projectcalico.org/v3","kind":"Profile","metadata":{"name":"p","namespace":7,"labels":[]},"spec":null}}
 {"put":{"apiVersion":"projectcalico.org/v3","kind":"Profile","metadata":{"name":"/","name":"p"},"spec":{}}}
@@ -270,8 +270,8 @@ pub const ROWS: &str = r##"# lines
 {"put":{"apiVersion":"projectcalico.org/v3","kind":"WorkloadEndpoint","metadata":{"name":"w","namespace":"a"},"spec":{"node":"n2","interfaceName":"cali1","profiles":"open"}}} => refused 1 3 BadField spec.profiles
 {"put":{"apiVersion":"projectcalico.org/v3","kind":"WorkloadEndpoint","metadata":{"name":"w","namespace":"a"},"spec":{"node":"n2","interfaceName":"cali1","profiles":[null]}}} => refused 1 3 BadField spec.profiles[0]
 {"put":{"apiVersion":"projectcalico.org/v3","kind":"WorkloadEndpoint","metadata":{"name":"w","namespace":"a"},"spec":{"node":"n2","interfaceName":"cali1","profiles":["open",""]}}} => refused 1 3 BadField spec.profiles[1]
-{"put":{"apiVersion":"projectcalico.org/v3","kind":"WorkloadEndpoint","metadata":{"name":"w","namespace":"a"},"spec":{"node":"n2","interfaceName":"cali1","profiles":["open","123456789_123456789_"]}}} => refused 1 5 Unsupported spec.profiles[1]
-{"put":{"apiVersion":"projectcalico.org/v3","kind":"WorkloadEndpoint","metadata":{"name":"w","namespace":"a"},"spec":{"node":"n2","interfaceName":"cali1","profiles":["_23456789_123456789"]}}} => refused 1 5 Unsupported spec.profiles[0]
+{"put":{"apiVersion":"projectcalico.org/v3","kind":"WorkloadEndpoint","metadata":{"name":"w","namespace":"a"},"spec":{"node":"n2","interfaceName":"cali1","profiles":["open","123456789_123456789_"]}}}
+{"put":{"apiVersion":"projectcalico.org/v3","kind":"WorkloadEndpoint","metadata":{"name":"w","namespace":"a"},"spec":{"node":"n2","interfaceName":"cali1","profiles":["_23456789_123456789"]}}}
 {"put":{"apiVersion":"projectcalico.org/v3","kind":"WorkloadEndpoint","metadata":{"name":"w","namespace":"a"},"spec":{"node":"n2","interfaceName":"cali1","profiles":["a*","123456789_123456789_"]}}} => refused 1 3 BadField spec.profiles[0]
 {"put":{"apiVersion":"projectcalico.org/v3","kind":"WorkloadEndpoint","metadata":{"name":"w","namespace":"a"},"spec":{"node":"n2","interfaceName":"cali1","ports":[]}}}
 {"put":{"apiVersion":"projectcalico.org/v3","kind":"WorkloadEndpoint","metadata":{"name":"w","namespace":"a"},"spec":{"node":"n2","interfaceName":"cali1","ports":{}}}} => refused 1 3 BadField spec.ports
@@ -292,7 +292,7 @@ pub const ROWS: &str = r##"# lines
 # deletes
 {"delete":{"apiVersion":"projectcalico.org/v3","kind":"Profile","metadata":{"name":"p"},"spec":7}}
 {"delete":{"apiVersion":"projectcalico.org/v3","kind":"Profile","metadata":{}}} => refused 1 2 MissingField metadata.name
-{"delete":{"apiVersion":"projectcalico.org/v3","kind":"Profile","metadata":{"name":"123456789_123456789_"}}} => refused 1 5 Unsupported metadata.name
+{"delete":{"apiVersion":"projectcalico.org/v3","kind":"Profile","metadata":{"name":"123456789_123456789_"}}}
 {"delete":{"apiVersion":"projectcalico.org/v3","kind":"Profile","metadata":7}} => refused 1 3 BadField metadata
 {"delete":{"apiVersion":"projectcalico.org/v3","kind":"WorkloadEndpoint","metadata":{"name":"w","namespace":"a","labels":7}}}
 {"delete":{"apiVersion":"projectcalico.org/v3","kind":"WorkloadEndpoint","metadata":{"name":"w"}}} => refused 1 2 MissingField metadata.namespace

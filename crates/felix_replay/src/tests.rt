@@ -1,6 +1,7 @@
 //! Whole runs, from the bytes of a source to the bytes of a sink.
 use crate::{Status, felix_replay};
 use fx_base::{MemSink, MemSource, SureSource, Text};
+use fx_names::{Namer, PlainRule};
 use std::alloc::Global;
 use std::test::Fail;
 
@@ -23,7 +24,7 @@ pub const BASE: [&str; 4] = [OPEN, ENDPOINT, SYNC, FLUSH];
 
 const USAGE: &[u8] = b"usage: felix-replay --node NAME [--soak SEED --count N]\n";
 
-fn joined(alloc: Global, lines: &[&str]) -> Result<Vec<u8>, Fail> {
+pub fn joined(alloc: Global, lines: &[&str]) -> Result<Vec<u8>, Fail> {
     let mut input = Vec::new(alloc);
     for line in lines {
         input.extend_from_slice(line.as_bytes())?;
@@ -40,7 +41,7 @@ pub fn replayed(alloc: Global, input: Vec<u8>) -> Result<(Status, Vec<u8>), Fail
     let mut source = SureSource::new(input, 4096);
     let mut sink = MemSink::new(alloc, 1_048_576, Vec::new(alloc))?;
     let words = node_words(alloc)?;
-    let status = felix_replay(alloc, &words, &mut source, &mut sink);
+    let status = felix_replay(alloc, &words, &mut source, &mut sink, Namer::new(PlainRule));
     Ok((status, sink.held().to_vec(alloc)?))
 }
 
@@ -115,7 +116,7 @@ fn no_words_are_a_usage_fault(rt: HostRuntime) -> Result<(), Fail> {
     let alloc = rt.alloc();
     let mut source = SureSource::new(Vec::new(alloc), 4096);
     let mut sink = MemSink::new(alloc, 1000, Vec::new(alloc))?;
-    let status = felix_replay(alloc, &[], &mut source, &mut sink);
+    let status = felix_replay(alloc, &[], &mut source, &mut sink, Namer::new(PlainRule));
     assert_eq!(rt; status, Status::Usage);
     assert_eq!(rt; sink.held(), USAGE);
     Ok(())
@@ -128,7 +129,7 @@ fn a_failing_read_ends_the_run(rt: HostRuntime) -> Result<(), Fail> {
     let mut source = MemSource::new(input, 100, vec![in alloc; 3]?);
     let mut sink = MemSink::new(alloc, 1000, Vec::new(alloc))?;
     let words = node_words(alloc)?;
-    let status = felix_replay(alloc, &words, &mut source, &mut sink);
+    let status = felix_replay(alloc, &words, &mut source, &mut sink, Namer::new(PlainRule));
     assert_eq!(rt; status, Status::ReadFault);
     assert_eq!(rt; sink.held(), b"".as_slice());
     Ok(())
@@ -139,7 +140,7 @@ fn written_before(alloc: Global, room: u32, failing: Vec<u64>) -> Result<(Status
     let mut source = SureSource::new(input, 4096);
     let mut sink = MemSink::new(alloc, room, failing)?;
     let words = node_words(alloc)?;
-    let status = felix_replay(alloc, &words, &mut source, &mut sink);
+    let status = felix_replay(alloc, &words, &mut source, &mut sink, Namer::new(PlainRule));
     Ok((status, sink.held().to_vec(alloc)?))
 }
 

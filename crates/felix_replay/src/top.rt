@@ -16,6 +16,7 @@ use crate::stop::Stop;
 use crate::words::node_word;
 use fx_base::{Sink, Source, Text};
 use fx_lines::LineReader;
+use fx_names::{Answers, DigestRule, Namer};
 use std::alloc::Global;
 
 #[derive(Clone, Copy, Debug, PartialEq, Eq)]
@@ -32,32 +33,34 @@ pub enum Status {
 /// Reads the source to its end, and writes what the lines say to the sink.
 ///
 /// The words are those after the program's name: `--node` and a name of 1 to 253 bytes of `[A-Za-z0-9_.]` and, behind the
-/// first, `-`. A line is a JSON object with one member; each output line is written with its newline by one put.
+/// first, `-`. A line is a JSON object with one member; each output line is written with its newline by one put. Names in the
+/// kernel that are too long are made by the namer's digest rule.
 #[tactic(auto, using(fx_base::proofs::AtKey::reads, crate::proofs::ClosingLemmas::run_stays_whole, crate::proofs::Policing::keeps_policy))]
-pub fn felix_replay<S: Source, K: Sink>(
+pub fn felix_replay<S: Source, K: Sink, R: DigestRule, F: Answers<R> + Drop>(
     alloc: Global,
     words: &[Text],
     source: &mut S,
     sink: &mut K,
+    namer: Namer<R, F>,
 ) -> Status
     requires fresh { S.given source.old ≡ 0 }
     requires unended { S.ended source.old ≡ false }
 
     // The input was read to its end, and the output is the definition's.
     ensures done { result ≡ Status.Done → IsSome (node_of words.now)
-        × Ran (name_of words.now) (S.left source.old) (S.left source.new) (S.given source.old) (S.given source.new) (S.ended source.new) (K.held sink.old) (K.held sink.new) false }
+        × Ran R.digest_of (name_of words.now) (S.left source.old) (S.left source.new) (S.given source.old) (S.given source.new) (S.ended source.new) (K.held sink.old) (K.held sink.new) false }
     ensures refused { result ≡ Status.Refused → IsSome (node_of words.now)
-        × Ran (name_of words.now) (S.left source.old) (S.left source.new) (S.given source.old) (S.given source.new) (S.ended source.new) (K.held sink.old) (K.held sink.new) true }
+        × Ran R.digest_of (name_of words.now) (S.left source.old) (S.left source.new) (S.given source.old) (S.given source.new) (S.ended source.new) (K.held sink.old) (K.held sink.new) true }
 
     // The same where the source tells what is left and the sink what it holds.
     ensures told { (input : List ℕ) (held : List ℕ) → S.left source.old ≡ Some input → K.held sink.old ≡ Some held → HasRun result
-        → (K.held sink.new ≡ Some (held ++ output (name_of words.now) input)) × (result ≡ output_status (name_of words.now) input) }
+        → (K.held sink.new ≡ Some (held ++ output R.digest_of (name_of words.now) input)) × (result ≡ output_status R.digest_of (name_of words.now) input) }
 
     // After each single message nothing that is named is missing, in the sent view and in its tables.
-    ensures closed { (input : List ℕ) → AllByRecursion IsWhole (views_along (start (name_of words.now)) (lines_of input)) }
+    ensures closed { (input : List ℕ) → AllByRecursion IsWhole (views_along (start R.digest_of (name_of words.now)) (lines_of input)) }
 
     // A line with a first packet is answered as the policy reference says, where each accepted update was flushed.
-    ensures policy { KeepsPolicy (name_of words.now) }
+    ensures policy { KeepsPolicy R.digest_of (name_of words.now) }
 
     // Without a fault it is never anything else but want of memory.
     ensures complete { IsSome (node_of words.now) → ¬ Rose (S.faults source.old) (S.faults source.new) → ¬ Rose (K.faults sink.old) (K.faults sink.new)
@@ -70,7 +73,7 @@ pub fn felix_replay<S: Source, K: Sink>(
 
     // What a run that ended early has written is a front of the output.
     ensures stopped { IsSome (node_of words.now) → IsStop result
-        → Stopped (name_of words.now) (S.left source.old) (S.left source.new) (S.given source.old) (S.given source.new) (S.ended source.new) (K.held sink.old) (K.held sink.new) }
+        → Stopped R.digest_of (name_of words.now) (S.left source.old) (S.left source.new) (S.given source.old) (S.given source.new) (S.ended source.new) (K.held sink.old) (K.held sink.new) }
     ensures no_usage { node_of words.now ≡ None → AppendsFront (K.held sink.old) (K.held sink.new) usage_line }
 
     // Each other end has its cause.
@@ -81,7 +84,7 @@ pub fn felix_replay<S: Source, K: Sink>(
     let Some(node) = node_word(words) else {
         return tell_usage(sink);
     };
-    match replay(alloc, node, source, sink) {
+    match replay(alloc, node, source, sink, &namer) {
         Ok(false) => Status::Done,
         Ok(true) => Status::Refused,
         Err(Stop::ReadFault) => Status::ReadFault,
@@ -104,16 +107,17 @@ fn tell_usage<K: Sink>(sink: &mut K) -> Status
 }
 
 // Answers each line, and tells whether one was refused.
-fn replay<S: Source, K: Sink>(
+fn replay<S: Source, K: Sink, R: DigestRule, F: Answers<R> + Drop>(
     alloc: Global,
     node: &Text,
     source: &mut S,
     sink: &mut K,
+    namer: &Namer<R, F>,
 ) -> Result<bool, Stop>
     requires fresh { S.given source.old ≡ 0 }
     requires unended { S.ended source.old ≡ false }
-    ensures ran { IfOk result (Ran node.now (S.left source.old) (S.left source.new) (S.given source.old) (S.given source.new) (S.ended source.new) (K.held sink.old) (K.held sink.new)) }
-    ensures stopped { OnErr result (Stopped node.now (S.left source.old) (S.left source.new) (S.given source.old) (S.given source.new) (S.ended source.new) (K.held sink.old) (K.held sink.new)) }
+    ensures ran { IfOk result (Ran R.digest_of node.now (S.left source.old) (S.left source.new) (S.given source.old) (S.given source.new) (S.ended source.new) (K.held sink.old) (K.held sink.new)) }
+    ensures stopped { OnErr result (Stopped R.digest_of node.now (S.left source.old) (S.left source.new) (S.given source.old) (S.given source.new) (S.ended source.new) (K.held sink.old) (K.held sink.new)) }
     ensures read_fault { IsErrOf result Stop.ReadFault → Rose (S.faults source.old) (S.faults source.new) }
     ensures write_fault { IsErrOf result Stop.WriteFault → Rose (K.faults sink.old) (K.faults sink.new) }
     ensures too_long { IsErrOf result Stop.InputTooLong → (S.given source.new ≡ 2 ^ 32) × (S.ended source.new ≡ false) }
@@ -122,7 +126,7 @@ fn replay<S: Source, K: Sink>(
     let mut reader = LineReader::new(alloc);
     let mut engine = Engine::new(alloc, node.clone()?)?;
     while reader.advance(source)? {
-        engine.answer(reader.line(), sink)?;
+        engine.answer(reader.line(), namer, sink)?;
     }
     Ok(engine.refused)
 }

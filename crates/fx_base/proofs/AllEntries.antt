@@ -1,11 +1,10 @@
 -- What holds of each entry of a map goes on when entries are put in.
-use Rattle.std.proofs.Common.{◌≡◌, Bool, true, false, ◌&&◌, cond, List, [], ◌∷◌, map, Option, Some, None, refl, sym, ap, ◌∙◌, subst}
+use Rattle.std.proofs.Common.{◌≡◌, Bool, true, false, ◌&&◌, List, [], ◌∷◌, refl, ap, ◌∙◌, subst}
 use Rattle.std.specs.List.{list_all}
 use Rattle.std.specs.declared.cmp.Ordering.{Ordering}
 use Rattle.std.specs.declared.cmp.Ordering.TheVariants.{Less, Equal, Greater}
-use Rattle.std.specs.Ordering.{is_eq}
 use Rattle.std.specs.Cmp.{IsTotalOrder}
-use Rattle.std.specs.FinMap.{FinMap, IsAntisymmetric, put, entries, empty, get, insert, find, entries-insert, get-entries}
+use Rattle.std.specs.FinMap.{FinMap, IsAntisymmetric, put, entries, empty, insert, entries-insert}
 use Rattle.std.specs.FinMap.Entries.{by_order}
 use Rattle.fx_base.specs.Same.{both_pass}
 use Rattle.fx_base.specs.Extended.{extended, collected}

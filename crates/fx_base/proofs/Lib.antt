@@ -17,3 +17,8 @@ pub mod PortLemmas
 pub mod AddressLemmas
 pub mod ProtocolLemmas
 pub mod ValueLemmas
+pub mod Walk
+pub mod SetAt
+pub mod CountIn
+pub mod AnyIn
+pub mod SumOver

@@ -2,12 +2,14 @@ pub mod Extended
 pub mod Addresses
 pub mod Forms
 pub mod Keyed
+pub mod KernelName
 pub mod MemSink
 pub mod MemSource
 pub mod Padded
 pub mod PortTexts
 pub mod Protocols
 pub mod Same
+pub mod SameName
 pub mod SameNet
 pub mod Set
 pub mod SetName

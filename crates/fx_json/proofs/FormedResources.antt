@@ -1,37 +1,34 @@
--- Each update that is read is formed.
-use Rattle.std.proofs.Common.{◌≡◌, ℕ, List, length, Bool, true, false, ◌&&◌, ◌||◌, ◌==◌, not, nat_eq, nat_le, slice_index, Option, Some, None, Result, Ok, Err, IfOk, refl, ap, subst}
+-- Each update that is read is formed: an item is of its key's kind, too.
+use Rattle.std.proofs.Common.{◌≡◌, ℕ, List, length, Bool, true, false, ◌&&◌, ◌||◌, ◌==◌, not, nat_eq, nat_le, Option, Some, None, Result, Ok, Err, IfOk, refl, ap, subst}
 use Rattle.std.specs.Prelude.{codes, IfSome, if◌then◌else◌, is_some, ◌+◌, option_and_then}
 use Rattle.std.specs.List.{list_all, starts_with}
 use Rattle.serde_json.specs.Data.{Data, Items, no_items, item as cons_item}
 use Rattle.serde_json.specs.Find.{as_str}
 use Rattle.fx_base.specs.declared.net.PortRange.{PortRange}
 use Rattle.fx_base.specs.declared.net.Proto.{Proto}
-use Rattle.fx_model.specs.declared.ids.Key.{Key}
-use Rattle.fx_model.specs.declared.ids.Key.TheVariants as key
+use Rattle.fx_selector.specs.Truth.{LabelMap}
 use Rattle.fx_model.specs.declared.rules.Action.{Action}
 use Rattle.fx_model.specs.declared.rules.Icmp.{Icmp}
 use Rattle.fx_model.specs.declared.rules.Rule.{Rule}
 use Rattle.fx_model.specs.declared.resources.Endpoint.{Endpoint}
 use Rattle.fx_model.specs.declared.resources.Profile.{Profile}
-use Rattle.fx_model.specs.declared.resources.Item.TheVariants as item
 use Rattle.fx_model.specs.declared.resources.Update.{Update}
-use Rattle.fx_model.specs.declared.resources.Update.TheVariants as update
-use Rattle.fx_model.specs.Formed.{implies, is_given, has_port_protocol, has_icmp_protocol, passes, is_formed_profile_rule, is_formed_profile, is_formed_profile_name, is_formed_endpoint, is_formed}
+use Rattle.fx_model.specs.Formed.{implies, is_given, has_port_protocol, has_icmp_protocol, passes, is_formed_profile_rule, is_formed_profile, is_formed_endpoint, is_formed}
 use Rattle.fx_json.specs.declared.fault.ReadFault.{ReadFault}
-use Rattle.fx_json.specs.declared.fault.ReadFault.TheVariants.{MissingField, Unsupported, PortsWithoutProtocol, IcmpWithoutProtocol, PassInProfile}
+use Rattle.fx_json.specs.declared.fault.ReadFault.TheVariants.{MissingField, PortsWithoutProtocol, IcmpWithoutProtocol, PassInProfile}
 use Rattle.fx_json.specs.declared.resources.Kind.{Kind}
 use Rattle.fx_json.specs.declared.resources.Kind.TheVariants.{Profile as AProfile, WorkloadEndpoint}
 use Rattle.fx_json.specs.declared.rules.ReadProtocols.{ReadProtocols}
 use Rattle.fx_json.specs.declared.sides.ReadSide.{ReadSide}
 use Rattle.fx_json.specs.declared.texts.TextForm.{TextForm}
 use Rattle.fx_json.specs.declared.texts.TextForm.TheVariants.{Name, WorkloadInterface}
-use Rattle.fx_json.specs.Forms.{is_name_byte, has_length, is_interface, is_plain, is_workload_interface, is_in, passing, text, profile_name}
+use Rattle.fx_json.specs.Forms.{is_name_byte, has_length, is_interface, is_workload_interface, is_in, passing, text}
 use Rattle.fx_json.specs.Paths.{member_path, item_path}
 use Rattle.fx_json.specs.Fields.{◌>>=◌, Reader, field, is_absent, formed, required, defaulted, optional, unread, items_from, list_at, items, object_at, section}
 use Rattle.fx_json.specs.Values.{version, protocol, net, host_net, port}
 use Rattle.fx_json.specs.Sides.{selectors, with_ports, ports_in, ports_at, side}
 use Rattle.fx_json.specs.Rules.{action_named, profile_action, has_messages, with_messages, message, asked_message, icmp_at, of_ipv4, protocols, side_at, rule_fields, rule}
-use Rattle.fx_json.specs.Resources.{labels, endpoint_port, profile_key, profile_of, profile_put, endpoint_key, endpoint_of, endpoint_put, kind_of, put_of, resource_of, key_of, delete_of}
+use Rattle.fx_json.specs.Resources.{labels_at, endpoint_port, profile_of, profile_put, namespaced_name, endpoint_of, endpoint_put, kind_of, put_of, resource_of, key_of, delete_of}
 
 -- ---- what a reading says of what it gives
 
@@ -105,14 +102,6 @@ second_of false b e = cc
 
 text-formed : (form : TextForm) (path : List ℕ) (d : Data) → IfOk (text form path d) (λ s. is_in form s ≡ true)
 text-formed form path d = formed-if (λ s. is_in form s ≡ true) path (passing (is_in form) (as_str d)) (passing-if (is_in form) (as_str d))
-
-profile_name-short : (path : List ℕ) (d : Data) → IfOk (profile_name path d) (λ s. is_formed_profile_name s ≡ true)
-profile_name-short path d =
-    then-if P (text Name path d) _ (λ s is.
-    choice-if P (is_plain s) s (Unsupported path) (first_of (nat_le (length s) 19) (not (length s == 19 && slice_index s 0 == 95))))
-  where
-    P : List ℕ → Type 0
-    P s = is_formed_profile_name s ≡ true
 
 -- ---- sides
 
@@ -256,7 +245,7 @@ unfolding profile_of
 profile_of-formed path d =
     then-if P (items rule path (codes "ingress") d) _ (λ ingress ingress_read.
     then-if P (items rule path (codes "egress") d) _ (λ egress egress_read.
-    then-if P (optional labels path (codes "labelsToApply") d) _ (λ none _.
+    then-if P (labels_at path (codes "labelsToApply") d) _ (λ inherited _.
     both (list_all is_formed_profile_rule ingress) (list_all is_formed_profile_rule egress)
     (read-if Q (items rule path (codes "ingress") d) ingress (items-each is_formed_profile_rule rule rule-formed path (codes "ingress") d) ingress_read)
     (read-if Q (items rule path (codes "egress") d) egress (items-each is_formed_profile_rule rule rule-formed path (codes "egress") d) egress_read))))
@@ -267,34 +256,14 @@ profile_of-formed path d =
     Q : List Rule → Type 0
     Q rules = list_all is_formed_profile_rule rules ≡ true
 
--- a profile's name is short
-abbrev fits : Key → Bool
-fits (key.Item k) = true
-fits (key.Profile name) = is_formed_profile_name name
-
-profile_key-formed : (path : List ℕ) (d : Data) → IfOk (profile_key path d) (λ k. fits k ≡ true)
-unfolding profile_key
-profile_key-formed path d =
-    then-if (λ k. fits k ≡ true) (required profile_name path (codes "name") d) _ (λ name name_read.
-    read-if P (required profile_name path (codes "name") d) name (required-if P profile_name profile_name-short path (codes "name") d) name_read)
-  where
-    P : List ℕ → Type 0
-    P s = is_formed_profile_name s ≡ true
-
-put-formed : (k : Key) (p : Profile) → fits k ≡ true → is_formed_profile p ≡ true → is_formed (update.Put k (item.Profile p)) ≡ true
-put-formed (key.Item k) p e f = refl
-put-formed (key.Profile name) p e f = both (is_formed_profile_name name) (is_formed_profile p) e f
-
 profile_put-formed : (d : Data) → IfOk (profile_put d) (λ u. is_formed u ≡ true)
 unfolding profile_put
 profile_put-formed d =
     then-if P (section (codes "metadata") (codes "metadata") d) _ (λ metadata _.
-    then-if P (profile_key (codes "metadata") metadata) _ (λ k key_read.
+    then-if P (required (text Name) (codes "metadata") (codes "name") metadata) _ (λ name _.
     then-if P (section (codes "spec") (codes "spec") d) _ (λ spec _.
     then-if P (profile_of (codes "spec") spec) _ (λ profile profile_read.
-    put-formed k profile
-    (read-if (λ (x : Key). fits x ≡ true) (profile_key (codes "metadata") metadata) k (profile_key-formed (codes "metadata") metadata) key_read)
-    (read-if (λ (p : Profile). is_formed_profile p ≡ true) (profile_of (codes "spec") spec) profile (profile_of-formed (codes "spec") spec) profile_read)))))
+    read-if (λ (p : Profile). is_formed_profile p ≡ true) (profile_of (codes "spec") spec) profile (profile_of-formed (codes "spec") spec) profile_read))))
   where
     P : Update → Type 0
     P u = is_formed u ≡ true
@@ -305,38 +274,31 @@ workload_interface-formed : (s : List ℕ) → is_workload_interface s ≡ true 
 workload_interface-formed s e =
     (second_of (nat_le 1 (length s)) (nat_le (length s) 15) (first_of (has_length 1 15 s) (list_all is_name_byte s) (first_of (is_interface s) (starts_with nat_eq s (codes "cali")) e)), second_of (is_interface s) (starts_with nat_eq s (codes "cali")) e)
 
-endpoint_of-formed : (path : List ℕ) (d : Data) → IfOk (endpoint_of path d) (λ e. is_formed_endpoint e ≡ true)
+endpoint_of-formed : (given : LabelMap) (namespace path : List ℕ) (d : Data) → IfOk (endpoint_of given namespace path d) (λ e. is_formed_endpoint e ≡ true)
 unfolding endpoint_of
-endpoint_of-formed path d =
+endpoint_of-formed given namespace path d =
     then-if P (required (text Name) path (codes "node") d) _ (λ node _.
     then-if P (optional (text Name) path (codes "orchestrator") d) _ (λ orchestrator _.
     then-if P (optional (text Name) path (codes "serviceAccountName") d) _ (λ account _.
     then-if P (required (text WorkloadInterface) path (codes "interfaceName") d) _ (λ iface iface_read.
     then-if P (items host_net path (codes "ipNetworks") d) _ (λ networks _.
-    then-if P (items profile_name path (codes "profiles") d) _ (λ profiles profiles_read.
+    then-if P (items (text Name) path (codes "profiles") d) _ (λ profiles _.
     then-if P (items endpoint_port path (codes "ports") d) _ (λ ports _.
     let form = workload_interface-formed iface (read-if (λ (s : List ℕ). is_workload_interface s ≡ true) (required (text WorkloadInterface) path (codes "interfaceName") d) iface (required-if (λ s. is_workload_interface s ≡ true) (text WorkloadInterface) (text-formed WorkloadInterface) path (codes "interfaceName") d) iface_read) in
-    both (nat_le (length iface) 15) _ form.0
-    (both (starts_with nat_eq iface (codes "cali")) (list_all is_formed_profile_name profiles) form.1
-    (read-if (λ (names : List (List ℕ)). list_all is_formed_profile_name names ≡ true) (items profile_name path (codes "profiles") d) profiles (items-each is_formed_profile_name profile_name profile_name-short path (codes "profiles") d) profiles_read)))))))))
+    both (nat_le (length iface) 15) (starts_with nat_eq iface (codes "cali")) form.0 form.1)))))))
   where
     P : Endpoint → Type 0
     P e = is_formed_endpoint e ≡ true
-
-endpoint-formed : (k : Key) (e : Endpoint) → is_formed_endpoint e ≡ true → is_formed (update.Put k (item.Endpoint e)) ≡ true
-endpoint-formed (key.Item k) e f = f
-endpoint-formed (key.Profile name) e f = refl
 
 endpoint_put-formed : (d : Data) → IfOk (endpoint_put d) (λ u. is_formed u ≡ true)
 unfolding endpoint_put
 endpoint_put-formed d =
     then-if P (section (codes "metadata") (codes "metadata") d) _ (λ metadata _.
-    then-if P (endpoint_key (codes "metadata") metadata) _ (λ k _.
-    then-if P (optional labels (codes "metadata") (codes "labels") metadata) _ (λ none _.
+    then-if P (namespaced_name (codes "metadata") metadata) _ (λ named _.
+    then-if P (labels_at (codes "metadata") (codes "labels") metadata) _ (λ given _.
     then-if P (section (codes "spec") (codes "spec") d) _ (λ spec _.
-    then-if P (endpoint_of (codes "spec") spec) _ (λ endpoint endpoint_read.
-    endpoint-formed k endpoint
-    (read-if (λ (e : Endpoint). is_formed_endpoint e ≡ true) (endpoint_of (codes "spec") spec) endpoint (endpoint_of-formed (codes "spec") spec) endpoint_read))))))
+    then-if P (endpoint_of given named.ns (codes "spec") spec) _ (λ endpoint endpoint_read.
+    read-if (λ (e : Endpoint). is_formed_endpoint e ≡ true) (endpoint_of given named.ns (codes "spec") spec) endpoint (endpoint_of-formed given named.ns (codes "spec") spec) endpoint_read)))))
   where
     P : Update → Type 0
     P u = is_formed u ≡ true

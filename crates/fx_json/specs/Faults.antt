@@ -1,5 +1,5 @@
 -- The numbers and names of faults. The README of this repository is their public source.
-use Rattle.std.specs.Prelude.{◌≡◌, ◌⊎◌, ℕ, List, codes, Result, Ok, Err}
+use Rattle.std.specs.Prelude.{◌≡◌, ◌⊎◌, ℕ, List, Bool, true, false, codes, Option, Some, None, Result, Ok, Err}
 use Rattle.fx_json.specs.declared.fault.ReadFault.{ReadFault}
 use Rattle.fx_json.specs.declared.fault.ReadFault.TheVariants.{UnknownKind, MissingField, BadField, Unsupported, PortsWithoutProtocol, IcmpWithoutProtocol, PassInProfile, Memory}
 
@@ -22,6 +22,27 @@ fault_name (PortsWithoutProtocol path) = codes "PortsWithoutProtocol"
 fault_name (IcmpWithoutProtocol path) = codes "IcmpWithoutProtocol"
 fault_name (PassInProfile path) = codes "PassInProfile"
 fault_name Memory = codes "Memory"
+
+-- where the value at fault stands
+abbrev pub path_of : ReadFault → Option (List ℕ)
+path_of UnknownKind = None
+path_of (MissingField path) = Some path
+path_of (BadField path) = Some path
+path_of (Unsupported path) = Some path
+path_of (PortsWithoutProtocol path) = Some path
+path_of (IcmpWithoutProtocol path) = Some path
+path_of (PassInProfile path) = Some path
+path_of Memory = None
+
+abbrev pub is_memory : ReadFault → Bool
+is_memory UnknownKind = false
+is_memory (MissingField path) = false
+is_memory (BadField path) = false
+is_memory (Unsupported path) = false
+is_memory (PortsWithoutProtocol path) = false
+is_memory (IcmpWithoutProtocol path) = false
+is_memory (PassInProfile path) = false
+is_memory Memory = true
 
 -- What code answers where a value isn't read: the fault, unless memory is wanted.
 abbrev pub IsFault : {A : Type 0} → Result A ReadFault → ReadFault → Type 0

@@ -1,12 +1,11 @@
 -- The forms of texts. From Calico's resource reference (`projectcalico.org/v3`) and Kubernetes' names of objects.
-use Rattle.std.specs.Prelude.{ℕ, List, length, Bool, ◌&&◌, ◌||◌, ◌==◌, nat_eq, nat_le, not, slice_index, if◌then◌else◌, Option, Some, None, option_and_then, Ok, Err, codes}
+use Rattle.std.specs.Prelude.{ℕ, List, length, Bool, ◌&&◌, ◌||◌, ◌==◌, nat_eq, nat_le, not, if◌then◌else◌, Option, Some, None, option_and_then, codes}
 use Rattle.std.specs.List.{list_all, starts_with}
 use Rattle.std.specs.Char.{is_ascii_digit, is_ascii_lowercase, is_ascii_uppercase}
 use Rattle.serde_json.specs.Find.{as_str}
-use Rattle.fx_json.specs.declared.fault.ReadFault.TheVariants.{Unsupported}
 use Rattle.fx_json.specs.declared.texts.TextForm.{TextForm}
 use Rattle.fx_json.specs.declared.texts.TextForm.TheVariants.{Name, Namespace, Interface, WorkloadInterface, PortName}
-use Rattle.fx_json.specs.Fields.{◌>>=◌, Reader, formed}
+use Rattle.fx_json.specs.Fields.{Reader, formed}
 
 -- ---- bytes
 
@@ -43,10 +42,6 @@ is_workload_interface s = is_interface s && starts_with nat_eq s (codes "cali")
 abbrev pub is_port_name : List ℕ → Bool
 is_port_name s = has_length 1 128 s && list_all is_name_byte s && not (list_all is_ascii_digit s)
 
--- a profile's name that stands in the name of a chain as it is
-abbrev pub is_plain : List ℕ → Bool
-is_plain s = nat_le (length s) 19 && not (length s == 19 && slice_index s 0 == 95)
-
 abbrev pub is_in : TextForm → List ℕ → Bool
 is_in Name = is_name
 is_in Namespace = is_namespace
@@ -62,7 +57,3 @@ passing test o = option_and_then (λ x. if test x then Some x else None) o
 
 abbrev pub text : TextForm → Reader (List ℕ)
 text form path d = formed path (passing (is_in form) (as_str d))
-
--- the name of a profile; one that doesn't stand in a chain's name as it is isn't read yet
-abbrev pub profile_name : Reader (List ℕ)
-profile_name path d = text Name path d >>= λ name. if is_plain name then Ok name else Err (Unsupported path)

@@ -1,19 +1,28 @@
 -- The numbers and names of refusals. The README of this repository is their public source.
-use Rattle.std.specs.Prelude.{◌≡◌, ◌⊎◌, ℕ, List, codes, Result, Ok, Err}
+use Rattle.std.specs.Prelude.{◌≡◌, ◌⊎◌, ℕ, List, Bool, false, codes, Result, Ok, Err}
 use Rattle.fx_json.specs.declared.fault.ReadFault.TheVariants.{Memory}
 use Rattle.fx_json.specs.declared.refusal.Refusal.{Refusal}
-use Rattle.fx_json.specs.declared.refusal.Refusal.TheVariants.{Read, BadJson, BadLine}
-use Rattle.fx_json.specs.Faults.{fault_number, fault_name}
+use Rattle.fx_json.specs.declared.refusal.Refusal.TheVariants.{Read, BadJson, BadLine, Taken}
+use Rattle.fx_json.specs.Faults.{fault_number, fault_name, is_memory as is_memory_fault}
 
 abbrev pub number_of : Refusal → ℕ
 number_of (Read fault) = fault_number fault
 number_of BadJson = 21
 number_of BadLine = 22
+number_of (Taken name holder) = 30
 
 abbrev pub name_of : Refusal → List ℕ
 name_of (Read fault) = fault_name fault
 name_of BadJson = codes "BadJson"
 name_of BadLine = codes "BadLine"
+name_of (Taken name holder) = codes "Taken"
+
+-- a want of memory tells nothing of the line
+abbrev pub is_memory : Refusal → Bool
+is_memory (Read fault) = is_memory_fault fault
+is_memory BadJson = false
+is_memory BadLine = false
+is_memory (Taken name holder) = false
 
 -- What code answers of a line: what is read or the refusal, unless memory is wanted.
 abbrev pub Refuses : {A : Type 0} → Result A Refusal → Result A Refusal → Type 0

@@ -1,11 +1,13 @@
 -- A resource, field by field in the order of Calico's resource reference (`projectcalico.org/v3`): a Profile or a WorkloadEndpoint. The
 -- other kinds of that reference, and those of Kubernetes' API reference that select or name workloads, are known and aren't read yet.
 -- Members that aren't named here are ignored.
-use Rattle.std.specs.Prelude.{ℕ, List, [], ◌∷◌, Bool, true, ◌&&◌, ◌||◌, if◌then◌else◌, Option, Some, None, is_some, option_and_then, Result, Ok, Err, codes}
+use Rattle.std.specs.Prelude.{ℕ, List, [], ◌∷◌, Bool, if◌then◌else◌, Option, Some, None, option_and_then, Result, Ok, Err, codes}
 use Rattle.std.specs.List.{list_any}
 use Rattle.std.specs.Str.{bytes_eq}
-use Rattle.serde_json.specs.Data.{Data, Members, no_members, member}
+use Rattle.std.specs.FinMap as maps
+use Rattle.serde_json.specs.Data.{Data, null, boolean, number, string, array, object, Members, no_members, member}
 use Rattle.serde_json.specs.Find.{as_str, as_object}
+use Rattle.fx_selector.specs.Truth.{LabelMap}
 use Rattle.fx_model.specs.declared.ids.ItemKey.TheVariants as item_key
 use Rattle.fx_model.specs.declared.ids.Key.{Key}
 use Rattle.fx_model.specs.declared.ids.Key.TheVariants as key
@@ -19,8 +21,9 @@ use Rattle.fx_json.specs.declared.fault.ReadFault.TheVariants.{UnknownKind, Unsu
 use Rattle.fx_json.specs.declared.resources.Kind.{Kind}
 use Rattle.fx_json.specs.declared.resources.Kind.TheVariants.{Profile as AProfile, WorkloadEndpoint}
 use Rattle.fx_json.specs.declared.texts.TextForm.TheVariants.{Name, Namespace, WorkloadInterface, PortName}
-use Rattle.fx_json.specs.Forms.{text, profile_name}
-use Rattle.fx_json.specs.Fields.{◌>>=◌, Reader, field, is_null, formed, required, optional, object_at, section, items}
+use Rattle.fx_json.specs.declared.resources.NamespacedName.{NamespacedName}
+use Rattle.fx_json.specs.Forms.{text}
+use Rattle.fx_json.specs.Fields.{◌>>=◌, Reader, field, formed, required, defaulted, optional, object_at, section, items}
 use Rattle.fx_json.specs.Values.{whole, port_protocol, host_net}
 use Rattle.fx_json.specs.Rules.{rule}
 
@@ -67,52 +70,72 @@ kind_of d = of_texts (text_at (codes "apiVersion") d) (text_at (codes "kind") d)
 
 -- ---- labels
 
+-- one more label, whose value is a text
+abbrev pub with_label : List ℕ → Data → LabelMap → Option LabelMap
+with_label k null m = Some m
+with_label k (boolean b) m = None
+with_label k (number n) m = None
+with_label k (string s) m = Some (maps.insert m k s)
+with_label k (array ds) m = None
+with_label k (object ms) m = None
+
+-- these members as labels, beside those that are there
+abbrev pub with_labels : Members → LabelMap → Option LabelMap
+with_labels no_members m = Some m
+with_labels (member k d ms) m = option_and_then (with_labels ms) (with_label k d m)
+
 -- labels are an object of texts
-abbrev pub is_label : Data → Bool
-is_label d = is_null d || is_some (as_str d)
+abbrev pub labels_in : Data → Option LabelMap
+labels_in d = option_and_then (λ ms. with_labels ms maps.empty) (as_object d)
 
-abbrev pub are_labels : Members → Bool
-are_labels no_members = true
-are_labels (member k d ms) = is_label d && are_labels ms
-
-abbrev pub labels_in : Data → Option (Unit {0})
-labels_in d = option_and_then (λ ms. if are_labels ms then Some tt else None) (as_object d)
-
-abbrev pub labels : Reader (Unit {0})
+abbrev pub labels : Reader LabelMap
 labels path d = formed path (labels_in d)
 
--- ---- profiles
+-- the labels of this name, none where it is absent
+unfoldable pub labels_at : List ℕ → List ℕ → Data → Result LabelMap ReadFault
+labels_at = defaulted maps.empty labels
 
--- the key that `metadata` holds
-unfoldable pub profile_key : Reader Key
-profile_key path metadata = do
-  name ← required profile_name path (codes "name") metadata
-  Ok (key.Profile name)
+-- a label over one of the same key, where its value is given
+abbrev pub with_given : List ℕ → Option (List ℕ) → LabelMap → LabelMap
+with_given k None m = m
+with_given k (Some v) m = maps.insert m k v
+
+-- An endpoint's own labels. Calico sets those of its namespace, service account and orchestrator, whatever else is given for them.
+unfoldable pub own_labels : LabelMap → List ℕ → Option (List ℕ) → Option (List ℕ) → LabelMap
+own_labels given namespace account orchestrator =
+    with_given (codes "projectcalico.org/orchestrator") orchestrator
+    (with_given (codes "projectcalico.org/serviceaccount") account
+    (maps.insert given (codes "projectcalico.org/namespace") namespace))
+
+-- ---- profiles
 
 -- the profile that `spec` holds
 unfoldable pub profile_of : Reader Profile
 profile_of path spec = do
   ingress ← items rule path (codes "ingress") spec
   egress ← items rule path (codes "egress") spec
-  _ ← optional labels path (codes "labelsToApply") spec
-  Ok (record { ingress = ingress; egress = egress })
+  inherited ← labels_at path (codes "labelsToApply") spec
+  Ok (record { labels = inherited; ingress = ingress; egress = egress })
 
 unfoldable pub profile_put : Data → Result Update ReadFault
 profile_put d = do
   metadata ← section (codes "metadata") (codes "metadata") d
-  k ← profile_key (codes "metadata") metadata
+  name ← required (text Name) (codes "metadata") (codes "name") metadata
   spec ← section (codes "spec") (codes "spec") d
   profile ← profile_of (codes "spec") spec
-  Ok (update.Put k (item.Profile profile))
+  Ok (update.Put (key.Profile name) (item.Profile profile))
 
 -- ---- workload endpoints
 
--- the key that `metadata` holds
-unfoldable pub endpoint_key : Reader Key
-endpoint_key path metadata = do
+-- the name and the namespace that `metadata` holds
+unfoldable pub namespaced_name : Reader NamespacedName
+namespaced_name path metadata = do
   name ← required (text Name) path (codes "name") metadata
   namespace ← required (text Namespace) path (codes "namespace") metadata
-  Ok (key.Item (item_key.Endpoint namespace name))
+  Ok (record { ns = namespace; name = name })
+
+abbrev pub endpoint_key : NamespacedName → Key
+endpoint_key named = key.Item (item_key.Endpoint named.ns named.name)
 
 -- a port's name, its protocol and its number
 unfoldable pub port_fields : Reader (Unit {0})
@@ -125,26 +148,26 @@ port_fields path d = do
 abbrev pub endpoint_port : Reader (Unit {0})
 endpoint_port path d = object_at path d >>= port_fields path
 
--- the endpoint that `spec` holds
-unfoldable pub endpoint_of : Reader Endpoint
-endpoint_of path spec = do
+-- the endpoint of this namespace and these labels that `spec` holds
+unfoldable pub endpoint_of : LabelMap → List ℕ → Reader Endpoint
+endpoint_of given namespace path spec = do
   node ← required (text Name) path (codes "node") spec
-  _ ← optional (text Name) path (codes "orchestrator") spec
-  _ ← optional (text Name) path (codes "serviceAccountName") spec
+  orchestrator ← optional (text Name) path (codes "orchestrator") spec
+  account ← optional (text Name) path (codes "serviceAccountName") spec
   iface ← required (text WorkloadInterface) path (codes "interfaceName") spec
   _ ← items host_net path (codes "ipNetworks") spec
-  profiles ← items profile_name path (codes "profiles") spec
+  profiles ← items (text Name) path (codes "profiles") spec
   _ ← items endpoint_port path (codes "ports") spec
-  Ok (record { node = node; iface = iface; profiles = profiles })
+  Ok (record { node = node; iface = iface; labels = own_labels given namespace account orchestrator; profiles = profiles })
 
 unfoldable pub endpoint_put : Data → Result Update ReadFault
 endpoint_put d = do
   metadata ← section (codes "metadata") (codes "metadata") d
-  k ← endpoint_key (codes "metadata") metadata
-  _ ← optional labels (codes "metadata") (codes "labels") metadata
+  named ← namespaced_name (codes "metadata") metadata
+  given ← labels_at (codes "metadata") (codes "labels") metadata
   spec ← section (codes "spec") (codes "spec") d
-  endpoint ← endpoint_of (codes "spec") spec
-  Ok (update.Put k (item.Endpoint endpoint))
+  endpoint ← endpoint_of given named.ns (codes "spec") spec
+  Ok (update.Put (endpoint_key named) (item.Endpoint endpoint))
 
 -- ---- puts and deletes
 
@@ -161,8 +184,8 @@ resource_of d = do
 
 -- the key of a resource of this kind
 abbrev pub key_of : Kind → Reader Key
-key_of AProfile path metadata = profile_key path metadata
-key_of WorkloadEndpoint path metadata = endpoint_key path metadata
+key_of AProfile path metadata = required (text Name) path (codes "name") metadata >>= λ name. Ok (key.Profile name)
+key_of WorkloadEndpoint path metadata = namespaced_name path metadata >>= λ named. Ok (endpoint_key named)
 
 -- what a delete of a resource is read as
 unfoldable pub delete_of : Data → Result Update ReadFault

@@ -1,7 +1,7 @@
 //! Why a resource or a packet isn't read.
-ghost use Rattle.std.specs.Prelude.{◌≡◌};
+ghost use Rattle.std.specs.Prelude.{◌≡◌, option_map};
 ghost use Rattle.fx_json.specs.declared.fault.ReadFault.TheVariants as fault;
-ghost use Rattle.fx_json.specs.Faults.{fault_number, fault_name};
+ghost use Rattle.fx_json.specs.Faults.{fault_number, fault_name, path_of, is_memory};
 
 use fx_base::{Memory, Text};
 use std::alloc::{AllocError, AllocFailed};
@@ -50,6 +50,27 @@ impl ReadFault {
             ReadFault::PassInProfile { .. } => b"PassInProfile",
             ReadFault::Memory => b"Memory",
         }
+    }
+
+    /// Where the value at fault stands.
+    pub fn path(&self) -> Option<&Text>
+        ensures { option_map (λ path. path.now) result ≡ path_of self.now }
+    {
+        match self {
+            ReadFault::UnknownKind | ReadFault::Memory => None,
+            ReadFault::MissingField { path }
+            | ReadFault::BadField { path }
+            | ReadFault::Unsupported { path }
+            | ReadFault::PortsWithoutProtocol { path }
+            | ReadFault::IcmpWithoutProtocol { path }
+            | ReadFault::PassInProfile { path } => Some(path),
+        }
+    }
+
+    pub fn is_memory(&self) -> bool
+        ensures { result ≡ is_memory self.now }
+    {
+        matches!(self, ReadFault::Memory)
     }
 }
 

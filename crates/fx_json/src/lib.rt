@@ -10,6 +10,7 @@ pub use texts::is_name;
 
 mod fault;
 mod fields;
+mod labels;
 mod packets;
 mod path;
 mod refusal;

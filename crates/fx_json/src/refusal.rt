@@ -1,9 +1,10 @@
 //! Why a line is refused.
 ghost use Rattle.std.specs.Prelude.{◌≡◌};
 ghost use Rattle.fx_json.specs.declared.refusal.Refusal.TheVariants.{Read};
-ghost use Rattle.fx_json.specs.Refusals.{number_of, name_of};
+ghost use Rattle.fx_json.specs.Refusals.{number_of, name_of, is_memory};
 
 use crate::fault::ReadFault;
+use fx_base::{KernelName, Text};
 
 /// A line that isn't accepted changes nothing.
 #[derive(Debug, Drop)]
@@ -11,6 +12,8 @@ pub enum Refusal {
     Read(ReadFault),
     BadJson,
     BadLine,
+    /// The line asks for a name in the kernel that the holder has. No reading of a line gives it.
+    Taken { name: KernelName, holder: Text },
 }
 
 impl Refusal {
@@ -22,6 +25,7 @@ impl Refusal {
             Refusal::Read(fault) => fault.number(),
             Refusal::BadJson => 21,
             Refusal::BadLine => 22,
+            Refusal::Taken { .. } => 30,
         }
     }
 
@@ -32,6 +36,17 @@ impl Refusal {
             Refusal::Read(fault) => fault.name(),
             Refusal::BadJson => b"BadJson",
             Refusal::BadLine => b"BadLine",
+            Refusal::Taken { .. } => b"Taken",
+        }
+    }
+
+    /// Whether it is a want of memory, which tells nothing of the line.
+    pub fn is_memory(&self) -> bool
+        ensures { result ≡ is_memory self.now }
+    {
+        match self {
+            Refusal::Read(fault) => fault.is_memory(),
+            Refusal::BadJson | Refusal::BadLine | Refusal::Taken { .. } => false,
         }
     }
 }

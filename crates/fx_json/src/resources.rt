@@ -1,19 +1,21 @@
 //! Reads a resource that is put or deleted: a Profile or a WorkloadEndpoint.
 ghost use Rattle.std.specs.Prelude.{◌≡◌, option_map};
-ghost use Rattle.serde_json.specs.Find.{as_object};
-ghost use Rattle.serde_json.specs.View.{view, members_view};
+ghost use Rattle.serde_json.specs.View.{view};
 ghost use Rattle.fx_json.specs.Faults.{IsFault, Answers};
 ghost use Rattle.fx_json.specs.Paths.{text_of};
-ghost use Rattle.fx_json.specs.Resources.{unread_kind, calico_kind, core_kind, network_kind, kind_named, text_at, kind_of, is_label, are_labels, labels_in, labels, profile_key, profile_of, profile_put, endpoint_key, port_fields, endpoint_port, endpoint_of, endpoint_put, put_of, resource_of, key_of, delete_of};
+ghost use Rattle.fx_json.specs.Resources.{unread_kind, calico_kind, core_kind, network_kind, kind_named, text_at, kind_of, profile_of, profile_put, namespaced_name, endpoint_key, port_fields, endpoint_port, endpoint_of, endpoint_put, put_of, resource_of, key_of, delete_of};
 
 use crate::fault::ReadFault;
-use crate::fields::{Form, field, formed, items, object, optional, required, section};
+use crate::fields::{Form, field, items, object, optional, required, section};
+use crate::labels::{labels_at, own_labels};
 use crate::path::Path;
 use crate::rules::RuleForm;
-use crate::texts::{ProfileNameForm, TextForm};
+use crate::texts::TextForm;
 use crate::values::{HostForm, PortProtocolForm, WordForm};
+use fx_base::Text;
 use fx_model::{Endpoint, Item, ItemKey, Key, Profile, Update};
-use serde_json::{Map, Value};
+use fx_selector::Labels;
+use serde_json::Value;
 use std::alloc::Global;
 
 // The kinds that are read.
@@ -51,8 +53,10 @@ fn key_of(alloc: Global, kind: Kind, path: &Path<'_>, metadata: &Value) -> Resul
     ensures { Answers (key_of kind (text_of path.now) (view metadata.now)) result }
 {
     match kind {
-        Kind::Profile => profile_key(alloc, path, metadata),
-        Kind::WorkloadEndpoint => endpoint_key(alloc, path, metadata),
+        Kind::Profile => Ok(Key::Profile {
+            name: required(alloc, &TextForm::Name, path, "name", metadata)?,
+        }),
+        Kind::WorkloadEndpoint => Ok(endpoint_key(namespaced_name(alloc, path, metadata)?)),
     }
 }
 
@@ -140,22 +144,14 @@ fn profile_put(alloc: Global, resource: &Value) -> Result<Update, ReadFault>
     let nothing = Value::Null;
     let path = Path::top("metadata");
     let metadata = section(alloc, &path, "metadata", resource, &nothing)?;
-    let key = profile_key(alloc, &path, metadata)?;
+    let name = required(alloc, &TextForm::Name, &path, "name", metadata)?;
     let path = Path::top("spec");
     let spec = section(alloc, &path, "spec", resource, &nothing)?;
     let profile = read_profile(alloc, &path, spec)?;
     Ok(Update::Put {
-        key,
+        key: Key::Profile { name },
         item: Item::Profile(profile),
     })
-}
-
-#[tactic(auto, unfolding(crate::specs::Resources::profile_key))]
-fn profile_key(alloc: Global, path: &Path<'_>, metadata: &Value) -> Result<Key, ReadFault>
-    ensures { Answers (profile_key (text_of path.now) (view metadata.now)) result }
-{
-    let name = required(alloc, &ProfileNameForm, path, "name", metadata)?;
-    Ok(Key::Profile { name })
 }
 
 #[tactic(auto, unfolding(crate::specs::Resources::profile_of))]
@@ -164,8 +160,12 @@ fn read_profile(alloc: Global, path: &Path<'_>, spec: &Value) -> Result<Profile,
 {
     let ingress = items(alloc, &RuleForm, path, "ingress", spec)?;
     let egress = items(alloc, &RuleForm, path, "egress", spec)?;
-    optional(alloc, &LabelsForm, path, "labelsToApply", spec)?;
-    Ok(Profile { ingress, egress })
+    let labels = labels_at(alloc, path, "labelsToApply", spec)?;
+    Ok(Profile {
+        labels,
+        ingress,
+        egress,
+    })
 }
 
 // ---- workload endpoints
@@ -177,33 +177,59 @@ fn endpoint_put(alloc: Global, resource: &Value) -> Result<Update, ReadFault>
     let nothing = Value::Null;
     let path = Path::top("metadata");
     let metadata = section(alloc, &path, "metadata", resource, &nothing)?;
-    let key = endpoint_key(alloc, &path, metadata)?;
-    optional(alloc, &LabelsForm, &path, "labels", metadata)?;
+    let named = namespaced_name(alloc, &path, metadata)?;
+    let given = labels_at(alloc, &path, "labels", metadata)?;
     let path = Path::top("spec");
     let spec = section(alloc, &path, "spec", resource, &nothing)?;
-    let endpoint = read_endpoint(alloc, &path, spec)?;
+    let endpoint = read_endpoint(alloc, given, &named.ns, &path, spec)?;
     Ok(Update::Put {
-        key,
+        key: endpoint_key(named),
         item: Item::Endpoint(endpoint),
     })
 }
 
-#[tactic(auto, unfolding(crate::specs::Resources::endpoint_key))]
-fn endpoint_key(alloc: Global, path: &Path<'_>, metadata: &Value) -> Result<Key, ReadFault>
-    ensures { Answers (endpoint_key (text_of path.now) (view metadata.now)) result }
+// A name in a namespace.
+#[derive(Drop)]
+struct NamespacedName {
+    ns: Text,
+    name: Text,
+}
+
+#[tactic(auto, unfolding(crate::specs::Resources::namespaced_name))]
+fn namespaced_name(
+    alloc: Global,
+    path: &Path<'_>,
+    metadata: &Value,
+) -> Result<NamespacedName, ReadFault>
+    ensures { Answers (namespaced_name (text_of path.now) (view metadata.now)) result }
 {
     let name = required(alloc, &TextForm::Name, path, "name", metadata)?;
     let ns = required(alloc, &TextForm::Namespace, path, "namespace", metadata)?;
-    Ok(Key::Item(ItemKey::Endpoint { ns, name }))
+    Ok(NamespacedName { ns, name })
+}
+
+fn endpoint_key(named: NamespacedName) -> Key
+    ensures { result ≡ endpoint_key named }
+{
+    Key::Item(ItemKey::Endpoint {
+        ns: named.ns,
+        name: named.name,
+    })
 }
 
 #[tactic(auto, unfolding(crate::specs::Resources::endpoint_of))]
-fn read_endpoint(alloc: Global, path: &Path<'_>, spec: &Value) -> Result<Endpoint, ReadFault>
-    ensures { Answers (endpoint_of (text_of path.now) (view spec.now)) result }
+fn read_endpoint(
+    alloc: Global,
+    given: Labels,
+    namespace: &Text,
+    path: &Path<'_>,
+    spec: &Value,
+) -> Result<Endpoint, ReadFault>
+    ensures { Answers (endpoint_of given namespace.now (text_of path.now) (view spec.now)) result }
 {
     let node = required(alloc, &TextForm::Name, path, "node", spec)?;
-    optional(alloc, &TextForm::Name, path, "orchestrator", spec)?;
-    optional(alloc, &TextForm::Name, path, "serviceAccountName", spec)?;
+    let orchestrator = optional(alloc, &TextForm::Name, path, "orchestrator", spec)?;
+    let account = optional(alloc, &TextForm::Name, path, "serviceAccountName", spec)?;
     let iface = required(
         alloc,
         &TextForm::WorkloadInterface,
@@ -212,11 +238,13 @@ fn read_endpoint(alloc: Global, path: &Path<'_>, spec: &Value) -> Result<Endpoin
         spec,
     )?;
     items(alloc, &HostForm, path, "ipNetworks", spec)?;
-    let profiles = items(alloc, &ProfileNameForm, path, "profiles", spec)?;
+    let profiles = items(alloc, &TextForm::Name, path, "profiles", spec)?;
     items(alloc, &EndpointPortForm, path, "ports", spec)?;
+    let labels = own_labels(given, namespace, account, orchestrator)?;
     Ok(Endpoint {
         node,
         iface,
+        labels,
         profiles,
     })
 }
@@ -242,46 +270,4 @@ fn read_endpoint_port(alloc: Global, path: &Path<'_>, port: &Value) -> Result<()
     optional(alloc, &PortProtocolForm, path, "protocol", port)?;
     required(alloc, &WordForm { low: 1 }, path, "port", port)?;
     Ok(())
-}
-
-// ---- labels
-
-// Labels, which nothing is made of yet.
-struct LabelsForm;
-
-impl Form for LabelsForm {
-    type Read = ();
-
-    ghost read_by = { λ _. labels };
-
-    fn read(&self, alloc: Global, path: &Path<'_>, value: &Value) -> Result<(), ReadFault> {
-        formed(alloc, path, labels_in(value))
-    }
-}
-
-fn labels_in(value: &Value) -> Option<()>
-    ensures { result ≡ labels_in (view value.now) }
-{
-    if are_labels(value.as_object()?) {
-        Some(())
-    } else {
-        None
-    }
-}
-
-fn are_labels(map: &Map<String, Value>) -> bool
-    ensures { result ≡ are_labels (members_view map.now.entries) }
-{
-    for (_, value) in map.iter() {
-        if !is_label(value) {
-            return false;
-        }
-    }
-    true
-}
-
-fn is_label(value: &Value) -> bool
-    ensures { result ≡ is_label (view value.now) }
-{
-    value.is_null() || value.is_string()
 }

@@ -1,5 +1,5 @@
 use crate::{ReadFault, read_delete, read_packet, read_resource};
-use fx_model::Update;
+use fx_model::{Item, Update};
 use serde_json::Value;
 use std::alloc::Global;
 use std::test::Fail;
@@ -18,7 +18,7 @@ const PROFILE: &str =
 "egress":[{"action":"Log","protocol":1,"icmp":{"type":8},"destination":{"notNets":["::","1.2.3.4"]}}],"labelsToApply":{"a":"b"}}}"#;
 
 const READ_PROFILE: &str =
-    "Put { key: Profile { name: Text { held: [112] } }, item: Profile(Profile { \
+    "Put { key: Profile { name: Text { held: [112] } }, item: Profile(Profile { labels: Labels { alloc: Global, held: {[97]: Text { held: [98] }} }, \
 ingress: Seq { held: [Rule { action: Deny, never: false, protocol: Some(Proto(6)), not_protocol: Some(Proto(17)), icmp: None, not_icmp: None, \
 source: Side { nets: Seq { held: [Net { addr: Ipv4(167772160), len: 8 }] }, not_nets: Seq { held: [] }, \
 ports: Seq { held: [PortRange { low: 80, high: 80 }, PortRange { low: 1, high: 9 }] }, not_ports: Seq { held: [] } }, \
@@ -31,9 +31,12 @@ const ENDPOINT: &str =
     r#"{"apiVersion":"projectcalico.org/v3","kind":"WorkloadEndpoint","metadata":{"name":"w","namespace":"a"},"spec":{
 "node":"n","interfaceName":"cali","ipNetworks":["10.0.0.1"],"profiles":["p","q"],"ports":[{"name":"b","port":80}]}}"#;
 
+// The bytes of `projectcalico.org/namespace`.
 const READ_ENDPOINT: &str =
     "Put { key: Item(Endpoint { ns: Text { held: [97] }, name: Text { held: [119] } }), \
 item: Endpoint(Endpoint { node: Text { held: [110] }, iface: Text { held: [99, 97, 108, 105] }, \
+labels: Labels { alloc: Global, held: {[112, 114, 111, 106, 101, 99, 116, 99, 97, 108, 105, 99, 111, 46, 111, 114, 103, 47, \
+110, 97, 109, 101, 115, 112, 97, 99, 101]: Text { held: [97] }} }, \
 profiles: Seq { held: [Text { held: [112] }, Text { held: [113] }] } }) }";
 
 #[test]
@@ -56,6 +59,81 @@ fn deletes_are_read(rt: HostRuntime) -> Result<(), Fail> {
         said.as_str(),
         "Delete { key: Profile { name: Text { held: [112] } } }"
     );
+    Ok(())
+}
+
+// ---- labels and names
+
+// The label of this key.
+fn label<'u>(update: &'u Update, key: &str) -> Option<&'u [u8]> {
+    let Update::Put { key: _, item } = update else {
+        return None;
+    };
+    match item {
+        Item::Endpoint(endpoint) => endpoint.labels.get(key.as_bytes()),
+        Item::Profile(profile) => profile.labels.get(key.as_bytes()),
+    }
+}
+
+const GIVEN: &str =
+    r#"{"apiVersion":"projectcalico.org/v3","kind":"WorkloadEndpoint","metadata":{"name":"w","namespace":"shop","labels":{
+"app":"web","old":null,"none":"","projectcalico.org/namespace":"x","projectcalico.org/orchestrator":"y"}},
+"spec":{"node":"n","interfaceName":"cali"}}"#;
+
+const WITH_ACCOUNT: &str =
+    r#"{"apiVersion":"projectcalico.org/v3","kind":"WorkloadEndpoint","metadata":{"name":"w","namespace":"shop","labels":{
+"projectcalico.org/serviceaccount":"x","projectcalico.org/orchestrator":"y"}},
+"spec":{"node":"n","interfaceName":"cali","orchestrator":"k8s","serviceAccountName":"till"}}"#;
+
+const TO_APPLY: &str =
+    r#"{"apiVersion":"projectcalico.org/v3","kind":"Profile","metadata":{"name":"p","labels":{"app":"web"}},
+"spec":{"labelsToApply":{"tier":"front","old":null}}}"#;
+
+// A resource, a key, and the label of it that is wanted.
+const LABELS: [(&str, &str, Option<&str>); 14] = [
+    (GIVEN, "app", Some("web")),
+    (GIVEN, "none", Some("")),
+    (GIVEN, "old", None),
+    (GIVEN, "projectcalico.org/namespace", Some("shop")),
+    (GIVEN, "projectcalico.org/orchestrator", Some("y")),
+    (GIVEN, "projectcalico.org/serviceaccount", None),
+    (WITH_ACCOUNT, "projectcalico.org/namespace", Some("shop")),
+    (WITH_ACCOUNT, "projectcalico.org/orchestrator", Some("k8s")),
+    (
+        WITH_ACCOUNT,
+        "projectcalico.org/serviceaccount",
+        Some("till"),
+    ),
+    (WITH_ACCOUNT, "app", None),
+    (TO_APPLY, "tier", Some("front")),
+    (TO_APPLY, "old", None),
+    (TO_APPLY, "app", None),
+    (TO_APPLY, "projectcalico.org/namespace", None),
+];
+
+#[test]
+fn labels_are_kept(rt: HostRuntime) -> Result<(), Fail> {
+    let alloc = rt.alloc();
+    for (text, key, want) in LABELS {
+        let value = Value::from_str(alloc, text)?;
+        match read_resource(alloc, &value) {
+            Ok(update) => assert_eq!(rt; label(&update, key), want.map(str::as_bytes), "{key}"),
+            Err(_) => assert!(rt; false, "refused"),
+        }
+    }
+    Ok(())
+}
+
+#[test]
+fn long_names_of_profiles_are_read(rt: HostRuntime) -> Result<(), Fail> {
+    let alloc = rt.alloc();
+    let name = vec![in alloc; b'_'; 253]?;
+    let name = String::from_utf8(name)?;
+    let text = format!(in alloc;
+        "{{\"apiVersion\":\"projectcalico.org/v3\",\"kind\":\"Profile\",\"metadata\":{{\"name\":\"{name}\"}}}}"
+    )?;
+    let value = Value::from_str(alloc, text.as_str())?;
+    assert!(rt; read_resource(alloc, &value).is_ok());
     Ok(())
 }
 

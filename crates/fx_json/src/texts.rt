@@ -4,8 +4,7 @@ ghost use Rattle.std.specs.List.{list_all};
 ghost use Rattle.std.specs.Char.{is_ascii_digit};
 ghost use Rattle.serde_json.specs.Find.{as_str};
 ghost use Rattle.serde_json.specs.View.{view};
-ghost use Rattle.fx_json.specs.declared.texts.TextForm.TheVariants.{Name};
-ghost use Rattle.fx_json.specs.Forms.{is_name_byte, is_namespace_byte, has_length, is_name, is_namespace, is_interface, is_workload_interface, is_port_name, is_plain, is_in, passing, text, profile_name};
+ghost use Rattle.fx_json.specs.Forms.{is_name_byte, is_namespace_byte, has_length, is_name, is_namespace, is_interface, is_workload_interface, is_port_name, is_in, passing, text};
 
 use crate::fault::ReadFault;
 use crate::fields::{Form, formed};
@@ -43,26 +42,6 @@ fn text_in(form: TextForm, value: &Value) -> Option<&str>
         Some(text)
     } else {
         None
-    }
-}
-
-/// The name of a profile, if a chain's name has it as it is.
-pub struct ProfileNameForm;
-
-impl Form for ProfileNameForm {
-    type Read = Text;
-
-    ghost read_by = { λ _. profile_name };
-
-    fn read(&self, alloc: Global, path: &Path<'_>, value: &Value) -> Result<Text, ReadFault> {
-        let name = TextForm::Name.read(alloc, path, value)?;
-        if is_plain(name.bytes()) {
-            Ok(name)
-        } else {
-            Err(ReadFault::Unsupported {
-                path: path.text(alloc)?,
-            })
-        }
     }
 }
 
@@ -126,13 +105,6 @@ pub fn is_port_name(text: &[u8]) -> bool
         return false;
     }
     !are_digits(text)
-}
-
-// Whether a chain's name has a profile's name as it is.
-fn is_plain(name: &[u8]) -> bool
-    ensures { result ≡ is_plain name.now }
-{
-    name.len() <= 19 && !(name.len() == 19 && name[0] == b'_')
 }
 
 // ---- bytes

@@ -1,4 +1,6 @@
 pub mod Orders
+pub mod Keys
+pub mod PairAt
 pub mod Serving
 pub mod FormedLemmas
 pub mod Shaping
@@ -11,3 +13,7 @@ pub mod Nearer
 pub mod StepClosed
 pub mod Flushes
 pub mod Removing
+pub mod ClaimsCounted
+pub mod ClaimsApart
+pub mod ClaimsOfKeys
+pub mod Inheriting

@@ -1,8 +1,20 @@
--- Keys and members that compare alike are one.
+-- Keys, members and pairs of keys that compare alike are one.
 use Rattle.std.specs.Cmp.{IsTotalOrder}
 use Rattle.std.specs.FinMap.{IsAntisymmetric}
 use Rattle.fx_base.specs.Same.{exact_by}
-use Rattle.fx_model.specs.SameIds.{same_item}
+use Rattle.std.proofs.Common.{ℕ, List}
+use Rattle.std.specs.Ordering.{nat_cmp}
+use Rattle.std.specs.Cmp.Lexicographic.{slice_cmp, nat_list_cmp_total}
+use Rattle.std.proofs.lemmas.Cmp.{on_total, then_total}
+use Rattle.std.proofs.lemmas.Map.Lookups.{exact_pairs}
+use Rattle.fx_base.proofs.KeyCases.{bytes_exact}
+use Rattle.fx_model.specs.Pairs.{pair_cmp, policy_pair_cmp}
+use Rattle.fx_model.specs.declared.ids.ItemKey.{ItemKey}
+use Rattle.fx_model.specs.declared.ids.PolicyId.{PolicyId}
+use Rattle.fx_model.specs.contracts.ids.PolicyIdPartialEq.TheImpl as policy_eq
+use Rattle.fx_model.specs.contracts.ids.PolicyIdOrd.TheImpl as policy_cmp
+use Rattle.fx_model.specs.contracts.ids.PolicyIdOrd.TheImpl.Laws as policy_laws
+use Rattle.fx_model.specs.SameIds.{same_item, same_policy_id}
 use Rattle.fx_model.specs.SameMember.{same_member}
 use Rattle.fx_model.specs.contracts.ids.ItemKeyPartialEq.TheImpl as item_eq
 use Rattle.fx_model.specs.contracts.ids.ItemKeyOrd.TheImpl as item_cmp
@@ -19,3 +31,21 @@ exact_item = exact_by item_eq.eq-value.it item_cmp.cmp-value.it item_laws.matche
 
 pub exact_member : IsAntisymmetric member_cmp.cmp-value.it
 exact_member = exact_by member_eq.eq-value.it member_cmp.cmp-value.it member_laws.matches_eq-law same_member
+
+pub policy_total : IsTotalOrder policy_cmp.cmp-value.it
+policy_total = policy_laws.total-law
+
+pub exact_policy : IsAntisymmetric policy_cmp.cmp-value.it
+exact_policy = exact_by policy_eq.eq-value.it policy_cmp.cmp-value.it policy_laws.matches_eq-law same_policy_id
+
+pub pairs_total : IsTotalOrder pair_cmp
+pairs_total = then_total (on_total (λ (p : List ℕ × ItemKey). p.0) nat_list_cmp_total) (on_total (λ (p : List ℕ × ItemKey). p.1) item_laws.total-law)
+
+pub exact_pair : IsAntisymmetric pair_cmp
+exact_pair = exact_pairs (slice_cmp nat_cmp) item_cmp.cmp-value.it bytes_exact exact_item
+
+pub policy_pairs_total : IsTotalOrder policy_pair_cmp
+policy_pairs_total = then_total (on_total (λ (p : PolicyId × ItemKey). p.0) policy_laws.total-law) (on_total (λ (p : PolicyId × ItemKey). p.1) item_laws.total-law)
+
+pub exact_policy_pair : IsAntisymmetric policy_pair_cmp
+exact_policy_pair = exact_pairs policy_cmp.cmp-value.it item_cmp.cmp-value.it exact_policy exact_item

@@ -24,6 +24,7 @@ use Rattle.fx_model.specs.declared.view.ViewEndpoint.{ViewEndpoint}
 use Rattle.fx_model.specs.declared.view.ViewProfile.{ViewProfile}
 use Rattle.fx_model.specs.Messages.{Named}
 use Rattle.fx_model.specs.Resources.{served_endpoints}
+use Rattle.fx_names.specs.Digests.{Digest}
 use Rattle.fx_model.specs.Views.{view_side, view_rule, profile_key, profile_entry, endpoint_entry, view_profile, view_endpoint, active_profiles, view_of}
 use Rattle.fx_model.specs.Closed.{AreThere, EndpointIsClosed, IsClosedView, sets_of_side, sets_of_rules}
 use Rattle.fx_model.proofs.Serving.{profiles_both}
@@ -32,30 +33,30 @@ there_later : (m : Named ViewProfile) (es : List (List ℕ × ViewProfile)) (ks 
 there_later m es [] h = tt
 there_later m es (k ∷ ks) h = (there_extended m es k h.0, there_later m es ks h.1)
 
-module _ (R : Resources) where
+module _ (dg : Digest) (R : Resources) where
   -- the profiles of these names are there once they are put in
-  names_there : (m : Named ViewProfile) (names : List (List ℕ)) → AreThere (extended m (map (profile_entry R) names)) (map profile_key names)
+  names_there : (m : Named ViewProfile) (names : List (List ℕ)) → AreThere (extended m (map (profile_entry dg R) names)) (map (profile_key dg) names)
   names_there m [] = tt
   names_there m (name ∷ names) =
-      let first = maps.insert m (profile_key name) (profile_entry R name).1 in
-      (there_extended first (map (profile_entry R) names) (profile_key name) (there_inserted m (profile_key name) (profile_entry R name).1), names_there first names)
+      let first = maps.insert m (profile_key dg name) (profile_entry dg R name).1 in
+      (there_extended first (map (profile_entry dg R) names) (profile_key dg name) (there_inserted m (profile_key dg name) (profile_entry dg R name).1), names_there first names)
 
-  listed_there : (m : Named ViewProfile) (xs : List (ItemKey × Endpoint)) → AllByRecursion (λ x. AreThere (extended m (map (profile_entry R) (flat_map (λ y. y.1.profiles) xs))) (map profile_key x.1.profiles)) xs
+  listed_there : (m : Named ViewProfile) (xs : List (ItemKey × Endpoint)) → AllByRecursion (λ x. AreThere (extended m (map (profile_entry dg R) (flat_map (λ y. y.1.profiles) xs))) (map (profile_key dg) x.1.profiles)) xs
   listed_there m [] = tt
   listed_there m (x ∷ xs) =
       let all = λ (y : ItemKey × Endpoint). y.1.profiles in
-      let first = extended m (map (profile_entry R) x.1.profiles) in
-      let split = sym (profiles_both R m x.1.profiles (flat_map all xs)) in
-      subst (λ (n : Named ViewProfile). AllByRecursion (λ (y : ItemKey × Endpoint). AreThere n (map profile_key y.1.profiles)) (x ∷ xs)) split
-      (there_later first (map (profile_entry R) (flat_map all xs)) (map profile_key x.1.profiles) (names_there m x.1.profiles), listed_there first xs)
+      let first = extended m (map (profile_entry dg R) x.1.profiles) in
+      let split = sym (profiles_both dg R m x.1.profiles (flat_map all xs)) in
+      subst (λ (n : Named ViewProfile). AllByRecursion (λ (y : ItemKey × Endpoint). AreThere n (map (profile_key dg) y.1.profiles)) (x ∷ xs)) split
+      (there_later first (map (profile_entry dg R) (flat_map all xs)) (map (profile_key dg) x.1.profiles) (names_there m x.1.profiles), listed_there first xs)
 
-endpoint_closed : (v : View) (key : ItemKey) (e : Endpoint) → AreThere v.profiles (map profile_key e.profiles) → EndpointIsClosed v (view_endpoint key e)
-endpoint_closed v (key.Endpoint ns name) e h = record { ingress = tt; egress = tt; profiles = h }
-endpoint_closed v (key.NetSet ns name) e h = record { ingress = tt; egress = tt; profiles = h }
+endpoint_closed : (dg : Digest) (v : View) (key : ItemKey) (e : Endpoint) → AreThere v.profiles (map (profile_key dg) e.profiles) → EndpointIsClosed v (view_endpoint dg key e)
+endpoint_closed dg v (key.Endpoint ns name) e h = record { ingress = tt; egress = tt; profiles = h }
+endpoint_closed dg v (key.NetSet ns name) e h = record { ingress = tt; egress = tt; profiles = h }
 
-entries_closed : (v : View) (xs : List (ItemKey × Endpoint)) → AllByRecursion (λ x. AreThere v.profiles (map profile_key x.1.profiles)) xs → AllByRecursion (λ e. EndpointIsClosed v e.1) (map endpoint_entry xs)
-entries_closed v [] h = tt
-entries_closed v (x ∷ xs) h = (endpoint_closed v x.0 x.1 h.0, entries_closed v xs h.1)
+entries_closed : (dg : Digest) (v : View) (xs : List (ItemKey × Endpoint)) → AllByRecursion (λ x. AreThere v.profiles (map (profile_key dg) x.1.profiles)) xs → AllByRecursion (λ e. EndpointIsClosed v e.1) (map (endpoint_entry dg) xs)
+entries_closed dg v [] h = tt
+entries_closed dg v (x ∷ xs) h = (endpoint_closed dg v x.0 x.1 h.0, entries_closed dg v xs h.1)
 
 -- rules of resources name no sets yet
 ranges_name_none : (rs : List PortRange) → names_of (map Range rs) ≡ []
@@ -78,11 +79,11 @@ profile_names_none Egress name None = refl
 profile_names_none Ingress name (Some p) = rules_name_none p.ingress
 profile_names_none Egress name (Some p) = rules_name_none p.egress
 
-module _ (R : Resources) (d : Direction) where
+module _ (dg : Digest) (R : Resources) (d : Direction) where
   abbrev names_none : List ℕ → ViewProfile → Type 0
   names_none key p = sets_of_rules (profile_side d p) ≡ []
 
-  entries_name_none : (names : List (List ℕ)) → AllByRecursion (λ e. names_none e.0 e.1) (map (profile_entry R) names)
+  entries_name_none : (names : List (List ℕ)) → AllByRecursion (λ e. names_none e.0 e.1) (map (profile_entry dg R) names)
   entries_name_none [] = tt
   entries_name_none (n ∷ names) = (profile_names_none d n (maps.get R.profiles n), entries_name_none names)
 
@@ -95,14 +96,14 @@ no_profile p is = cc
 no_policy : {A : Type 0} (p : ViewPolicy) → None ≡ Some p → A
 no_policy p is = cc
 
-pub view_of-closed : (R : Resources) → IsClosedView (view_of R)
-view_of-closed R = record {
-  endpoints = at_extended (λ iface e. EndpointIsClosed (view_of R) e) maps.empty (map endpoint_entry (served_endpoints R))
+pub view_of-closed : (dg : Digest) (R : Resources) → IsClosedView (view_of dg R)
+view_of-closed dg R = record {
+  endpoints = at_extended (λ iface e. EndpointIsClosed (view_of dg R) e) maps.empty (map (endpoint_entry dg) (served_endpoints R))
       (λ q x is. no_endpoint x (sym (get_empty q) ∙ is))
-      (entries_closed (view_of R) (served_endpoints R) (listed_there R maps.empty (served_endpoints R)));
+      (entries_closed dg (view_of dg R) (served_endpoints R) (listed_there dg R maps.empty (served_endpoints R)));
   policies = λ d key p is. no_policy p (sym (get_empty key) ∙ is);
   profiles = λ d key p is.
-      let none : sets_of_rules (profile_side d p) ≡ [] = at_extended (names_none R d) maps.empty (map (profile_entry R) (active_profiles R))
-      (λ q x found. no_profile x (sym (get_empty q) ∙ found)) (entries_name_none R d (active_profiles R)) key p is in
-      subst (AreThere (view_of R).sets) (sym none) tt;
+      let none : sets_of_rules (profile_side d p) ≡ [] = at_extended (names_none dg R d) maps.empty (map (profile_entry dg R) (active_profiles R))
+      (λ q x found. no_profile x (sym (get_empty q) ∙ found)) (entries_name_none dg R d (active_profiles R)) key p is in
+      subst (AreThere (view_of dg R).sets) (sym none) tt;
 }

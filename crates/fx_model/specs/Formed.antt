@@ -1,6 +1,6 @@
 -- What every resource that is read keeps. A rule that lists ports has a protocol with ports, and one that asks for a message of
--- ICMP has protocol ICMP, since iptables-extensions(8) can test these matches for no other; no rule of a profile passes; a name of an interface has at most 15 bytes, as the kernel bounds it (IFNAMSIZ), and
--- Calico's begin with `cali`; and a profile's name fits behind a chain's prefix.
+-- ICMP has protocol ICMP, since iptables-extensions(8) can test these matches for no other; no rule of a profile passes; and a name of an interface has at most 15 bytes, as
+-- the kernel bounds it (IFNAMSIZ), and Calico's begin with `cali`. In a view a profile's key fits behind a chain's prefix.
 use Rattle.std.specs.Prelude.{ℕ, List, [], ◌∷◌, Bool, true, false, not, ◌&&◌, ◌||◌, nat_le, nat_eq, length, codes, Option, Some, None, is_some}
 use Rattle.std.specs.List.{list_all, starts_with}
 use Rattle.std.specs.FinMap as maps
@@ -72,29 +72,30 @@ is_formed_view_profile_rule r = is_formed_view_rule r && not (passes r.action)
 
 -- ---- resources
 
-abbrev pub is_formed_profile_name : List ℕ → Bool
-is_formed_profile_name name = nat_le (length name) 19
-
 abbrev pub is_formed_endpoint : Endpoint → Bool
-is_formed_endpoint e = nat_le (length e.iface) 15 && (starts_with nat_eq e.iface (codes "cali") && list_all is_formed_profile_name e.profiles)
+is_formed_endpoint e = nat_le (length e.iface) 15 && starts_with nat_eq e.iface (codes "cali")
 
 abbrev pub is_formed : Update → Bool
 is_formed update.InSync = true
 is_formed (update.Put (key.Item k) (item.Endpoint e)) = is_formed_endpoint e
-is_formed (update.Put (key.Item k) (item.Profile p)) = true
-is_formed (update.Put (key.Profile name) (item.Endpoint e)) = true
-is_formed (update.Put (key.Profile name) (item.Profile p)) = is_formed_profile_name name && is_formed_profile p
+-- the item is of its key's kind
+is_formed (update.Put (key.Item k) (item.Profile p)) = false
+is_formed (update.Put (key.Profile name) (item.Endpoint e)) = false
+is_formed (update.Put (key.Profile name) (item.Profile p)) = is_formed_profile p
 is_formed (update.Delete k) = true
 
 abbrev pub are_formed : Resources → Bool
-are_formed R = list_all (λ x. is_formed_endpoint x.1) (maps.entries R.endpoints) && list_all (λ x. is_formed_profile_name x.0 && is_formed_profile x.1) (maps.entries R.profiles)
+are_formed R = list_all (λ x. is_formed_endpoint x.1) (maps.entries R.endpoints) && list_all (λ x. is_formed_profile x.1) (maps.entries R.profiles)
 
 -- what the view of such resources keeps
+abbrev pub is_formed_profile_key : List ℕ → Bool
+is_formed_profile_key key = nat_le (length key) 19
+
 abbrev pub is_formed_view_endpoint : List ℕ × ViewEndpoint → Bool
-is_formed_view_endpoint x = nat_le (length x.0) 15 && (starts_with nat_eq x.0 (codes "cali") && list_all is_formed_profile_name x.1.profiles)
+is_formed_view_endpoint x = nat_le (length x.0) 15 && (starts_with nat_eq x.0 (codes "cali") && list_all is_formed_profile_key x.1.profiles)
 
 abbrev pub is_formed_view_profile : List ℕ × ViewProfile → Bool
-is_formed_view_profile x = is_formed_profile_name x.0
+is_formed_view_profile x = is_formed_profile_key x.0
 
 abbrev pub is_formed_view : View → Bool
 is_formed_view v = list_all is_formed_view_endpoint (maps.entries v.endpoints) && list_all is_formed_view_profile (maps.entries v.profiles)

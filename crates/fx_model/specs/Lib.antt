@@ -6,7 +6,12 @@ pub mod Directions
 pub mod Criteria
 pub mod Formed
 pub mod Resources
+pub mod Labels
+pub mod Pairs
+pub mod Active
+pub mod Sinks
 pub mod Views
+pub mod Claims
 pub mod Rendering
 pub mod Tables
 pub mod Shapes

@@ -14,6 +14,11 @@ use Rattle.fx_model.specs.declared.rules.Action.TheVariants.{Allow, Deny, Log, P
 use Rattle.fx_model.specs.contracts.rules.ActionPartialEq.TheImpl as action
 use Rattle.fx_model.specs.declared.rules.Icmp.{Icmp}
 use Rattle.fx_model.specs.contracts.rules.IcmpPartialEq.TheImpl as icmp
+use Rattle.fx_model.specs.declared.rules.Side.{Side}
+use Rattle.fx_model.specs.contracts.rules.SidePartialEq.TheImpl as plain_side
+use Rattle.fx_model.specs.declared.rules.Rule.{Rule}
+use Rattle.fx_model.specs.contracts.rules.RulePartialEq.TheImpl as plain_rule
+use Rattle.fx_model.specs.contracts.rules.RuleClone.TheImpl as plain_rule_clone
 use Rattle.fx_model.specs.declared.view_rule.ViewPort.{ViewPort}
 use Rattle.fx_model.specs.declared.view_rule.ViewPort.TheVariants.{Range, Named}
 use Rattle.fx_model.specs.contracts.view_rule.ViewPortPartialEq.TheImpl as port
@@ -111,6 +116,66 @@ copies_view_rule x y h =
     let not_icmp = copies_option NotMessage (λ a b g. g.1.1.1.1.1.0) (λ b g. g.1.1.1.1.1.0) (λ a g. g.1.1.1.1.1.0) x.not_icmp y.not_icmp h in
     let source = copies_view_side x.source y.source h.1.1.1.1.1.1.0 in
     let destination = copies_view_side x.destination y.destination h.1.1.1.1.1.1.1 in
+    λ i. record {
+      action = h.0 i;
+      never = h.1.0 i;
+      protocol = protocol i;
+      not_protocol = not_protocol i;
+      icmp = icmp i;
+      not_icmp = not_icmp i;
+      source = source i;
+      destination = destination i;
+    }
+
+-- ---- the same of rules as they are read
+
+pub same_side : (x y : Side) → plain_side.eq-value.it x y ≡ true → x ≡ y
+same_side x y e =
+    let p = both_pass _ _ e in
+    let q = both_pass _ _ p.1 in
+    let r = both_pass _ _ q.1 in
+    λ i. record {
+      nets = same_list _ same_cidr x.nets y.nets p.0 i;
+      not_nets = same_list _ same_cidr x.not_nets y.not_nets q.0 i;
+      ports = same_list _ same_range x.ports y.ports r.0 i;
+      not_ports = same_list _ same_range x.not_ports y.not_ports r.1 i;
+    }
+
+pub same_rule : (x y : Rule) → plain_rule.eq-value.it x y ≡ true → x ≡ y
+same_rule x y e =
+    let p = both_pass _ _ e in
+    let q = both_pass _ _ p.1 in
+    let r = both_pass _ _ q.1 in
+    let s = both_pass _ _ r.1 in
+    let t = both_pass _ _ s.1 in
+    let u = both_pass _ _ t.1 in
+    let v = both_pass _ _ u.1 in
+    λ i. record {
+      action = same_action x.action y.action p.0 i;
+      never = same_truths x.never y.never q.0 i;
+      protocol = same_option _ same_proto x.protocol y.protocol r.0 i;
+      not_protocol = same_option _ same_proto x.not_protocol y.not_protocol s.0 i;
+      icmp = same_option _ same_icmp x.icmp y.icmp t.0 i;
+      not_icmp = same_option _ same_icmp x.not_icmp y.not_icmp u.0 i;
+      source = same_side x.source y.source v.0 i;
+      destination = same_side x.destination y.destination v.1 i;
+    }
+
+copies_side : (x y : Side) → (y.nets ≡ x.nets) × ((y.not_nets ≡ x.not_nets) × ((y.ports ≡ x.ports) × (y.not_ports ≡ x.not_ports))) → y ≡ x
+copies_side x y h i = record { nets = h.0 i; not_nets = h.1.0 i; ports = h.1.1.0 i; not_ports = h.1.1.1 i }
+
+pub copies_rule : (x y : Rule) → plain_rule_clone.is_clone-value.it x y → y ≡ x
+copies_rule x y h =
+    let Protocol : Option Proto → Option Proto → Type 0 = λ p q. plain_rule_clone.is_clone-value.it (record x { protocol = p }) (record y { protocol = q }) in
+    let NotProtocol : Option Proto → Option Proto → Type 0 = λ p q. plain_rule_clone.is_clone-value.it (record x { not_protocol = p }) (record y { not_protocol = q }) in
+    let Message : Option Icmp → Option Icmp → Type 0 = λ p q. plain_rule_clone.is_clone-value.it (record x { icmp = p }) (record y { icmp = q }) in
+    let NotMessage : Option Icmp → Option Icmp → Type 0 = λ p q. plain_rule_clone.is_clone-value.it (record x { not_icmp = p }) (record y { not_icmp = q }) in
+    let protocol = copies_option Protocol (λ a b g. g.1.1.0) (λ b g. g.1.1.0) (λ a g. g.1.1.0) x.protocol y.protocol h in
+    let not_protocol = copies_option NotProtocol (λ a b g. g.1.1.1.0) (λ b g. g.1.1.1.0) (λ a g. g.1.1.1.0) x.not_protocol y.not_protocol h in
+    let icmp = copies_option Message (λ a b g. g.1.1.1.1.0) (λ b g. g.1.1.1.1.0) (λ a g. g.1.1.1.1.0) x.icmp y.icmp h in
+    let not_icmp = copies_option NotMessage (λ a b g. g.1.1.1.1.1.0) (λ b g. g.1.1.1.1.1.0) (λ a g. g.1.1.1.1.1.0) x.not_icmp y.not_icmp h in
+    let source = copies_side x.source y.source h.1.1.1.1.1.1.0 in
+    let destination = copies_side x.destination y.destination h.1.1.1.1.1.1.1 in
     λ i. record {
       action = h.0 i;
       never = h.1.0 i;

@@ -25,7 +25,8 @@ use Rattle.fx_model.specs.declared.view.ViewProfile.{ViewProfile}
 use Rattle.fx_model.specs.declared.view.ViewEndpoint.{ViewEndpoint}
 use Rattle.fx_model.specs.Directions.{Direction, Ingress, Egress}
 use Rattle.fx_model.specs.Resources.{is_local, is_served}
-use Rattle.fx_model.specs.Views.{view_of}
+use Rattle.fx_names.specs.Digests.{Digest}
+use Rattle.fx_model.specs.Views.{view_of, is_active_profile, profile_key}
 use Rattle.fx_model.specs.Closed.{IsClosedView}
 use Rattle.fx_model.specs.Tables.{Tables, Sets, tables_of, policy_side, profile_side, tiers_side}
 use Rattle.fx_model.specs.Policy.{MetRule, Tier, Listed, Missing, There, Decision, Outcome, tiers_verdict, profiles_verdict, side_verdict, both_sides, is_workload, packet_verdict}
@@ -121,11 +122,13 @@ TablesAgree =
     (v : View) (a : Packet) → IsClosedView v → IsOnWorkloads v → HasFormedRules v → a.state ≡ New
     → let answer = view_verdict v a in Decides (tables_of v) a answer.verdict answer.egress answer.ingress
 
--- served endpoints stand on workloads' interfaces, each on its own, and the rules of profiles are formed
-pub record IsServable (R : Resources) : Type 0 where
+-- served endpoints stand on workloads' interfaces, each on its own; the rules of profiles are formed, and the profiles that served
+-- endpoints list have each its own key
+pub record IsServable (dg : Digest) (R : Resources) : Type 0 where
   pub rules : (name : List ℕ) (p : Profile) → maps.get R.profiles name ≡ Some p → is_formed_profile p ≡ true
   pub on_workloads : (k : ItemKey) (e : Endpoint) → maps.get R.endpoints k ≡ Some e → is_served R e ≡ true → is_workload e.iface ≡ true
   pub apart : (k l : ItemKey) (e f : Endpoint) → maps.get R.endpoints k ≡ Some e → maps.get R.endpoints l ≡ Some f → is_served R e ≡ true → is_served R f ≡ true → e.iface ≡ f.iface → k ≡ l
+  pub keys_apart : (a b : List ℕ) → is_active_profile R a ≡ true → is_active_profile R b ≡ true → profile_key dg a ≡ profile_key dg b → a ≡ b
 
 -- at most one endpoint runs on this node
 abbrev pub HasLoneLocal : Resources → Type 0
@@ -136,11 +139,11 @@ HasLoneLocal R =
 -- the tables of servable resources give each first packet the policy reference's verdict and reasons
 abbrev pub PolicyIsKept : Type 0
 PolicyIsKept =
-    (R : Resources) (a : Packet) → IsServable R → a.state ≡ New
-    → let answer = packet_verdict R a in Decides (tables_of (view_of R)) a answer.verdict answer.egress answer.ingress
+    (dg : Digest) (R : Resources) (a : Packet) → IsServable dg R → a.state ≡ New
+    → let answer = packet_verdict R a in Decides (tables_of (view_of dg R)) a answer.verdict answer.egress answer.ingress
 
--- for all resources of which these are the tables, this is the policy reference's answer to a packet in state NEW
+-- for all resources of which these are the tables, by whatever digest, this is the policy reference's answer to a packet in state NEW
 abbrev pub IsPolicyAnswer : Tables → Packet → Verdict → Option Reason → Option Reason → Type 0
 IsPolicyAnswer tables a v egress ingress =
-    (R : Resources) → tables ≡ tables_of (view_of R) → IsServable R → a.state ≡ New
+    (dg : Digest) (R : Resources) → tables ≡ tables_of (view_of dg R) → IsServable dg R → a.state ≡ New
     → let answer = packet_verdict R a in (v ≡ answer.verdict) × (egress ≡ answer.egress) × (ingress ≡ answer.ingress)

@@ -1,9 +1,14 @@
 -- What a node needs of the resources. From Felix's documented calculation graph: the endpoints that run on the node, and
 -- the profiles that they list, whether a profile is there or not.
-use Rattle.std.specs.Prelude.{ℕ, List, [], map, Option, Some, None, true, false}
-use Rattle.std.specs.List.{flat_map}
+use Rattle.std.specs.Prelude.{ℕ, Bool, List, [], map, Option, Some, None, true, false}
+use Rattle.std.specs.List.{flat_map, list_any}
+use Rattle.std.specs.Ordering.{nat_cmp, eq_by_cmp}
+use Rattle.std.specs.Cmp.Lexicographic.{slice_cmp}
 use Rattle.std.specs.FinMap as maps
 use Rattle.fx_base.specs.Extended.{collected}
+use Rattle.fx_names.specs.Digests.{Digest}
+use Rattle.fx_names.specs.Names.{key_of}
+use Rattle.fx_names.specs.declared.prefix.Prefix.TheVariants.{ProfileIn}
 use Rattle.fx_model.specs.declared.ids.ItemKey.{ItemKey}
 use Rattle.fx_model.specs.declared.ids.ItemKey.TheVariants as key
 use Rattle.fx_model.specs.declared.resources.Endpoint.{Endpoint}
@@ -42,36 +47,40 @@ view_rule r = record {
   destination = view_side r.destination;
 }
 
--- a profile's key: its name
-abbrev pub profile_key : List ℕ → List ℕ
-profile_key name = name
+-- a profile's key: what stands behind the prefix in the names of both its chains
+abbrev pub profile_key : Digest → List ℕ → List ℕ
+profile_key dg name = key_of dg ProfileIn name
 
 abbrev pub view_profile : List ℕ → Option Profile → ViewProfile
 view_profile name None = record { name = name; missing = true; ingress = []; egress = [] }
 view_profile name (Some p) = record { name = name; missing = false; ingress = map view_rule p.ingress; egress = map view_rule p.egress }
 
 -- an endpoint with its profiles; there are no policies yet, so no tier takes part
-abbrev pub view_endpoint : ItemKey → Endpoint → ViewEndpoint
-view_endpoint (key.Endpoint ns name) e = record { ns = ns; name = name; ingress = []; egress = []; profiles = map profile_key e.profiles }
-view_endpoint (key.NetSet ns name) e = record { ns = []; name = name; ingress = []; egress = []; profiles = map profile_key e.profiles }
+abbrev pub view_endpoint : Digest → ItemKey → Endpoint → ViewEndpoint
+view_endpoint dg (key.Endpoint ns name) e = record { ns = ns; name = name; ingress = []; egress = []; profiles = map (profile_key dg) e.profiles }
+view_endpoint dg (key.NetSet ns name) e = record { ns = []; name = name; ingress = []; egress = []; profiles = map (profile_key dg) e.profiles }
 
 -- the names that served endpoints list
 abbrev pub active_profiles : Resources → List (List ℕ)
 active_profiles R = flat_map (λ x. x.1.profiles) (served_endpoints R)
 
-abbrev pub profile_entry : Resources → List ℕ → List ℕ × ViewProfile
-profile_entry R name = (profile_key name, view_profile name (maps.get R.profiles name))
+-- whether a served endpoint lists the name
+abbrev pub is_active_profile : Resources → List ℕ → Bool
+is_active_profile R name = list_any (eq_by_cmp (slice_cmp nat_cmp) name) (active_profiles R)
 
-abbrev pub endpoint_entry : ItemKey × Endpoint → List ℕ × ViewEndpoint
-endpoint_entry x = (x.1.iface, view_endpoint x.0 x.1)
+abbrev pub profile_entry : Digest → Resources → List ℕ → List ℕ × ViewProfile
+profile_entry dg R name = (profile_key dg name, view_profile name (maps.get R.profiles name))
 
--- the view of the resources
-abbrev pub view_of : Resources → View
-view_of R = record {
+abbrev pub endpoint_entry : Digest → ItemKey × Endpoint → List ℕ × ViewEndpoint
+endpoint_entry dg x = (x.1.iface, view_endpoint dg x.0 x.1)
+
+-- the view of the resources, with names by this digest
+abbrev pub view_of : Digest → Resources → View
+view_of dg R = record {
   sets = maps.empty;
   policies = maps.empty;
-  profiles = collected (map (profile_entry R) (active_profiles R));
-  endpoints = collected (map endpoint_entry (served_endpoints R));
+  profiles = collected (map (profile_entry dg R) (active_profiles R));
+  endpoints = collected (map (endpoint_entry dg) (served_endpoints R));
 }
 
 -- the view before anything was sent

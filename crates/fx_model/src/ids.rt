@@ -4,7 +4,7 @@ ghost use Rattle.fx_model.specs.SameIds.{same_policy_id, copies_policy_id, same_
 use fx_base::{Exact, Text};
 
 /// A policy's name: global, in a namespace, or of Kubernetes in a namespace.
-#[derive(Clone, Debug, PartialEq, Eq, Drop)]
+#[derive(Clone, Debug, PartialEq, Eq, PartialOrd, Ord, Drop)]
 pub enum PolicyId {
     Global { name: Text },
     Namespaced { ns: Text, name: Text },

@@ -1,10 +1,15 @@
 //! What holds of every view, of its tables and of the messages towards it. Each law is a contract; no function does
 //! anything.
-ghost use Rattle.std.specs.Prelude.{◌≡◌, ◌+◌, Some, None};
+ghost use Rattle.std.specs.Prelude.{◌≡◌, ◌+◌, List, ℕ, false, true, Some, None};
 ghost use Rattle.std.specs.List.{AllByRecursion};
 ghost use Rattle.std.specs.FinMap as map;
 ghost use Rattle.fx_model.specs.declared.resources.Resources.{Resources};
+ghost use Rattle.fx_model.specs.declared.resources.Update.{Update};
 ghost use Rattle.fx_model.specs.declared.view.View.{View};
+ghost use Rattle.fx_names.specs.Digests.{Digest};
+ghost use Rattle.fx_model.specs.Resources.{after};
+ghost use Rattle.fx_model.specs.Formed.{is_formed};
+ghost use Rattle.fx_model.specs.Claims.{clash, IsClashFree};
 ghost use Rattle.fx_model.specs.Views.{view_of};
 ghost use Rattle.fx_model.specs.Tables.{chains_of, tables_of};
 ghost use Rattle.fx_model.specs.Closed.{IsClosedView, AreClosedTables};
@@ -15,7 +20,7 @@ ghost use Rattle.fx_model.specs.Flushing.{sent_after};
 
 /// The view of any resources names nothing that it lacks.
 pub fn wanted_view_is_closed()
-    ensures { (R : Resources) → IsClosedView (view_of R) }
+    ensures { (dg : Digest) (R : Resources) → IsClosedView (view_of dg R) }
 {}
 
 /// A closed view's tables name nothing that they lack, and no chain leads to one of its own rank or above.
@@ -53,4 +58,10 @@ pub fn flush_ends_at_the_wanted_view()
 /// Each view on the way of a flush is closed.
 pub fn flush_keeps_views_closed()
     ensures { (sent wanted : View) → IsClosedView sent → IsClosedView wanted → AllByRecursion IsClosedView (sent_views (flush sent wanted) sent wanted) }
+{}
+
+/// No two holders claim one name at the start, nor after an update that clashes with nothing.
+pub fn accepted_updates_keep_claims_apart()
+    ensures start { (dg : Digest) (node : List ℕ) → IsClashFree dg (record { node = node; in_sync = false; endpoints = map.empty; profiles = map.empty }) }
+    ensures after { (dg : Digest) (R : Resources) (u : Update) → is_formed u ≡ true → IsClashFree dg R → clash dg R u ≡ None → IsClashFree dg (after R u) }
 {}

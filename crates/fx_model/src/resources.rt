@@ -6,21 +6,36 @@ use crate::ids::{ItemKey, Key};
 use crate::item_map::ItemMap;
 use crate::rules::Rule;
 use fx_base::{Memory, Seq, Text, TextMap};
-use std::alloc::Global;
+use fx_selector::Labels;
+use std::alloc::{AllocError, Global};
 
-/// A workload endpoint: the node that it runs on, its interface there, and its profiles in listed order.
+/// A workload endpoint: the node that it runs on, its interface there, its own labels, and its profiles in listed order.
 #[derive(Debug, Drop)]
 pub struct Endpoint {
     pub node: Text,
     pub iface: Text,
+    pub labels: Labels,
     pub profiles: Seq<Text>,
 }
 
-/// A profile: its rules for packets to and from the endpoints that list it.
+/// A profile: what the endpoints that list it inherit, its labels and its rules for packets to them and from them.
 #[derive(Debug, Drop)]
 pub struct Profile {
+    pub labels: Labels,
     pub ingress: Seq<Rule>,
     pub egress: Seq<Rule>,
+}
+
+impl Clone for Profile {
+    ghost is_clone = { λ a b. b ≡ a };
+
+    fn clone(&self) -> Result<Self, AllocError> {
+        Ok(Profile {
+            labels: self.labels.clone()?,
+            ingress: self.ingress.clone()?,
+            egress: self.egress.clone()?,
+        })
+    }
 }
 
 /// A resource.

@@ -1,5 +1,7 @@
 //! Rules, as Calico's resource reference (`projectcalico.org/v3`) has them: what a packet must meet, and what is done with it.
-use fx_base::{Net, PortRange, Proto, Seq};
+ghost use Rattle.fx_model.specs.SameRules.{same_side, same_rule, copies_rule};
+
+use fx_base::{Exact, Net, PortRange, Proto, Seq};
 
 /// What a rule does with a packet that it matches. `Log` lets the next rule decide, and `Pass` the next tier or the profiles.
 #[derive(Clone, Copy, Debug, PartialEq, Eq)]
@@ -18,7 +20,7 @@ pub struct Icmp {
 }
 
 /// What a rule asks of one end of a packet's way. An empty list asks nothing.
-#[derive(Debug, Drop)]
+#[derive(Clone, Debug, PartialEq, Eq, Drop)]
 pub struct Side {
     pub nets: Seq<Net>,
     pub not_nets: Seq<Net>,
@@ -26,8 +28,14 @@ pub struct Side {
     pub not_ports: Seq<PortRange>,
 }
 
+impl Exact for Side {
+    ghost same = { same_side };
+
+    ghost copies = { λ x y h i. record { nets = h.0 i; not_nets = h.1.0 i; ports = h.1.1.0 i; not_ports = h.1.1.1 i } };
+}
+
 /// A rule. One that is `never` met asks for packets that aren't of IPv4.
-#[derive(Debug, Drop)]
+#[derive(Clone, Debug, PartialEq, Eq, Drop)]
 pub struct Rule {
     pub action: Action,
     pub never: bool,
@@ -37,4 +45,10 @@ pub struct Rule {
     pub not_icmp: Option<Icmp>,
     pub source: Side,
     pub destination: Side,
+}
+
+impl Exact for Rule {
+    ghost same = { same_rule };
+
+    ghost copies = { copies_rule };
 }

@@ -1,10 +1,8 @@
 //! The view of the resources, computed whole.
-ghost use Rattle.std.specs.Prelude.{◌≡◌, IfOk, OnOk, map, true};
+ghost use Rattle.std.specs.Prelude.{◌≡◌, IfOk, OnOk, map};
 ghost use Rattle.std.specs.Option.{option_copied};
-ghost use Rattle.std.specs.List.{list_all};
 ghost use Rattle.std.specs.FinMap as maps;
 ghost use Rattle.fx_base.specs.Extended.{extended};
-ghost use Rattle.fx_model.specs.Formed.{are_formed, is_formed_profile_name, is_formed_endpoint};
 ghost use Rattle.fx_model.specs.Views.{view_of, view_rule, view_side, view_profile, view_endpoint, profile_entry, profile_key};
 
 use crate::ids::ItemKey;
@@ -13,55 +11,65 @@ use crate::rules::{Rule, Side};
 use crate::view::{View, ViewEndpoint, ViewProfile};
 use crate::view_rule::{ViewPort, ViewRule, ViewSide};
 use fx_base::{Memory, NameKey, NameMap, PortRange, Seq, Text};
+use fx_names::{Answers, DigestRule, Namer, Prefix};
 use std::alloc::Global;
 
 /// What the node needs of the resources.
 #[tactic(auto, using(crate::proofs::Serving::profiles_both))]
-pub fn view_of(alloc: Global, resources: &Resources) -> Result<View, Memory>
-    requires { are_formed resources.now ≡ true }
-    ensures { IfOk result (λ v. v ≡ view_of resources.now) }
+pub fn view_of<R: DigestRule, F: Answers<R> + Drop>(
+    alloc: Global,
+    resources: &Resources,
+    namer: &Namer<R, F>,
+) -> Result<View, Memory>
+    ensures { IfOk result (λ v. v ≡ view_of R.digest_of resources.now) }
 {
     let mut view = View::new(alloc);
     for (key, endpoint) in resources.endpoints.iter() {
         if resources.is_served(endpoint) {
-            put_served(alloc, resources, key, endpoint, &mut view)?;
+            put_served(alloc, resources, namer, key, endpoint, &mut view)?;
         }
     }
     Ok(view)
 }
 
 // A served endpoint and its profiles.
-fn put_served(
+fn put_served<R: DigestRule, F: Answers<R> + Drop>(
     alloc: Global,
     resources: &Resources,
+    namer: &Namer<R, F>,
     key: &ItemKey,
     endpoint: &Endpoint,
     view: &mut View,
 ) -> Result<(), Memory>
-    requires { is_formed_endpoint endpoint.now ≡ true }
-    ensures profiles { OnOk result (view.new.profiles ≡ extended view.old.profiles (map (profile_entry resources.now) endpoint.now.profiles)) }
-    ensures endpoint { OnOk result (view.new.endpoints ≡ maps.insert view.old.endpoints endpoint.now.iface (view_endpoint key.now endpoint.now)) }
+    ensures profiles { OnOk result (view.new.profiles ≡ extended view.old.profiles (map (profile_entry R.digest_of resources.now) endpoint.now.profiles)) }
+    ensures endpoint { OnOk result (view.new.endpoints ≡ maps.insert view.old.endpoints endpoint.now.iface (view_endpoint R.digest_of key.now endpoint.now)) }
     ensures others { (view.new.sets ≡ view.old.sets) × (view.new.policies ≡ view.old.policies) }
 {
-    put_profiles(alloc, resources, &endpoint.profiles, &mut view.profiles)?;
-    let wanted = view_endpoint(alloc, key, endpoint)?;
+    put_profiles(
+        alloc,
+        resources,
+        namer,
+        &endpoint.profiles,
+        &mut view.profiles,
+    )?;
+    let wanted = view_endpoint(alloc, namer, key, endpoint)?;
     view.endpoints.insert(endpoint.iface.clone()?, wanted)?;
     Ok(())
 }
 
 // The profiles of these names.
-fn put_profiles(
+fn put_profiles<R: DigestRule, F: Answers<R> + Drop>(
     alloc: Global,
     resources: &Resources,
+    namer: &Namer<R, F>,
     names: &Seq<Text>,
     profiles: &mut NameMap<ViewProfile>,
 ) -> Result<(), Memory>
-    requires { list_all is_formed_profile_name names.now ≡ true }
-    ensures { OnOk result (profiles.new ≡ extended profiles.old (map (profile_entry resources.now) names.now)) }
+    ensures { OnOk result (profiles.new ≡ extended profiles.old (map (profile_entry R.digest_of resources.now) names.now)) }
 {
     for name in names.as_slice() {
         let profile = view_profile(alloc, name, resources.profiles.get(name))?;
-        profiles.insert(NameKey::new(name.bytes()), profile)?;
+        profiles.insert(namer.key(Prefix::ProfileIn, name.bytes()), profile)?;
     }
     Ok(())
 }
@@ -138,9 +146,13 @@ fn view_ports(alloc: Global, ports: &Seq<PortRange>) -> Result<Seq<ViewPort>, Me
     Ok(wanted)
 }
 
-fn view_endpoint(alloc: Global, key: &ItemKey, endpoint: &Endpoint) -> Result<ViewEndpoint, Memory>
-    requires { is_formed_endpoint endpoint.now ≡ true }
-    ensures { IfOk result (λ e. e ≡ view_endpoint key.now endpoint.now) }
+fn view_endpoint<R: DigestRule, F: Answers<R> + Drop>(
+    alloc: Global,
+    namer: &Namer<R, F>,
+    key: &ItemKey,
+    endpoint: &Endpoint,
+) -> Result<ViewEndpoint, Memory>
+    ensures { IfOk result (λ e. e ≡ view_endpoint R.digest_of key.now endpoint.now) }
 {
     let (ns, name) = match key {
         ItemKey::Endpoint { ns, name } => (ns.clone()?, name.clone()?),
@@ -151,18 +163,21 @@ fn view_endpoint(alloc: Global, key: &ItemKey, endpoint: &Endpoint) -> Result<Vi
         name,
         ingress: Seq::new(alloc),
         egress: Seq::new(alloc),
-        profiles: keys_of(alloc, &endpoint.profiles)?,
+        profiles: keys_of(alloc, namer, &endpoint.profiles)?,
     })
 }
 
 // The keys of profiles.
-fn keys_of(alloc: Global, names: &Seq<Text>) -> Result<Seq<NameKey>, Memory>
-    requires { list_all is_formed_profile_name names.now ≡ true }
-    ensures { IfOk result (λ keys. keys ≡ map profile_key names.now) }
+fn keys_of<R: DigestRule, F: Answers<R> + Drop>(
+    alloc: Global,
+    namer: &Namer<R, F>,
+    names: &Seq<Text>,
+) -> Result<Seq<NameKey>, Memory>
+    ensures { IfOk result (λ keys. keys ≡ map (profile_key R.digest_of) names.now) }
 {
     let mut keys = Seq::new(alloc);
     for name in names.as_slice() {
-        keys.push(NameKey::new(name.bytes()))?;
+        keys.push(namer.key(Prefix::ProfileIn, name.bytes()))?;
     }
     Ok(keys)
 }

@@ -1,30 +1,25 @@
 -- The lines of answers that aren't about packets, messages or tables, each with its newline. The README of this repository
 -- is their public source.
-use Rattle.std.specs.Prelude.{ℕ, List, [], ◌∷◌, ◌++◌, codes, decimal}
+use Rattle.std.specs.Prelude.{ℕ, List, [], ◌++◌, Option, Some, None, codes, decimal}
+use Rattle.fx_base.specs.KernelName.{kernel_bytes}
 use Rattle.fx_json.specs.declared.refusal.Refusal.{Refusal}
+use Rattle.fx_json.specs.declared.refusal.Refusal.TheVariants.{Read, BadJson, BadLine, Taken}
+use Rattle.fx_json.specs.Faults.{path_of}
 use Rattle.fx_json.specs.Refusals.{number_of, name_of}
-use Rattle.fx_json.specs.declared.refusal.Refusal.TheVariants.{Read, BadJson, BadLine}
-use Rattle.fx_json.specs.declared.fault.ReadFault.{ReadFault}
-use Rattle.fx_json.specs.declared.fault.ReadFault.TheVariants.{UnknownKind, MissingField, BadField, Unsupported, PortsWithoutProtocol, IcmpWithoutProtocol, PassInProfile, Memory}
 
--- a space and the path, where a fault has one
-abbrev pub path_text : ReadFault → List ℕ
-path_text UnknownKind = []
-path_text (MissingField path) = codes " " ++ path
-path_text (BadField path) = codes " " ++ path
-path_text (Unsupported path) = codes " " ++ path
-path_text (PortsWithoutProtocol path) = codes " " ++ path
-path_text (IcmpWithoutProtocol path) = codes " " ++ path
-path_text (PassInProfile path) = codes " " ++ path
-path_text Memory = []
+-- a space and the path, where there is one
+abbrev pub path_text : Option (List ℕ) → List ℕ
+path_text None = []
+path_text (Some path) = codes " " ++ path
 
--- what follows the name
+-- what follows the name: a path, or the name in the kernel that is taken and its holder
 abbrev pub detail_of : Refusal → List ℕ
-detail_of (Read fault) = path_text fault
+detail_of (Read fault) = path_text (path_of fault)
 detail_of BadJson = []
 detail_of BadLine = []
+detail_of (Taken name holder) = codes " " ++ (kernel_bytes name ++ (codes " " ++ holder))
 
--- `refused LINE NUMBER NAME`, and ` PATH` where there is one
+-- `refused LINE NUMBER NAME`, and what follows it
 abbrev pub refusal_line : ℕ → Refusal → List ℕ
 refusal_line line r =
     codes "refused " ++ (decimal line ++ (codes " " ++ (decimal (number_of r) ++ (codes " " ++ (name_of r ++ (detail_of r ++ codes "\n"))))))

@@ -4,8 +4,8 @@ use crate::packets::packet_texts;
 use crate::tables::tables_text;
 use crate::texts::{flushed_text, refusal_text, usage_text};
 use fx_base::{
-    ChainMap, ChainName, Ipv4, Memory, NameKey, Net, PortRange, Proto, Seq, SetKind, SetMap,
-    SetName, Text,
+    ChainMap, ChainName, Ipv4, KernelName, Memory, NameKey, Net, PortRange, Proto, Seq, SetKind,
+    SetMap, SetName, Text,
 };
 use fx_json::{ReadFault, Refusal};
 use fx_model::{
@@ -84,6 +84,14 @@ fn refusals(rt: HostRuntime) -> Result<(), Fail> {
         alloc,
         Refusal::Read(ReadFault::Unsupported { path }),
         b"refused 10 5 Unsupported spec.node\n",
+    )?;
+    let name = KernelName::Chain(ChainName::join(b"cali-pri-", b"p"));
+    let holder = text(alloc, b"profile p")?;
+    refuses(
+        &rt,
+        alloc,
+        Refusal::Taken { name, holder },
+        b"refused 10 30 Taken cali-pri-p profile p\n",
     )?;
     Ok(())
 }

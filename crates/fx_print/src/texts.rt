@@ -1,5 +1,6 @@
 //! Numbers and plain answers as text.
 ghost use Rattle.std.specs.Prelude.{◌≡◌, ◌++◌, ◌∷◌, OnOk, IfOk, decimal};
+ghost use Rattle.fx_json.specs.Faults.{path_of};
 ghost use Rattle.fx_print.specs.Texts.{path_text, detail_of, refusal_line, flushed_line, usage_line};
 
 use fx_base::{Memory, Text};
@@ -36,20 +37,19 @@ fn push_detail(line: &mut Vec<u8>, refusal: &Refusal) -> Result<(), Memory>
     match refusal {
         Refusal::Read(fault) => push_path(line, fault),
         Refusal::BadJson | Refusal::BadLine => Ok(()),
+        Refusal::Taken { name, holder } => {
+            push_word(line, name.bytes())?;
+            push_word(line, holder.bytes())
+        }
     }
 }
 
 fn push_path(line: &mut Vec<u8>, fault: &ReadFault) -> Result<(), Memory>
-    ensures { OnOk result (line.new.items ≡ line.old.items ++ path_text fault.now) }
+    ensures { OnOk result (line.new.items ≡ line.old.items ++ path_text (path_of fault.now)) }
 {
-    match fault {
-        ReadFault::UnknownKind | ReadFault::Memory => Ok(()),
-        ReadFault::MissingField { path }
-        | ReadFault::BadField { path }
-        | ReadFault::Unsupported { path }
-        | ReadFault::PortsWithoutProtocol { path }
-        | ReadFault::IcmpWithoutProtocol { path }
-        | ReadFault::PassInProfile { path } => push_word(line, path.bytes()),
+    match fault.path() {
+        Some(path) => push_word(line, path.bytes()),
+        None => Ok(()),
     }
 }
 

@@ -4,6 +4,7 @@ ghost use Rattle.std.specs.Option.{option_copied};
 ghost use Rattle.std.specs.FinMap as map;
 ghost use Rattle.std.specs.Cmp.{on_per, and_per, on_equiv, and_equiv, partial_equiv_from_equiv};
 ghost use Rattle.std.specs.Cmp.Lexicographic.{pointwise, lists_per, lists_equiv, nat_list_eq_equiv};
+ghost use Rattle.fx_base.specs.Extended.{extended};
 ghost use Rattle.fx_base.specs.Same.{same_bytes, same_finite};
 
 use fx_base::{Exact, Memory, Text};
@@ -12,7 +13,7 @@ use std::collections::BTreeMap;
 use std::marker::Model;
 
 /// Label values by their keys, both texts of any bytes.
-#[derive(Drop)]
+#[derive(Debug, Drop)]
 pub struct Labels {
     alloc: Global,
     held: BTreeMap<Vec<u8>, Text>,
@@ -53,6 +54,16 @@ impl Labels {
         let key = Vec::from_slice(self.alloc, key)?;
         let value = Text::new(self.alloc, value)?;
         self.held.insert(key, value)?;
+        Ok(())
+    }
+
+    /// Sets all these labels, over those that are there. After want of memory the labels are not used again.
+    pub fn put_all(&mut self, labels: &Labels) -> Result<(), Memory>
+        ensures { OnOk result (self.new ≡ extended self.old (map.entries labels.now)) }
+    {
+        for (key, value) in labels.held.iter() {
+            self.put(key, value.bytes())?;
+        }
         Ok(())
     }
 

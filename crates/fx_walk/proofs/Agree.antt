@@ -27,9 +27,9 @@ pub tables_agree : TablesAgree
 tables_agree v a closed on formed new = machine_agrees a v (tables_of v).chains (tables_render v) formed new on (ranked-tables v closed)
 
 pub policy_is_kept : PolicyIsKept
-policy_is_kept R a servable new =
-    subst (λ (x : Outcome). Decides (tables_of (view_of R)) a x.verdict x.egress x.ingress) (view_is_policy R a servable)
-    (tables_agree (view_of R) a (view_of-closed R) (on_workloads R a servable) (formed_rules R servable) new)
+policy_is_kept dg R a servable new =
+    subst (λ (x : Outcome). Decides (tables_of (view_of dg R)) a x.verdict x.egress x.ingress) (view_is_policy dg R a servable)
+    (tables_agree (view_of dg R) a (view_of-closed dg R) (on_workloads dg R a servable) (formed_rules dg R servable) new)
 
 module _ {S T : Type 0} (f : S → T) where
   verdict-seen : (e : Ended S) → verdict_of (seen_by f e) ≡ verdict_of e
@@ -61,5 +61,5 @@ traced_decides tables a ranked before after v e i run =
 
 -- what is decided on a first packet is what the policy reference says
 pub is_policy_answer : (tables : Tables) (a : Packet) (v : Verdict) (e i : Option Reason) → Decides tables a v e i → IsPolicyAnswer tables a v e i
-is_policy_answer tables a v e i run R is servable new =
-    run_has_one_end (tables_of (view_of R)) a v _ e _ i _ (subst (λ t. Decides t a v e i) is run) (policy_is_kept R a servable new)
+is_policy_answer tables a v e i run dg R is servable new =
+    run_has_one_end (tables_of (view_of dg R)) a v _ e _ i _ (subst (λ t. Decides t a v e i) is run) (policy_is_kept dg R a servable new)

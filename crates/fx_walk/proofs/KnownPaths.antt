@@ -27,6 +27,7 @@ use Rattle.fx_model.specs.declared.resources.Resources.{Resources}
 use Rattle.fx_model.specs.declared.view.ViewEndpoint.{ViewEndpoint}
 use Rattle.fx_model.specs.Directions.{Ingress, Egress}
 use Rattle.fx_model.specs.Resources.{is_served, served_endpoints}
+use Rattle.fx_names.specs.Digests.{Digest, plain_digest}
 use Rattle.fx_model.specs.Views.{view_of, view_profile, view_endpoint, endpoint_entry, profile_entry}
 use Rattle.fx_model.specs.Tables.{ChainName, Chains, forward, forward_rules, root_of, dispatch_rules, dispatch_chains, policy_chains, profile_chains, endpoint_chains, chains_of, tables_of}
 use Rattle.fx_model.specs.Machine.{Test, Notes, Trace, holds, hops_and_reasons, last_reason, nothing_noted, rules_found, rules_in}
@@ -50,7 +51,7 @@ abbrev endpoint_key : ItemKey
 endpoint_key = key.Endpoint (codes "a") (codes "w1")
 
 abbrev endpoint : Endpoint
-endpoint = record { node = codes "n1"; iface = codes "cali1"; profiles = codes "open" ∷ [] }
+endpoint = record { node = codes "n1"; iface = codes "cali1"; labels = maps.empty; profiles = codes "open" ∷ [] }
 
 abbrev any_side : Side
 any_side = record { nets = []; not_nets = []; ports = []; not_ports = [] }
@@ -59,7 +60,7 @@ abbrev allow_all : Rule
 allow_all = record { action = Allow; never = false; protocol = None; not_protocol = None; icmp = None; not_icmp = None; source = any_side; destination = any_side }
 
 abbrev open_profile : Profile
-open_profile = record { ingress = allow_all ∷ []; egress = allow_all ∷ [] }
+open_profile = record { labels = maps.empty; ingress = allow_all ∷ []; egress = allow_all ∷ [] }
 
 abbrev node : maps.FinMap (slice_cmp nat_cmp) Profile → Resources
 node profiles = record { node = codes "n1"; in_sync = true; endpoints = maps.insert maps.empty endpoint_key endpoint; profiles = profiles }
@@ -70,50 +71,50 @@ one_endpoint = maps.entries-insert item_total maps.empty endpoint_key endpoint �
 one_entry : {X : Type 0} (k : List ℕ) (x : X) → maps.entries (maps.insert (maps.empty {X = X} {R = slice_cmp nat_cmp}) k x) ≡ (k, x) ∷ []
 one_entry k x = maps.entries-insert nat_list_cmp_total maps.empty k x ∙ ap (maps.put (slice_cmp nat_cmp) k x) (entries-empty (slice_cmp nat_cmp))
 
-module _ (profiles : maps.FinMap (slice_cmp nat_cmp) Profile) (o : Option Profile) (at : maps.get profiles (codes "open") ≡ o) where
+module _ (dg : Digest) (profiles : maps.FinMap (slice_cmp nat_cmp) Profile) (o : Option Profile) (at : maps.get profiles (codes "open") ≡ o) where
   abbrev R : Resources
   R = node profiles
 
   served : served_endpoints R ≡ (endpoint_key, endpoint) ∷ []
   served = ap (filter (λ x. is_served R x.1)) one_endpoint
 
-  endpoints_are : maps.entries (view_of R).endpoints ≡ (codes "cali1", view_endpoint endpoint_key endpoint) ∷ []
+  endpoints_are : maps.entries (view_of dg R).endpoints ≡ (codes "cali1", view_endpoint dg endpoint_key endpoint) ∷ []
   endpoints_are =
-      ap (λ es. maps.entries (collected {R = slice_cmp nat_cmp} (map endpoint_entry es))) served
-      ∙ one_entry (codes "cali1") (view_endpoint endpoint_key endpoint)
+      ap (λ es. maps.entries (collected {R = slice_cmp nat_cmp} (map (endpoint_entry dg) es))) served
+      ∙ one_entry (codes "cali1") (view_endpoint dg endpoint_key endpoint)
 
-  profiles_are : maps.entries (view_of R).profiles ≡ (codes "open", view_profile (codes "open") o) ∷ []
+  profiles_are : maps.entries (view_of dg R).profiles ≡ (codes "open", view_profile (codes "open") o) ∷ []
   profiles_are =
-      ap (λ es. maps.entries (collected {R = slice_cmp nat_cmp} (map (profile_entry R) (flat_map (λ x. x.1.profiles) es)))) served
+      ap (λ es. maps.entries (collected {R = slice_cmp nat_cmp} (map (profile_entry dg R) (flat_map (λ x. x.1.profiles) es)))) served
       ∙ one_entry (codes "open") (view_profile (codes "open") (maps.get profiles (codes "open")))
       ∙ ap (λ (p : Option Profile). (codes "open", view_profile (codes "open") p) ∷ []) at
 
   abbrev known : List (ChainName × List ChainRule)
   known =
-      profile_chains (codes "open", view_profile (codes "open") o) ++ (endpoint_chains (codes "cali1", view_endpoint endpoint_key endpoint)
+      profile_chains (codes "open", view_profile (codes "open") o) ++ (endpoint_chains (codes "cali1", view_endpoint dg endpoint_key endpoint)
       ++ ((root_of Ingress, dispatch_rules Ingress (codes "cali1" ∷ [])) ∷ (root_of Egress, dispatch_rules Egress (codes "cali1" ∷ [])) ∷ (forward, forward_rules) ∷ []))
 
-  known_chains : chains_of (view_of R) ≡ known
+  known_chains : chains_of (view_of dg R) ≡ known
   known_chains =
-      ap (λ ps. flat_map policy_chains ps ++ (flat_map profile_chains (maps.entries (view_of R).profiles) ++ (flat_map endpoint_chains (maps.entries (view_of R).endpoints) ++ dispatch_chains (view_of R)))) (entries-empty (slice_cmp nat_cmp))
-      ∙ ap (λ fs. flat_map profile_chains fs ++ (flat_map endpoint_chains (maps.entries (view_of R).endpoints) ++ dispatch_chains (view_of R))) profiles_are
+      ap (λ ps. flat_map policy_chains ps ++ (flat_map profile_chains (maps.entries (view_of dg R).profiles) ++ (flat_map endpoint_chains (maps.entries (view_of dg R).endpoints) ++ dispatch_chains (view_of dg R)))) (entries-empty (slice_cmp nat_cmp))
+      ∙ ap (λ fs. flat_map profile_chains fs ++ (flat_map endpoint_chains (maps.entries (view_of dg R).endpoints) ++ dispatch_chains (view_of dg R))) profiles_are
       ∙ ap (λ (es : List (List ℕ × ViewEndpoint)). profile_chains (codes "open", view_profile (codes "open") o) ++ (flat_map endpoint_chains es
       ++ ((root_of Ingress, dispatch_rules Ingress (map (λ e. e.0) es)) ∷ (root_of Egress, dispatch_rules Egress (map (λ e. e.0) es)) ∷ (forward, forward_rules) ∷ []))) endpoints_are
 
   abbrev look : ChainName → List ChainRule
   look q = rules_found (last_at (slice_cmp nat_cmp) known q None)
 
-  looked : (q : ChainName) → rules_in (tables_of (view_of R)).chains q ≡ look q
-  looked q = ap rules_found (get-collected nat_list_cmp_total (chains_of (view_of R)) q ∙ ap (λ cs. last_at (slice_cmp nat_cmp) cs q None) known_chains)
+  looked : (q : ChainName) → rules_in (tables_of (view_of dg R)).chains q ≡ look q
+  looked q = ap rules_found (get-collected nat_list_cmp_total (chains_of (view_of dg R)) q ∙ ap (λ cs. last_at (slice_cmp nat_cmp) cs q None) known_chains)
 
   abbrev trace_of : Packet → Ended Trace
-  trace_of a = over_chain hops_and_reasons (holds (view_of R).sets a) (tables_of (view_of R)).chains 5 forward 0 (record { hops = []; reasons = nothing_noted })
+  trace_of a = over_chain hops_and_reasons (holds (view_of dg R).sets a) (tables_of (view_of dg R)).chains 5 forward 0 (record { hops = []; reasons = nothing_noted })
 
   abbrev known_trace : Packet → Ended Trace
-  known_trace a = over_look hops_and_reasons (holds (view_of R).sets a) look 5 forward 0 (record { hops = []; reasons = nothing_noted })
+  known_trace a = over_look hops_and_reasons (holds (view_of dg R).sets a) look 5 forward 0 (record { hops = []; reasons = nothing_noted })
 
   trace_known : (a : Packet) → trace_of a ≡ known_trace a
-  trace_known a = same_look hops_and_reasons (holds (view_of R).sets a) (tables_of (view_of R)).chains look looked 5 forward 0 (record { hops = []; reasons = nothing_noted })
+  trace_known a = same_look hops_and_reasons (holds (view_of dg R).sets a) (tables_of (view_of dg R)).chains look looked 5 forward 0 (record { hops = []; reasons = nothing_noted })
 
 abbrev packet : List ℕ → List ℕ → State → Packet
 packet into out state = record {
@@ -133,20 +134,20 @@ abbrev from_endpoint : State → Packet
 from_endpoint state = packet (codes "cali1") (codes "eth0") state
 
 -- the profile's rule allows
-allowed_by_profile : trace_of (maps.insert maps.empty (codes "open") open_profile) (Some open_profile) (get_insert_same maps.empty (codes "open") open_profile) (from_endpoint New) ≡ Through 0x10000 (record {
+allowed_by_profile : trace_of plain_digest (maps.insert maps.empty (codes "open") open_profile) (Some open_profile) (get_insert_same maps.empty (codes "open") open_profile) (from_endpoint New) ≡ Through 0x10000 (record {
   hops = (codes "cali-FORWARD", 2) ∷ (codes "cali-from-wl-dispatch", 1) ∷ (codes "cali-fw-cali1", 4) ∷ (codes "cali-pro-open", 1) ∷ [];
   reasons = record { side = Some Egress; egress = Some (reason.Profile (codes "open") 1); ingress = None };
 })
 unfolding over_look over_rules over_rule hops_and_reasons last_reason holds
-allowed_by_profile = trace_known (maps.insert maps.empty (codes "open") open_profile) (Some open_profile) (get_insert_same maps.empty (codes "open") open_profile) (from_endpoint New) ∙ refl
+allowed_by_profile = trace_known plain_digest (maps.insert maps.empty (codes "open") open_profile) (Some open_profile) (get_insert_same maps.empty (codes "open") open_profile) (from_endpoint New) ∙ refl
 
 -- a profile that isn't there denies
-denied_by_missing_profile : trace_of maps.empty None (maps.get-empty (slice_cmp nat_cmp) (codes "open")) (from_endpoint New) ≡ Dropped (record {
+denied_by_missing_profile : trace_of plain_digest maps.empty None (maps.get-empty (slice_cmp nat_cmp) (codes "open")) (from_endpoint New) ≡ Dropped (record {
   hops = (codes "cali-FORWARD", 2) ∷ (codes "cali-from-wl-dispatch", 1) ∷ (codes "cali-fw-cali1", 4) ∷ (codes "cali-pro-open", 1) ∷ [];
   reasons = record { side = Some Egress; egress = Some (reason.MissingProfile (codes "open")); ingress = None };
 })
 unfolding over_look over_rules over_rule hops_and_reasons last_reason holds
-denied_by_missing_profile = trace_known maps.empty None (maps.get-empty (slice_cmp nat_cmp) (codes "open")) (from_endpoint New) ∙ refl
+denied_by_missing_profile = trace_known plain_digest maps.empty None (maps.get-empty (slice_cmp nat_cmp) (codes "open")) (from_endpoint New) ∙ refl
 
 -- ---- a profile whose rules have criteria
 
@@ -165,6 +166,7 @@ web = record { low = 80; high = 90; ascending = lit≤ tt } ∷ record { low = 4
 -- to log TCP, and to allow what comes from two nets, though not from a third one, to the ports of the web
 abbrev web_profile : Profile
 web_profile = record {
+  labels = maps.empty;
   ingress = [];
   egress = record { action = Log; never = false; protocol = Some (record { 0 = 6 }); not_protocol = None; icmp = None; not_icmp = None; source = any_side; destination = any_side }
       ∷ record {
@@ -180,7 +182,7 @@ web_profile = record {
 }
 
 abbrev web_trace : Packet → Ended Trace
-web_trace a = trace_of (maps.insert maps.empty (codes "open") web_profile) (Some web_profile) (get_insert_same maps.empty (codes "open") web_profile) a
+web_trace a = trace_of plain_digest (maps.insert maps.empty (codes "open") web_profile) (Some web_profile) (get_insert_same maps.empty (codes "open") web_profile) a
 
 -- the block of nets stands before the main rule, which is the seventh of the chain
 allowed_by_criteria : web_trace (from_endpoint New) ≡ Through 0xd0000 (record {
@@ -188,7 +190,7 @@ allowed_by_criteria : web_trace (from_endpoint New) ≡ Through 0xd0000 (record 
   reasons = record { side = Some Egress; egress = Some (reason.Profile (codes "open") 2); ingress = None };
 })
 unfolding over_look over_rules over_rule hops_and_reasons last_reason holds
-allowed_by_criteria = trace_known (maps.insert maps.empty (codes "open") web_profile) (Some web_profile) (get_insert_same maps.empty (codes "open") web_profile) (from_endpoint New) ∙ refl
+allowed_by_criteria = trace_known plain_digest (maps.insert maps.empty (codes "open") web_profile) (Some web_profile) (get_insert_same maps.empty (codes "open") web_profile) (from_endpoint New) ∙ refl
 
 -- a packet from the net that is kept out is logged, and denied at the end
 denied_by_criteria : web_trace (record (from_endpoint New) { src = record { 0 = 0x0a010001 } }) ≡ Dropped (record {
@@ -196,33 +198,33 @@ denied_by_criteria : web_trace (record (from_endpoint New) { src = record { 0 = 
   reasons = record { side = Some Egress; egress = Some reason.NoProfileRule; ingress = None };
 })
 unfolding over_look over_rules over_rule hops_and_reasons last_reason holds
-denied_by_criteria = trace_known (maps.insert maps.empty (codes "open") web_profile) (Some web_profile) (get_insert_same maps.empty (codes "open") web_profile) (record (from_endpoint New) { src = record { 0 = 0x0a010001 } }) ∙ refl
+denied_by_criteria = trace_known plain_digest (maps.insert maps.empty (codes "open") web_profile) (Some web_profile) (get_insert_same maps.empty (codes "open") web_profile) (record (from_endpoint New) { src = record { 0 = 0x0a010001 } }) ∙ refl
 
-module _ (profiles : maps.FinMap (slice_cmp nat_cmp) Profile) (o : Option Profile) (at : maps.get profiles (codes "open") ≡ o) where
+module _ (dg : Digest) (profiles : maps.FinMap (slice_cmp nat_cmp) Profile) (o : Option Profile) (at : maps.get profiles (codes "open") ≡ o) where
   -- a packet of an established connection is accepted, and an invalid one dropped, at the endpoint's chain
-  established : trace_of profiles o at (from_endpoint Established) ≡ Accepted (record {
+  established : trace_of dg profiles o at (from_endpoint Established) ≡ Accepted (record {
     hops = (codes "cali-FORWARD", 2) ∷ (codes "cali-from-wl-dispatch", 1) ∷ (codes "cali-fw-cali1", 1) ∷ [];
     reasons = record { side = Some Egress; egress = Some reason.Established; ingress = None };
   })
   unfolding over_look over_rules over_rule hops_and_reasons last_reason holds
-  established = trace_known profiles o at (from_endpoint Established) ∙ refl
+  established = trace_known dg profiles o at (from_endpoint Established) ∙ refl
 
-  invalid : trace_of profiles o at (from_endpoint Invalid) ≡ Dropped (record {
+  invalid : trace_of dg profiles o at (from_endpoint Invalid) ≡ Dropped (record {
     hops = (codes "cali-FORWARD", 2) ∷ (codes "cali-from-wl-dispatch", 1) ∷ (codes "cali-fw-cali1", 2) ∷ [];
     reasons = record { side = Some Egress; egress = Some reason.Invalid; ingress = None };
   })
   unfolding over_look over_rules over_rule hops_and_reasons last_reason holds
-  invalid = trace_known profiles o at (from_endpoint Invalid) ∙ refl
+  invalid = trace_known dg profiles o at (from_endpoint Invalid) ∙ refl
 
   -- a workload's interface that no endpoint has is denied
-  unknown_interface : trace_of profiles o at (packet (codes "cali9") (codes "eth0") New) ≡ Dropped (record {
+  unknown_interface : trace_of dg profiles o at (packet (codes "cali9") (codes "eth0") New) ≡ Dropped (record {
     hops = (codes "cali-FORWARD", 2) ∷ (codes "cali-from-wl-dispatch", 2) ∷ [];
     reasons = record { side = Some Egress; egress = Some reason.UnknownInterface; ingress = None };
   })
   unfolding over_look over_rules over_rule hops_and_reasons last_reason holds
-  unknown_interface = trace_known profiles o at (packet (codes "cali9") (codes "eth0") New) ∙ refl
+  unknown_interface = trace_known dg profiles o at (packet (codes "cali9") (codes "eth0") New) ∙ refl
 
   -- other interfaces are free
-  free : trace_of profiles o at (packet (codes "eth0") (codes "eth0") New) ≡ Through 0 (record { hops = []; reasons = record { side = None; egress = None; ingress = None } })
+  free : trace_of dg profiles o at (packet (codes "eth0") (codes "eth0") New) ≡ Through 0 (record { hops = []; reasons = record { side = None; egress = None; ingress = None } })
   unfolding over_look over_rules over_rule hops_and_reasons last_reason holds
-  free = trace_known profiles o at (packet (codes "eth0") (codes "eth0") New) ∙ refl
+  free = trace_known dg profiles o at (packet (codes "eth0") (codes "eth0") New) ∙ refl

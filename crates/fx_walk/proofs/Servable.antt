@@ -1,4 +1,4 @@
--- Formed resources with at most one local endpoint can be served.
+-- Formed resources with at most one local endpoint, whose claims don't clash, can be served.
 use Rattle.std.proofs.Common.{◌≡◌, ℕ, Bool, true, List, [], ◌∷◌, Some}
 use Rattle.std.specs.Prelude.{◌&&◌, nat_le, length}
 use Rattle.std.specs.List.{list_all, AllByRecursion}
@@ -7,6 +7,7 @@ use Rattle.std.specs.FinMap as maps
 use Rattle.fx_base.specs.Same.{both_pass}
 use Rattle.fx_base.proofs.Found.{of_entries}
 use Rattle.fx_base.proofs.KeyCases.{bytes_exact}
+use Rattle.fx_model.proofs.ClaimsOfKeys.{keys_apart}
 use Rattle.fx_model.proofs.Orders.{item_total, exact_item}
 use Rattle.fx_model.specs.declared.ids.ItemKey.{ItemKey}
 use Rattle.fx_model.specs.declared.resources.Endpoint.{Endpoint}
@@ -14,7 +15,9 @@ use Rattle.fx_model.specs.declared.resources.Profile.{Profile}
 use Rattle.fx_model.specs.declared.resources.Resources.{Resources}
 use Rattle.fx_model.specs.Resources.{is_local}
 use Rattle.fx_model.specs.Policy.{is_workload}
-use Rattle.fx_model.specs.Formed.{is_formed_endpoint, is_formed_profile_name, is_formed_profile, are_formed}
+use Rattle.fx_model.specs.Formed.{is_formed_endpoint, is_formed_profile, are_formed}
+use Rattle.fx_names.specs.Digests.{Digest}
+use Rattle.fx_model.specs.Claims.{IsClashFree}
 use Rattle.fx_model.specs.ViewPolicy.{HasLoneLocal, IsServable}
 
 each : {A : Type 0} (p : A → Bool) (xs : List A) → list_all p xs ≡ true → AllByRecursion (λ x. p x ≡ true) xs
@@ -23,23 +26,22 @@ each p (x ∷ xs) h = let b = both_pass (p x) (list_all p xs) h in (b.0, each p 
 
 -- an endpoint is formed, and so are a profile's name and rules
 module _ (R : Resources) (formed : are_formed R ≡ true) where
-  parts : (list_all (λ x. is_formed_endpoint x.1) (maps.entries R.endpoints) ≡ true) × (list_all (λ x. is_formed_profile_name x.0 && is_formed_profile x.1) (maps.entries R.profiles) ≡ true)
-  parts = both_pass (list_all (λ x. is_formed_endpoint x.1) (maps.entries R.endpoints)) (list_all (λ x. is_formed_profile_name x.0 && is_formed_profile x.1) (maps.entries R.profiles)) formed
+  parts : (list_all (λ x. is_formed_endpoint x.1) (maps.entries R.endpoints) ≡ true) × (list_all (λ x. is_formed_profile x.1) (maps.entries R.profiles) ≡ true)
+  parts = both_pass (list_all (λ x. is_formed_endpoint x.1) (maps.entries R.endpoints)) (list_all (λ x. is_formed_profile x.1) (maps.entries R.profiles)) formed
 
   on_workload : (k : ItemKey) (e : Endpoint) → maps.get R.endpoints k ≡ Some e → is_workload e.iface ≡ true
   on_workload k e at =
       let one : is_formed_endpoint e ≡ true = of_entries item_total exact_item (λ x. is_formed_endpoint x.1 ≡ true) R.endpoints k e (each (λ x. is_formed_endpoint x.1) (maps.entries R.endpoints) parts.0) at in
-      let rest = (both_pass (nat_le (length e.iface) 15) (is_workload e.iface && list_all is_formed_profile_name e.profiles) one).1 in
-      (both_pass (is_workload e.iface) (list_all is_formed_profile_name e.profiles) rest).0
+      (both_pass (nat_le (length e.iface) 15) (is_workload e.iface) one).1
 
   rules_formed : (name : List ℕ) (p : Profile) → maps.get R.profiles name ≡ Some p → is_formed_profile p ≡ true
   rules_formed name p at =
-      let one : (is_formed_profile_name name && is_formed_profile p) ≡ true = of_entries nat_list_cmp_total bytes_exact (λ x. (is_formed_profile_name x.0 && is_formed_profile x.1) ≡ true) R.profiles name p (each (λ x. is_formed_profile_name x.0 && is_formed_profile x.1) (maps.entries R.profiles) parts.1) at in
-      (both_pass (is_formed_profile_name name) (is_formed_profile p) one).1
+      of_entries nat_list_cmp_total bytes_exact (λ x. is_formed_profile x.1 ≡ true) R.profiles name p (each (λ x. is_formed_profile x.1) (maps.entries R.profiles) parts.1) at
 
-pub lone_local : (R : Resources) → are_formed R ≡ true → HasLoneLocal R → IsServable R
-lone_local R formed lone = record {
+pub lone_local : (dg : Digest) (R : Resources) → are_formed R ≡ true → HasLoneLocal R → IsClashFree dg R → IsServable dg R
+lone_local dg R formed lone free = record {
   rules = rules_formed R formed;
   on_workloads = λ k e at s. on_workload R formed k e at;
   apart = λ k l e f at there s t same. lone k l e f at there (both_pass R.in_sync (is_local R e) s).1 (both_pass R.in_sync (is_local R f) t).1;
+  keys_apart = keys_apart dg R free;
 }

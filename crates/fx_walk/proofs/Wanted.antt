@@ -17,7 +17,7 @@ use Rattle.fx_base.specs.Same.{same_bytes, both_pass}
 use Rattle.fx_model.proofs.Orders.{item_total}
 use Rattle.fx_model.specs.contracts.ids.ItemKeyOrd.TheImpl.{cmp-value}
 use Rattle.fx_model.specs.declared.ids.ItemKey.{ItemKey}
-use Rattle.fx_model.specs.declared.ids.ItemKey.TheVariants as key
+use Rattle.fx_model.specs.declared.ids.ItemKey.TheVariants as item_key
 use Rattle.fx_model.specs.declared.packet.Packet.{Packet}
 use Rattle.fx_model.specs.declared.chain.Reason.{Reason}
 use Rattle.fx_model.specs.declared.chain.Reason.TheVariants as reason
@@ -37,7 +37,8 @@ use Rattle.fx_model.specs.Resources.{is_served, served_endpoints}
 use Rattle.fx_model.specs.Criteria.{address_at, port_at, proto_is, proto_is_not, lies_in, lies_in_given, holds_port, icmp_is, icmp_is_not}
 use Rattle.fx_model.specs.Formed.{implies, is_given, has_port_protocol, has_icmp_protocol, lists_ports, lists_view_ports, passes, is_formed_profile_rule, is_formed_profile, is_formed_view_profile_rule}
 use Rattle.fx_model.specs.Tables.{profile_side}
-use Rattle.fx_model.specs.Views.{view_of, view_side, view_rule, profile_key, view_profile, profile_entry, view_endpoint, endpoint_entry, active_profiles}
+use Rattle.fx_names.specs.Digests.{Digest}
+use Rattle.fx_model.specs.Views.{view_of, view_side, view_rule, profile_key, is_active_profile, view_profile, profile_entry, view_endpoint, endpoint_entry, active_profiles}
 use Rattle.fx_model.specs.Policy.{some_port, some_port_given, side_matches, rule_matches, There, met_rules, there_or_missing, listed_profile, profiles_verdict, endpoint_verdict, with_iface, endpoint_at, verdict_at, is_workload, side_verdict, both_sides, packet_verdict}
 use Rattle.fx_model.specs.ViewPolicy.{some_view_port, some_view_port_given, view_side_matches, view_rule_matches, HasFormedRules, met_view_rules, listed_of, view_listed, view_endpoint_verdict, view_verdict_at, view_verdict, IsOnWorkloads, IsServable}
 use Rattle.fx_walk.proofs.Lookups.{last_at, get-collected, first, second}
@@ -64,7 +65,7 @@ AllThere m es = AllByRecursion (λ e. maps.get m e.0 ≡ Some e.1) es
 
 -- ---- the rules of the view are formed where those of the resources are
 
-module _ (R : Resources) where
+module _ (dg : Digest) (R : Resources) where
   given_ranges : (ps : List PortRange) → is_given (map Range ps) ≡ is_given ps
   given_ranges [] = refl
   given_ranges (p ∷ ps) = refl
@@ -95,7 +96,7 @@ module _ (R : Resources) where
   profile_formed name (Some p) h Ingress = all_formed p.ingress ∙ (both_pass (list_all is_formed_profile_rule p.ingress) (list_all is_formed_profile_rule p.egress) (h p refl)).0
   profile_formed name (Some p) h Egress = all_formed p.egress ∙ (both_pass (list_all is_formed_profile_rule p.ingress) (list_all is_formed_profile_rule p.egress) (h p refl)).1
 
-  entries_formed : IsServable R → (names : List (List ℕ)) → AllByRecursion (λ e. HasFormedSides e.1) (map (profile_entry R) names)
+  entries_formed : IsServable dg R → (names : List (List ℕ)) → AllByRecursion (λ e. HasFormedSides e.1) (map (profile_entry dg R) names)
   entries_formed servable [] = tt
   entries_formed servable (name ∷ names) = (profile_formed name (maps.get R.profiles name) (servable.rules name), entries_formed servable names)
 
@@ -105,40 +106,40 @@ module _ (R : Resources) where
       none : {X : Type 0} {x : X} → None ≡ Some x → ⊥
       none h = cc
 
-  pub formed_rules : IsServable R → HasFormedRules (view_of R)
+  pub formed_rules : IsServable dg R → HasFormedRules (view_of dg R)
   formed_rules servable = record {
     policies = λ d key p e. nothing_there key p e;
-    profiles = λ d key p e. at_extended (λ _ q. HasFormedSides q) maps.empty (map (profile_entry R) (active_profiles R)) (λ q x is. nothing_there q x is) (entries_formed servable (active_profiles R)) key p e d;
+    profiles = λ d key p e. at_extended (λ _ q. HasFormedSides q) maps.empty (map (profile_entry dg R) (active_profiles R)) (λ q x is. nothing_there q x is) (entries_formed servable (active_profiles R)) key p e d;
   }
 
-module _ (R : Resources) (a : Packet) where
+module _ (dg : Digest) (R : Resources) (a : Packet) where
   -- ---- profiles
 
-  ports_same : (end : End) (ps : List PortRange) → some_view_port (view_of R).sets end (map Range ps) a ≡ some_port ps a.proto.0 (port_at end a)
+  ports_same : (end : End) (ps : List PortRange) → some_view_port (view_of dg R).sets end (map Range ps) a ≡ some_port ps a.proto.0 (port_at end a)
   ports_same end [] = refl
   ports_same end (p ∷ ps) = ap (λ b. holds_port p a.proto.0 (port_at end a) || b) (ports_same end ps)
 
-  given_same : (end : End) (ps : List PortRange) → some_view_port_given (view_of R).sets end (map Range ps) a ≡ some_port_given ps a.proto.0 (port_at end a)
+  given_same : (end : End) (ps : List PortRange) → some_view_port_given (view_of dg R).sets end (map Range ps) a ≡ some_port_given ps a.proto.0 (port_at end a)
   given_same end [] = refl
   given_same end (p ∷ ps) = ports_same end (p ∷ ps)
 
-  side_same : (end : End) (s : Side) → view_side_matches (view_of R).sets end (view_side s) a ≡ side_matches end s a
+  side_same : (end : End) (s : Side) → view_side_matches (view_of dg R).sets end (view_side s) a ≡ side_matches end s a
   side_same end s =
-      ap (λ b. (lies_in_given s.nets (address_at end a) && not (lies_in s.not_nets (address_at end a))) && (b && not (some_view_port (view_of R).sets end (map Range s.not_ports) a))) (given_same end s.ports)
+      ap (λ b. (lies_in_given s.nets (address_at end a) && not (lies_in s.not_nets (address_at end a))) && (b && not (some_view_port (view_of dg R).sets end (map Range s.not_ports) a))) (given_same end s.ports)
       ∙ ap (λ b. (lies_in_given s.nets (address_at end a) && not (lies_in s.not_nets (address_at end a))) && (some_port_given s.ports a.proto.0 (port_at end a) && not b)) (ports_same end s.not_ports)
 
-  rule_same : (r : Rule) → view_rule_matches (view_of R).sets (view_rule r) a ≡ rule_matches R r a
+  rule_same : (r : Rule) → view_rule_matches (view_of dg R).sets (view_rule r) a ≡ rule_matches R r a
   rule_same r =
-      ap (λ b. not r.never && ((proto_is r.protocol a.proto.0 && proto_is_not r.not_protocol a.proto.0) && ((icmp_is r.icmp a && icmp_is_not r.not_icmp a) && (b && view_side_matches (view_of R).sets Dest (view_side r.destination) a)))) (side_same Source r.source)
+      ap (λ b. not r.never && ((proto_is r.protocol a.proto.0 && proto_is_not r.not_protocol a.proto.0) && ((icmp_is r.icmp a && icmp_is_not r.not_icmp a) && (b && view_side_matches (view_of dg R).sets Dest (view_side r.destination) a)))) (side_same Source r.source)
       ∙ ap (λ b. not r.never && ((proto_is r.protocol a.proto.0 && proto_is_not r.not_protocol a.proto.0) && ((icmp_is r.icmp a && icmp_is_not r.not_icmp a) && (side_matches Source r.source a && b)))) (side_same Dest r.destination)
 
-  met_same : (why : ℕ → Reason) (place : ℕ) (rs : List Rule) → met_view_rules (view_of R).sets a why place (map view_rule rs) ≡ met_rules R a why place rs
+  met_same : (why : ℕ → Reason) (place : ℕ) (rs : List Rule) → met_view_rules (view_of dg R).sets a why place (map view_rule rs) ≡ met_rules R a why place rs
   met_same why place [] = refl
   met_same why place (r ∷ rs) =
-      ap (λ b. record { why = why place; action = r.action; matches = b } ∷ met_view_rules (view_of R).sets a why (suc place) (map view_rule rs)) (rule_same r)
+      ap (λ b. record { why = why place; action = r.action; matches = b } ∷ met_view_rules (view_of dg R).sets a why (suc place) (map view_rule rs)) (rule_same r)
       ∙ ap (λ l. record { why = why place; action = r.action; matches = rule_matches R r a } ∷ l) (met_same why (suc place) rs)
 
-  listed_same : (d : Direction) (name : List ℕ) (o : Option Profile) → listed_of (view_of R).sets d a (Some (view_profile name o)) ≡ there_or_missing R d a name o
+  listed_same : (d : Direction) (name : List ℕ) (o : Option Profile) → listed_of (view_of dg R).sets d a (Some (view_profile name o)) ≡ there_or_missing R d a name o
   listed_same d name None = refl
   listed_same Ingress name (Some p) = ap There (met_same (reason.Profile name) 1 p.ingress)
   listed_same Egress name (Some p) = ap There (met_same (reason.Profile name) 1 p.egress)
@@ -146,47 +147,68 @@ module _ (R : Resources) (a : Packet) where
   abbrev wanted : List ℕ → ViewProfile
   wanted name = view_profile name (maps.get R.profiles name)
 
-  -- names that stand twice have one entry
-  profile_kept : (names : List (List ℕ)) (q : List ℕ) → last (map (profile_entry R) names) q (Some (wanted q)) ≡ Some (wanted q)
-  profile_kept [] q = refl
-  profile_kept (n ∷ names) q = by_test (profile_kept names q) (is q n) refl
-    where
-      by_test : last (map (profile_entry R) names) q (Some (wanted q)) ≡ Some (wanted q) → (b : Bool) → is q n ≡ b → last (map (profile_entry R) names) q (cond b (Some (wanted n)) (Some (wanted q))) ≡ Some (wanted q)
-      by_test ih true t = ap (λ k. last (map (profile_entry R) names) q (Some (wanted k))) (sym (is_same q n t)) ∙ ih
-      by_test ih false t = ih
-
-  profile_found : (names : List (List ℕ)) (q : List ℕ) (p : Option ViewProfile) → is_among q names ≡ true → last (map (profile_entry R) names) q p ≡ Some (wanted q)
-  profile_found [] q p h = absurd (cc)
-  profile_found (n ∷ names) q p h = by_test (λ g. profile_found names q p g) (is q n) refl h
-    where
-      by_test : (is_among q names ≡ true → last (map (profile_entry R) names) q p ≡ Some (wanted q)) → (b : Bool) → is q n ≡ b → (b || is_among q names) ≡ true → last (map (profile_entry R) names) q (cond b (Some (wanted n)) p) ≡ Some (wanted q)
-      by_test ih true t h = ap (λ k. last (map (profile_entry R) names) q (Some (wanted k))) (sym (is_same q n t)) ∙ profile_kept names q
-      by_test ih false t h = ih h
-
   -- the profiles of these names are active
   abbrev Within : List (List ℕ) → Type 0
-  Within names = (q : List ℕ) → is_among q names ≡ true → is_among q (active_profiles R) ≡ true
+  Within names = (q : List ℕ) → is_among q names ≡ true → is_active_profile R q ≡ true
 
-  -- each active name has its profile in the view
-  active_listed : (d : Direction) (name : List ℕ) → is_among name (active_profiles R) ≡ true → view_listed (view_of R) d a name ≡ listed_profile R d a name
-  active_listed d name h =
-      ap (listed_of (view_of R).sets d a) (get-collected nat_list_cmp_total (map (profile_entry R) (active_profiles R)) name ∙ profile_found (active_profiles R) name None h)
-      ∙ listed_same d name (maps.get R.profiles name)
+  within_first : (n : List ℕ) (names : List (List ℕ)) → Within (n ∷ names) → is_active_profile R n ≡ true
+  within_first n names within = within n (ap (λ b. b || is_among n names) (is_itself n))
 
-  all_listed : (d : Direction) (names : List (List ℕ)) → Within names → map (view_listed (view_of R) d a) (map profile_key names) ≡ map (listed_profile R d a) names
-  all_listed d [] within = refl
-  all_listed d (n ∷ names) within =
-      let head : view_listed (view_of R) d a n ≡ listed_profile R d a n = active_listed d n (within n (ap (λ b. b || is_among n names) (is_itself n))) in
-      let tail : map (view_listed (view_of R) d a) (map profile_key names) ≡ map (listed_profile R d a) names = all_listed d names (λ q h. within q (or_right (is q n) (is_among q names) h)) in
-      λ i. head i ∷ tail i
+  within_later : (n : List ℕ) (names : List (List ℕ)) → Within (n ∷ names) → Within names
+  within_later n names within q h = within q (or_right (is q n) (is_among q names) h)
+
+  -- active profiles have each its own key
+  abbrev AreApart : Type 0
+  AreApart = (m n : List ℕ) → is_active_profile R m ≡ true → is_active_profile R n ≡ true → profile_key dg m ≡ profile_key dg n → m ≡ n
+
+  abbrev key : List ℕ → List ℕ
+  key name = profile_key dg name
+
+  module _ (apart : AreApart) where
+    -- names that stand twice have one entry
+    profile_kept : (names : List (List ℕ)) (q : List ℕ) → Within names → is_active_profile R q ≡ true → last (map (profile_entry dg R) names) (key q) (Some (wanted q)) ≡ Some (wanted q)
+    profile_kept [] q within active = refl
+    profile_kept (n ∷ names) q within active = by_test (profile_kept names q (within_later n names within) active) (is (key q) (key n)) refl
+      where
+        by_test : last (map (profile_entry dg R) names) (key q) (Some (wanted q)) ≡ Some (wanted q) → (b : Bool) → is (key q) (key n) ≡ b → last (map (profile_entry dg R) names) (key q) (cond b (Some (wanted n)) (Some (wanted q))) ≡ Some (wanted q)
+        by_test ih true t = ap (λ k. last (map (profile_entry dg R) names) (key q) (Some (wanted k))) (sym (apart q n active (within_first n names within) (is_same (key q) (key n) t))) ∙ ih
+        by_test ih false t = ih
+
+    profile_found : (names : List (List ℕ)) (q : List ℕ) (p : Option ViewProfile) → Within names → is_active_profile R q ≡ true → is_among q names ≡ true → last (map (profile_entry dg R) names) (key q) p ≡ Some (wanted q)
+    profile_found [] q p within active h = absurd (cc)
+    profile_found (n ∷ names) q p within active h = by_test (λ g. profile_found names q p (within_later n names within) active g) (is (key q) (key n)) refl h
+      where
+        unlike : is (key q) (key n) ≡ false → is q n ≡ true → ⊥
+        unlike t u = let same : true ≡ false = sym (is_itself (key q)) ∙ ap (λ k. is (key q) (key k)) (is_same q n u) ∙ t in cc
+
+        among_rest : is (key q) (key n) ≡ false → (b : Bool) → is q n ≡ b → (b || is_among q names) ≡ true → is_among q names ≡ true
+        among_rest t true u g = absurd (unlike t u)
+        among_rest t false u g = g
+
+        by_test : (is_among q names ≡ true → last (map (profile_entry dg R) names) (key q) p ≡ Some (wanted q)) → (b : Bool) → is (key q) (key n) ≡ b → (is q n || is_among q names) ≡ true → last (map (profile_entry dg R) names) (key q) (cond b (Some (wanted n)) p) ≡ Some (wanted q)
+        by_test ih true t g = ap (λ k. last (map (profile_entry dg R) names) (key q) (Some (wanted k))) (sym (apart q n active (within_first n names within) (is_same (key q) (key n) t))) ∙ profile_kept names q (within_later n names within) active
+        by_test ih false t g = ih (among_rest t (is q n) refl g)
+
+    -- each active name has its profile in the view
+    active_listed : (d : Direction) (name : List ℕ) → is_active_profile R name ≡ true → view_listed (view_of dg R) d a (key name) ≡ listed_profile R d a name
+    active_listed d name h =
+        ap (listed_of (view_of dg R).sets d a) (get-collected nat_list_cmp_total (map (profile_entry dg R) (active_profiles R)) (key name) ∙ profile_found (active_profiles R) name None (λ q g. g) h h)
+        ∙ listed_same d name (maps.get R.profiles name)
+
+    all_listed : (d : Direction) (names : List (List ℕ)) → Within names → map (view_listed (view_of dg R) d a) (map (profile_key dg) names) ≡ map (listed_profile R d a) names
+    all_listed d [] within = refl
+    all_listed d (n ∷ names) within =
+        let head : view_listed (view_of dg R) d a (key n) ≡ listed_profile R d a n = active_listed d n (within_first n names within) in
+        let tail : map (view_listed (view_of dg R) d a) (map (profile_key dg) names) ≡ map (listed_profile R d a) names = all_listed d names (within_later n names within) in
+        λ i. head i ∷ tail i
 
   -- ---- endpoints
 
-  endpoint_same : (d : Direction) (k : ItemKey) (e : Endpoint) → Within e.profiles → view_endpoint_verdict (view_of R) d (view_endpoint k e) a ≡ endpoint_verdict R d e a
-  endpoint_same Ingress (key.Endpoint ns name) e within = ap profiles_verdict (all_listed Ingress e.profiles within)
-  endpoint_same Egress (key.Endpoint ns name) e within = ap profiles_verdict (all_listed Egress e.profiles within)
-  endpoint_same Ingress (key.NetSet ns name) e within = ap profiles_verdict (all_listed Ingress e.profiles within)
-  endpoint_same Egress (key.NetSet ns name) e within = ap profiles_verdict (all_listed Egress e.profiles within)
+  endpoint_same : AreApart → (d : Direction) (k : ItemKey) (e : Endpoint) → Within e.profiles → view_endpoint_verdict (view_of dg R) d (view_endpoint dg k e) a ≡ endpoint_verdict R d e a
+  endpoint_same apart Ingress (item_key.Endpoint ns name) e within = ap profiles_verdict (all_listed apart Ingress e.profiles within)
+  endpoint_same apart Egress (item_key.Endpoint ns name) e within = ap profiles_verdict (all_listed apart Egress e.profiles within)
+  endpoint_same apart Ingress (item_key.NetSet ns name) e within = ap profiles_verdict (all_listed apart Ingress e.profiles within)
+  endpoint_same apart Egress (item_key.NetSet ns name) e within = ap profiles_verdict (all_listed apart Egress e.profiles within)
 
   abbrev served : List (ItemKey × Endpoint) → List (ItemKey × Endpoint)
   served es = filter (λ x. is_served R x.1) es
@@ -196,22 +218,22 @@ module _ (R : Resources) (a : Packet) where
 
   -- of these endpoints the view and the resources say one at an interface
   abbrev IsAlikeAt : Direction → List ℕ → List (ItemKey × Endpoint) → Type 0
-  IsAlikeAt d iface xs = Within (names_of xs) → view_verdict_at (view_of R) d a (last (map endpoint_entry xs) iface None) ≡ verdict_at R d a (with_iface xs iface)
+  IsAlikeAt d iface xs = Within (names_of xs) → view_verdict_at (view_of dg R) d a (last (map (endpoint_entry dg) xs) iface None) ≡ verdict_at R d a (with_iface xs iface)
 
-  module _ (servable : IsServable R) where
+  module _ (servable : IsServable dg R) where
     not_itself : (k l : ItemKey) → k ≡ l → T (is_lt (cmp-value.it k l)) → ⊥
     not_itself k l e below = absurd (subst (λ r. T (is_lt r)) (ap (cmp-value.it k) (sym e) ∙ tied_itself item_total k) below)
 
     -- no endpoint behind another has its interface
-    none_alike : (k : ItemKey) (e : Endpoint) (es : List (ItemKey × Endpoint)) (p : Option ViewEndpoint) → maps.get R.endpoints k ≡ Some e → is_served R e ≡ true → T (below_all cmp-value.it k es) → AllThere R.endpoints es → last (map endpoint_entry (served es)) e.iface p ≡ p
+    none_alike : (k : ItemKey) (e : Endpoint) (es : List (ItemKey × Endpoint)) (p : Option ViewEndpoint) → maps.get R.endpoints k ≡ Some e → is_served R e ≡ true → T (below_all cmp-value.it k es) → AllThere R.endpoints es → last (map (endpoint_entry dg) (served es)) e.iface p ≡ p
     none_alike k e [] p at s below there = refl
     none_alike k e (x ∷ es) p at s below there = by_served (none_alike k e es p at s (second _ _ below) there.1) (is_served R x.1) refl
       where
-        by_iface : last (map endpoint_entry (served es)) e.iface p ≡ p → is_served R x.1 ≡ true → (b : Bool) → is e.iface x.1.iface ≡ b → last (map endpoint_entry (served es)) e.iface (cond b (Some (view_endpoint x.0 x.1)) p) ≡ p
+        by_iface : last (map (endpoint_entry dg) (served es)) e.iface p ≡ p → is_served R x.1 ≡ true → (b : Bool) → is e.iface x.1.iface ≡ b → last (map (endpoint_entry dg) (served es)) e.iface (cond b (Some (view_endpoint dg x.0 x.1)) p) ≡ p
         by_iface rest t true same = absurd (not_itself k x.0 (servable.apart k x.0 e x.1 at there.0 s t (is_same e.iface x.1.iface same)) (first _ _ below))
         by_iface rest t false same = rest
 
-        by_served : last (map endpoint_entry (served es)) e.iface p ≡ p → (b : Bool) → is_served R x.1 ≡ b → last (map endpoint_entry (cond b (x ∷ served es) (served es))) e.iface p ≡ p
+        by_served : last (map (endpoint_entry dg) (served es)) e.iface p ≡ p → (b : Bool) → is_served R x.1 ≡ b → last (map (endpoint_entry dg) (cond b (x ∷ served es) (served es))) e.iface p ≡ p
         by_served rest true t = by_iface rest t (is e.iface x.1.iface) refl
         by_served rest false t = rest
 
@@ -220,47 +242,47 @@ module _ (R : Resources) (a : Packet) where
     alike_at d iface [] sorted there within = refl
     alike_at d iface (x ∷ es) sorted there within = by_served (λ w. alike_at d iface es (second _ _ sorted) there.1 w) (is_served R x.1) refl within
       where
-        by_iface : IsAlikeAt d iface (served es) → is_served R x.1 ≡ true → Within (x.1.profiles ++ names_of (served es)) → (b : Bool) → bytes_eq iface x.1.iface ≡ b → view_verdict_at (view_of R) d a (last (map endpoint_entry (served es)) iface (cond b (Some (view_endpoint x.0 x.1)) None)) ≡ verdict_at R d a (elim b [ true ↦ Some x.1 | false ↦ with_iface (served es) iface ])
+        by_iface : IsAlikeAt d iface (served es) → is_served R x.1 ≡ true → Within (x.1.profiles ++ names_of (served es)) → (b : Bool) → bytes_eq iface x.1.iface ≡ b → view_verdict_at (view_of dg R) d a (last (map (endpoint_entry dg) (served es)) iface (cond b (Some (view_endpoint dg x.0 x.1)) None)) ≡ verdict_at R d a (elim b [ true ↦ Some x.1 | false ↦ with_iface (served es) iface ])
         by_iface rest t within true same =
-            ap (view_verdict_at (view_of R) d a) (ap (λ i. last (map endpoint_entry (served es)) i (Some (view_endpoint x.0 x.1))) (same_bytes iface x.1.iface same)
-            ∙ none_alike x.0 x.1 es (Some (view_endpoint x.0 x.1)) there.0 t (first _ _ sorted) there.1)
-            ∙ ap Some (endpoint_same d x.0 x.1 (λ q h. within q (list_any-append (is q) x.1.profiles (names_of (served es)) ∙ or_left (is_among q x.1.profiles) (is_among q (names_of (served es))) h)))
+            ap (view_verdict_at (view_of dg R) d a) (ap (λ i. last (map (endpoint_entry dg) (served es)) i (Some (view_endpoint dg x.0 x.1))) (same_bytes iface x.1.iface same)
+            ∙ none_alike x.0 x.1 es (Some (view_endpoint dg x.0 x.1)) there.0 t (first _ _ sorted) there.1)
+            ∙ ap Some (endpoint_same servable.keys_apart d x.0 x.1 (λ q h. within q (list_any-append (is q) x.1.profiles (names_of (served es)) ∙ or_left (is_among q x.1.profiles) (is_among q (names_of (served es))) h)))
         by_iface rest t within false same =
             rest (λ q h. within q (list_any-append (is q) x.1.profiles (names_of (served es)) ∙ or_right (is_among q x.1.profiles) (is_among q (names_of (served es))) h))
 
         by_served : IsAlikeAt d iface (served es) → (b : Bool) → is_served R x.1 ≡ b → IsAlikeAt d iface (cond b (x ∷ served es) (served es))
         by_served rest true t within =
-            ap (λ b. view_verdict_at (view_of R) d a (last (map endpoint_entry (served es)) iface (cond b (Some (view_endpoint x.0 x.1)) None))) (sym (texts_ties iface x.1.iface))
+            ap (λ b. view_verdict_at (view_of dg R) d a (last (map (endpoint_entry dg) (served es)) iface (cond b (Some (view_endpoint dg x.0 x.1)) None))) (sym (texts_ties iface x.1.iface))
             ∙ by_iface rest t within (bytes_eq iface x.1.iface) refl
         by_served rest false t within = rest within
 
-    at_iface : (d : Direction) (iface : List ℕ) → view_verdict_at (view_of R) d a (maps.get (view_of R).endpoints iface) ≡ verdict_at R d a (endpoint_at R iface)
+    at_iface : (d : Direction) (iface : List ℕ) → view_verdict_at (view_of dg R) d a (maps.get (view_of dg R).endpoints iface) ≡ verdict_at R d a (endpoint_at R iface)
     at_iface d iface =
-        ap (view_verdict_at (view_of R) d a) (get-collected nat_list_cmp_total (map endpoint_entry (served_endpoints R)) iface)
+        ap (view_verdict_at (view_of dg R) d a) (get-collected nat_list_cmp_total (map (endpoint_entry dg) (served_endpoints R)) iface)
         ∙ alike_at d iface (maps.entries R.endpoints) (maps.entries_sorted R.endpoints) (entries_found item_total R.endpoints) (λ q h. h)
 
     -- the wanted view's answer is the policy reference's
-    pub view_is_policy : view_verdict (view_of R) a ≡ packet_verdict R a
+    pub view_is_policy : view_verdict (view_of dg R) a ≡ packet_verdict R a
     view_is_policy =
-        ap (λ x. both_sides (side_verdict x a.iface_in) (side_verdict (view_verdict_at (view_of R) Ingress a (maps.get (view_of R).endpoints a.iface_out)) a.iface_out)) (at_iface Egress a.iface_in)
+        ap (λ x. both_sides (side_verdict x a.iface_in) (side_verdict (view_verdict_at (view_of dg R) Ingress a (maps.get (view_of dg R).endpoints a.iface_out)) a.iface_out)) (at_iface Egress a.iface_in)
         ∙ ap (λ x. both_sides (side_verdict (verdict_at R Egress a (endpoint_at R a.iface_in)) a.iface_in) (side_verdict x a.iface_out)) (at_iface Ingress a.iface_out)
 
-    on_list : (iface : List ℕ) (es : List (ItemKey × Endpoint)) (p : Option ViewEndpoint) → AllThere R.endpoints es → ((e : ViewEndpoint) → p ≡ Some e → is_workload iface ≡ true) → (e : ViewEndpoint) → last (map endpoint_entry (served es)) iface p ≡ Some e → is_workload iface ≡ true
+    on_list : (iface : List ℕ) (es : List (ItemKey × Endpoint)) (p : Option ViewEndpoint) → AllThere R.endpoints es → ((e : ViewEndpoint) → p ≡ Some e → is_workload iface ≡ true) → (e : ViewEndpoint) → last (map (endpoint_entry dg) (served es)) iface p ≡ Some e → is_workload iface ≡ true
     on_list iface [] p there before e h = before e h
     on_list iface (x ∷ es) p there before e h = by_served (λ g. on_list iface es p there.1 before e g) (is_served R x.1) refl h
       where
-        by_iface : (last (map endpoint_entry (served es)) iface p ≡ Some e → is_workload iface ≡ true) → is_served R x.1 ≡ true → (b : Bool) → is iface x.1.iface ≡ b → last (map endpoint_entry (served es)) iface (cond b (Some (view_endpoint x.0 x.1)) p) ≡ Some e → is_workload iface ≡ true
+        by_iface : (last (map (endpoint_entry dg) (served es)) iface p ≡ Some e → is_workload iface ≡ true) → is_served R x.1 ≡ true → (b : Bool) → is iface x.1.iface ≡ b → last (map (endpoint_entry dg) (served es)) iface (cond b (Some (view_endpoint dg x.0 x.1)) p) ≡ Some e → is_workload iface ≡ true
         by_iface rest t true same h = ap is_workload (is_same iface x.1.iface same) ∙ servable.on_workloads x.0 x.1 there.0 t
         by_iface rest t false same h = rest h
 
-        by_served : (last (map endpoint_entry (served es)) iface p ≡ Some e → is_workload iface ≡ true) → (b : Bool) → is_served R x.1 ≡ b → last (map endpoint_entry (cond b (x ∷ served es) (served es))) iface p ≡ Some e → is_workload iface ≡ true
+        by_served : (last (map (endpoint_entry dg) (served es)) iface p ≡ Some e → is_workload iface ≡ true) → (b : Bool) → is_served R x.1 ≡ b → last (map (endpoint_entry dg) (cond b (x ∷ served es) (served es))) iface p ≡ Some e → is_workload iface ≡ true
         by_served rest true t h = by_iface rest t (is iface x.1.iface) refl h
         by_served rest false t h = rest h
 
     none_some : {X : Type 0} (x : X) → None ≡ Some x → ⊥
     none_some x e = cc
 
-    pub on_workloads : IsOnWorkloads (view_of R)
+    pub on_workloads : IsOnWorkloads (view_of dg R)
     on_workloads iface e h =
         on_list iface (maps.entries R.endpoints) None (entries_found item_total R.endpoints) (λ x q. absurd (none_some x q)) e
-        (sym (get-collected nat_list_cmp_total (map endpoint_entry (served_endpoints R)) iface) ∙ h)
+        (sym (get-collected nat_list_cmp_total (map (endpoint_entry dg) (served_endpoints R)) iface) ∙ h)

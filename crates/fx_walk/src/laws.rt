@@ -3,6 +3,8 @@ ghost use Rattle.std.specs.Prelude.{◌≡◌, true};
 ghost use Rattle.std.specs.FinMap as map;
 ghost use Rattle.fx_model.specs.declared.resources.Resources.{Resources};
 ghost use Rattle.fx_model.specs.declared.view.View.{View};
+ghost use Rattle.fx_names.specs.Digests.{Digest};
+ghost use Rattle.fx_model.specs.Claims.{IsClashFree};
 ghost use Rattle.fx_model.specs.Formed.{are_formed};
 ghost use Rattle.fx_model.specs.Machine.{RunHasOneEnd};
 ghost use Rattle.fx_model.specs.Tables.{forward, tables_of};
@@ -28,7 +30,7 @@ pub fn first_chain_is_there()
     ensures { (v : View) → map.contains_key (tables_of v).chains forward ≡ true }
 {}
 
-/// Resources with at most one local endpoint can be served.
+/// Resources with at most one local endpoint, whose claims don't clash, can be served.
 pub fn lone_local_is_servable()
-    ensures { (R : Resources) → are_formed R ≡ true → HasLoneLocal R → IsServable R }
+    ensures { (dg : Digest) (R : Resources) → are_formed R ≡ true → HasLoneLocal R → IsClashFree dg R → IsServable dg R }
 {}

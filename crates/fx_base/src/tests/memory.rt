@@ -1,7 +1,7 @@
 //! Each call that may want memory, with memory.
 use crate::{
     BytesMap, ChainMap, ChainName, MemSink, NameKey, NameMap, Seq, SetKind, SetMap, SetName, Sink,
-    Text, TextMap,
+    Text, TextMap, Uses,
 };
 use std::test::Fail;
 
@@ -49,5 +49,17 @@ fn maps_take_entries_and_are_cloned(rt: HostRuntime) -> Result<(), Fail> {
         Text::new(alloc, b"1")?,
     )?;
     assert!(rt; sets.clone()? == sets);
+    Ok(())
+}
+
+#[test]
+fn uses_are_counted(rt: HostRuntime) -> Result<(), Fail> {
+    let mut uses = Uses::new(rt.alloc());
+    uses.raise()?;
+    uses.raise()?;
+    uses.lower();
+    assert!(rt; uses.exceeds(0) && !uses.exceeds(1));
+    uses.lower();
+    assert!(rt; uses.is_zero());
     Ok(())
 }

@@ -12,6 +12,7 @@ fn told(answer: &Result<Command, Refusal>) -> &'static str {
         Ok(Command::Update(update)) => told_update(update),
         Err(Refusal::BadJson) => "bad json",
         Err(Refusal::BadLine) => "bad line",
+        Err(Refusal::Taken { .. }) => "taken",
         Err(Refusal::Read(fault)) => told_fault(fault),
     }
 }

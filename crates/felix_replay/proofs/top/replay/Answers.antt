@@ -20,14 +20,14 @@ loop-engine-init g c =
         subst (λ (held : List ℕ). HasRead (g.S.Source.left c.args.source.now) (g.S.Source.left c.args.source.now) (g.S.Source.given c.args.source.now) (g.S.Source.given c.args.source.now) held c.new-reader.result.ended []) (sym empty)
             (HasRead-none (g.S.Source.left c.args.source.now) (g.S.Source.given c.args.source.now) c.new-reader.result.ended),
         Appends-none (g.K.Sink.held c.args.sink.now),
-        c.in_ok-engine.ensures.state ∙ ap start c.in_ok-clone.ensures.cases,
+        c.in_ok-engine.ensures.state g.R.DigestRule.digest_of ∙ ap (start g.R.DigestRule.digest_of) c.in_ok-clone.ensures.cases,
       );
       given = c.requires.fresh ∙ sym c.new-reader.ensures.1;
       ended = c.requires.unended ∙ sym c.new-reader.ensures.2;
       source_later = omega arith;
       sink_later = omega arith;
-      kept = c.in_ok-engine.ensures.kept;
-      few = omega (arith, ap length empty, ap (λ (s : State). s.lines) c.in_ok-engine.ensures.state);
+      kept = c.in_ok-engine.ensures.kept g.R.DigestRule.digest_of;
+      few = omega (arith, ap length empty, ap (λ (s : State). s.lines) (c.in_ok-engine.ensures.state g.R.DigestRule.digest_of));
     }
 
 pub loop-engine-smaller : goal.loop-engine-smaller
@@ -47,8 +47,8 @@ loop-engine-preserved g c =
       ran = (
         was.0 ++ line ∷ [],
         HasRead-more _ _ _ _ _ _ (rest_of c.loop-engine.reader) found.0 (rest_of c.advance.new.self) c.loop-engine.reader.ended c.advance.new.self.ended was.0 line was.1 found.1 (λ end. (c.in_ok-advance.ensures.quiet end).0) is,
-        output_more c.args.node.now was.0 line c.line.result.now (state_of c.loop-engine.engine) was.3 c.line.ensures _ _ _ was.2 c.in_ok-answer.ensures.writes.whole,
-        state_more c.args.node.now was.0 line c.line.result.now (state_of c.loop-engine.engine) was.3 c.line.ensures (state_of c.answer.new.self) c.in_ok-answer.ensures.state,
+        output_more g.R.DigestRule.digest_of c.args.node.now was.0 line c.line.result.now (state_of g.R.DigestRule.digest_of c.loop-engine.engine) was.3 c.line.ensures _ _ _ was.2 c.in_ok-answer.ensures.writes.whole,
+        state_more g.R.DigestRule.digest_of c.args.node.now was.0 line c.line.result.now (state_of g.R.DigestRule.digest_of c.loop-engine.engine) was.3 c.line.ensures (state_of g.R.DigestRule.digest_of c.answer.new.self) c.in_ok-answer.ensures.state,
       );
       given = c.in_ok-advance.ensures.given;
       ended = c.in_ok-advance.ensures.ended;
@@ -57,7 +57,7 @@ loop-engine-preserved g c =
       kept = c.in_ok-answer.ensures.kept;
       few =
           let shrinks = next_shrinks _ _ _ _ (rest_of c.loop-engine.reader) found.0 line (rest_of c.advance.new.self) c.advance.new.self.ended found.1 is in
-          omega (arith, shrinks, c.loop-engine.invariant.given, c.loop-engine.invariant.few, c.in_ok-advance.ensures.given, ap (λ (s : State). s.lines) c.in_ok-answer.ensures.state, step-lines (state_of c.loop-engine.engine) (answer_of (state_of c.loop-engine.engine) c.line.result.now));
+          omega (arith, shrinks, c.loop-engine.invariant.given, c.loop-engine.invariant.few, c.in_ok-advance.ensures.given, ap (λ (s : State). s.lines) c.in_ok-answer.ensures.state, step-lines (state_of g.R.DigestRule.digest_of c.loop-engine.engine) (answer_of (state_of g.R.DigestRule.digest_of c.loop-engine.engine) c.line.result.now));
     }
 
 pub returns-in_err-advance-clause-stopped : goal.returns-in_err-advance-clause-stopped
@@ -65,7 +65,7 @@ returns-in_err-advance-clause-stopped g c =
     let was = c.loop-engine.invariant.ran in
     let stop = c.in_err-advance.ensures.stopped in
     OnErr-always c.from_residual-in_err-advance.result
-    (stopped_between c.args.node.now _ _ _ _ _ _ (rest_of c.loop-engine.reader) c.loop-engine.reader.ended _ was.0 stop.0 _ _ was.1 stop.1 c.in_err-advance.ensures.quiet was.2)
+    (stopped_between g.R.DigestRule.digest_of c.args.node.now _ _ _ _ _ _ (rest_of c.loop-engine.reader) c.loop-engine.reader.ended _ was.0 stop.0 _ _ was.1 stop.1 c.in_err-advance.ensures.quiet was.2)
 
 pub returns-in_err-answer-clause-stopped : goal.returns-in_err-answer-clause-stopped
 returns-in_err-answer-clause-stopped g c =
@@ -75,7 +75,7 @@ returns-in_err-answer-clause-stopped g c =
     let is = next_line (rest_of c.loop-engine.reader) found.0 line (rest_of c.advance.new.self) c.in_ok-advance.field-0 c.advance.new.self.ended c.if-branch.true found.2 in
     let read = HasRead-more _ _ _ _ _ _ (rest_of c.loop-engine.reader) found.0 (rest_of c.advance.new.self) c.loop-engine.reader.ended c.advance.new.self.ended was.0 line was.1 found.1 (λ end. (c.in_ok-advance.ensures.quiet end).0) is in
     OnErr-always c.from_residual-in_err-answer.result
-    (stopped_within c.args.node.now _ _ _ _ (rest_of c.advance.new.self) c.advance.new.self.ended _ was.0 line c.line.result.now (state_of c.loop-engine.engine) _ _ _ read c.in_ok-advance.ensures.ended was.3 c.line.ensures was.2 c.in_err-answer.ensures.writes.front)
+    (stopped_within g.R.DigestRule.digest_of c.args.node.now _ _ _ _ (rest_of c.advance.new.self) c.advance.new.self.ended _ was.0 line c.line.result.now (state_of g.R.DigestRule.digest_of c.loop-engine.engine) _ _ _ read c.in_ok-advance.ensures.ended was.3 c.line.ensures was.2 c.in_err-answer.ensures.writes.front)
 
 pub returns-clause-ran : goal.returns-clause-ran
 returns-clause-ran g c =
@@ -90,6 +90,6 @@ returns-clause-ran g c =
       gives = whole.1;
       end = end;
       all = g.met.S.Source.end_is_all c.advance.new.source end;
-      output = subst (λ (l : List (List ℕ)). Appends (g.K.Sink.held c.args.sink.now) (g.K.Sink.held c.loop-engine.sink) (written next text (start node) l)) (sym whole.2) was.2;
-      status = ap (λ (s : State). s.refused) was.3 ∙ ap (λ (l : List (List ℕ)). (state_after next (start node) l).refused) (sym whole.2);
+      output = subst (λ (l : List (List ℕ)). Appends (g.K.Sink.held c.args.sink.now) (g.K.Sink.held c.loop-engine.sink) (written next text (start g.R.DigestRule.digest_of node) l)) (sym whole.2) was.2;
+      status = ap (λ (s : State). s.refused) was.3 ∙ ap (λ (l : List (List ℕ)). (state_after next (start g.R.DigestRule.digest_of node) l).refused) (sym whole.2);
     }

@@ -11,13 +11,13 @@ abbrev pub invariant-loop-engine : goal.invariant-loop-engine
 invariant-loop-engine g l = record {
   ran : (lines : List (List ℕ))
       × HasRead (g.S.Source.left l.fn.source) (g.S.Source.left l.source) (g.S.Source.given l.fn.source) (g.S.Source.given l.source) (rest_of l.reader) l.reader.ended lines
-      × Appends (g.K.Sink.held l.fn.sink) (g.K.Sink.held l.sink) (written next text (start l.node) lines)
-      × (state_of l.engine ≡ state_after next (start l.node) lines);
+      × Appends (g.K.Sink.held l.fn.sink) (g.K.Sink.held l.sink) (written next text (start g.R.DigestRule.digest_of l.node) lines)
+      × (state_of g.R.DigestRule.digest_of l.engine ≡ state_after next (start g.R.DigestRule.digest_of l.node) lines);
   given : g.S.Source.given l.source ≡ l.reader.taken;
   ended : g.S.Source.ended l.source ≡ l.reader.ended;
   source_later : g.S.Source.faults l.fn.source ≤ g.S.Source.faults l.source;
   sink_later : g.K.Sink.faults l.fn.sink ≤ g.K.Sink.faults l.sink;
-  kept : IsKept l.engine;
+  kept : IsKept g.R.DigestRule.digest_of l.engine;
   few : l.engine.lines + length (rest_of l.reader) ≤ l.reader.taken;
 }
 

@@ -1,7 +1,14 @@
-use Rattle.fx_json.specs.Resources.{endpoint_of}
+use Rattle.std.proofs.Common.{◌≡◌, Result, Ok, sym, ap}
+use Rattle.fx_selector.specs.Truth.{LabelMap}
+use Rattle.fx_model.specs.declared.resources.Endpoint.{Endpoint}
+use Rattle.fx_json.specs.declared.fault.ReadFault.{ReadFault}
+use Rattle.fx_json.specs.Resources.{own_labels, endpoint_of}
 use Rattle.fx_json.proofs.resources.read_endpoint.Goals as goal
 
 pub returns : goal.returns
 unfolding endpoint_of
 returns c =
-    rw (c.in_ok-node.ensures, c.in_ok-optional.ensures, c.in_ok-optional-2.ensures, c.in_ok-iface.ensures, c.in_ok-items.ensures, c.in_ok-profiles.ensures, c.in_ok-items-2.ensures)
+    let own : c.in_ok-labels.labels ≡ own_labels c.args.given c.args.namespace.now c.in_ok-account.account c.in_ok-orchestrator.orchestrator = c.in_ok-labels.ensures in
+    let with_labels : LabelMap → Result Endpoint ReadFault = λ labels. Ok (record { node = c.in_ok-node.node; iface = c.in_ok-iface.iface; labels = labels; profiles = c.in_ok-profiles.profiles }) in
+    rw (c.in_ok-node.ensures, c.in_ok-orchestrator.ensures, c.in_ok-account.ensures, c.in_ok-iface.ensures, c.in_ok-items.ensures, c.in_ok-profiles.ensures, c.in_ok-items-2.ensures)
+    (ap with_labels (sym own))

@@ -3,4 +3,4 @@ use Rattle.fx_model.specs.Views.{profile_key}
 use Rattle.fx_model.proofs.wanted.keys_of.Given as goal
 
 abbrev pub invariant-loop-name : goal.invariant-loop-name
-invariant-loop-name l = l.keys ≡ map profile_key (take l.name-index l.name-items)
+invariant-loop-name g l = l.keys ≡ map (profile_key g.R.DigestRule.digest_of) (take l.name-index l.name-items)

@@ -1,17 +1,15 @@
-use Rattle.std.proofs.Common.{◌≡◌, map, true, filter}
-use Rattle.std.specs.List.{list_all, flat_map}
+use Rattle.std.proofs.Common.{◌≡◌, map, filter}
+use Rattle.std.specs.List.{flat_map}
 use Rattle.fx_base.specs.Extended.{extended}
-use Rattle.fx_model.specs.Formed.{is_formed_endpoint}
 use Rattle.fx_model.specs.Resources.{is_served}
 use Rattle.fx_model.specs.Views.{view_of, empty_view, profile_entry, endpoint_entry}
 use Rattle.fx_model.proofs.wanted.view_of.Given as goal
 
 -- with the endpoints that are left put in, all of them are
 abbrev pub invariant-loop-key : goal.invariant-loop-key
-invariant-loop-key l = record {
-  formed : list_all (λ x. is_formed_endpoint x.1) l.key-iterator ≡ true;
+invariant-loop-key g l = record {
   sets : l.view.sets ≡ empty_view.sets;
   policies : l.view.policies ≡ empty_view.policies;
-  profiles : extended l.view.profiles (map (profile_entry l.resources) (flat_map (λ x. x.1.profiles) (filter (λ x. is_served l.resources x.1) l.key-iterator))) ≡ (view_of l.resources).profiles;
-  endpoints : extended l.view.endpoints (map endpoint_entry (filter (λ x. is_served l.resources x.1) l.key-iterator)) ≡ (view_of l.resources).endpoints;
+  profiles : extended l.view.profiles (map (profile_entry g.R.DigestRule.digest_of l.resources) (flat_map (λ x. x.1.profiles) (filter (λ x. is_served l.resources x.1) l.key-iterator))) ≡ (view_of g.R.DigestRule.digest_of l.resources).profiles;
+  endpoints : extended l.view.endpoints (map (endpoint_entry g.R.DigestRule.digest_of) (filter (λ x. is_served l.resources x.1) l.key-iterator)) ≡ (view_of g.R.DigestRule.digest_of l.resources).endpoints;
 }

@@ -2,6 +2,7 @@ use Rattle.std.proofs.Common.{◌∙◌, ap, subst, Err}
 use Rattle.std.proofs.lemmas.Result.{err_from_is_err_and}
 use Rattle.fx_model.specs.declared.view.View.{View}
 use Rattle.fx_model.specs.Formed.{is_formed_view}
+use Rattle.fx_model.specs.Views.{view_of}
 use Rattle.fx_model.proofs.ViewClosed.{view_of-closed}
 use Rattle.fx_model.proofs.FormedLemmas.{is_formed_view-view_of}
 use Rattle.felix_replay.specs.Output.{messages_text, told_count, flush_text}
@@ -11,10 +12,10 @@ use Rattle.felix_replay.proofs.Writings.{Writes-front, Writes-then}
 use Rattle.felix_replay.proofs.engine.Engine.flush.Goals as goal
 
 pub tables_of-requires-clause-closed : goal.tables_of-requires-clause-closed
-tables_of-requires-clause-closed g c = rw c.in_ok-wanted.ensures (view_of-closed c.args.self.now.resources)
+tables_of-requires-clause-closed g c = rw (c.in_ok-wanted.ensures ∙ ap (view_of g.R.DigestRule.digest_of) c.resources.ensures) (view_of-closed g.R.DigestRule.digest_of c.args.self.now.store.resources)
 
 pub tables_of-requires-clause-formed : goal.tables_of-requires-clause-formed
-tables_of-requires-clause-formed g c = ap is_formed_view c.in_ok-wanted.ensures ∙ is_formed_view-view_of c.args.self.now.resources c.requires.kept.formed
+tables_of-requires-clause-formed g c = ap is_formed_view (c.in_ok-wanted.ensures ∙ ap (view_of g.R.DigestRule.digest_of) c.resources.ensures) ∙ is_formed_view-view_of g.R.DigestRule.digest_of c.args.self.now.store.resources c.requires.kept.formed
 
 pub returns-in_err-count-clause-writes : goal.returns-in_err-count-clause-writes
 returns-in_err-count-clause-writes g c =
@@ -22,7 +23,7 @@ returns-in_err-count-clause-writes g c =
     let s = c.in_err-count.ensures.writes in
     let sent = c.args.self.now.sent in
     let AsTold : View → Type 0 = λ w. Writes {T = Unit {0}} (g.K.Sink.held c.args.sink.now) (g.K.Sink.held c.send.new.sink) (g.K.Sink.faults c.args.sink.now) (g.K.Sink.faults c.send.new.sink) (flush_text sent w) (Err c.in_err-count.field-0.0) in
-    rw (p.1, p.2) (subst AsTold c.in_ok-wanted.ensures (Writes-front _ _ _ _ (messages_text sent c.in_ok-wanted.wanted) (flushed_line (told_count sent c.in_ok-wanted.wanted)) _ s.front s.later s.cause))
+    rw (p.1, p.2) (subst AsTold (c.in_ok-wanted.ensures ∙ ap (view_of g.R.DigestRule.digest_of) c.resources.ensures) (Writes-front _ _ _ _ (messages_text sent c.in_ok-wanted.wanted) (flushed_line (told_count sent c.in_ok-wanted.wanted)) _ s.front s.later s.cause))
 
 pub returns-clause-writes : goal.returns-clause-writes
 returns-clause-writes g c =
@@ -30,4 +31,4 @@ returns-clause-writes g c =
     let sent = c.args.self.now.sent in
     let then = rw s.count at c.put_count.ensures.writes in
     let AsTold : View → Type 0 = λ w. Writes {T = Unit {0}} (g.K.Sink.held c.args.sink.now) (g.K.Sink.held c.put_count.new.sink) (g.K.Sink.faults c.args.sink.now) (g.K.Sink.faults c.put_count.new.sink) (flush_text sent w) c.put_count.result in
-    subst AsTold c.in_ok-wanted.ensures (Writes-then _ _ _ _ _ _ (messages_text sent c.in_ok-wanted.wanted) (flushed_line (told_count sent c.in_ok-wanted.wanted)) _ s.writes.whole s.writes.later then)
+    subst AsTold (c.in_ok-wanted.ensures ∙ ap (view_of g.R.DigestRule.digest_of) c.resources.ensures) (Writes-then _ _ _ _ _ _ (messages_text sent c.in_ok-wanted.wanted) (flushed_line (told_count sent c.in_ok-wanted.wanted)) _ s.writes.whole s.writes.later then)

@@ -10,8 +10,8 @@ pub tables_of-requires-clause-formed : goal.tables_of-requires-clause-formed
 tables_of-requires-clause-formed c = ap is_formed_view c.new-sent.ensures ∙ empty_view-formed
 
 pub returns-clause-kept : goal.returns-clause-kept
-returns-clause-kept c = record {
-  formed = ap are_formed c.new.ensures ∙ start-formed c.args.node;
-  closed = rw c.new-sent.ensures empty_view-closed;
-  rendered = c.in_ok-tables.ensures;
+returns-clause-kept c dg = record {
+  formed = ap are_formed c.new.ensures.resources ∙ start-formed dg c.args.node;
+  claims = c.new.ensures.keeps dg;
+  sent = record { closed = rw c.new-sent.ensures empty_view-closed; rendered = c.in_ok-tables.ensures };
 }

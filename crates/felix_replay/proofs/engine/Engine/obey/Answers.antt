@@ -2,3 +2,6 @@ use Rattle.felix_replay.proofs.engine.Engine.obey.Goals as goal
 
 pub returns-in-Err-clause-writes : goal.returns-in-Err-clause-writes
 returns-in-Err-clause-writes g c = rw c.in-Err.is c.refuse.ensures.writes
+
+pub returns-in-Ok-Packet-clause-writes : goal.returns-in-Ok-Packet-clause-writes
+returns-in-Ok-Packet-clause-writes g c = rw (c.in-Ok-Packet.is, c.in-Ok-Packet.field-0-is) c.put_packet.ensures.writes

@@ -1,0 +1,5 @@
+pub mod Canonicals
+pub mod Rows
+pub mod Listed
+pub mod Turned
+pub mod Changed

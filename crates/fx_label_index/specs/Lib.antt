@@ -1,0 +1,3 @@
+pub mod Canonicals
+pub mod Counts
+pub mod Matched

@@ -1,0 +1,12 @@
+//! The label index: which selectors hold on which items.
+#![tactic(auto)]
+
+pub use index::LabelIndex;
+
+mod counted;
+mod effective;
+mod held;
+mod index;
+mod retest;
+#[cfg(test)]
+mod tests;

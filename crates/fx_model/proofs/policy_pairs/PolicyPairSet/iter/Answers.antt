@@ -1,0 +1,7 @@
+use Rattle.std.proofs.Common.{◌∙◌}
+use Rattle.fx_model.proofs.Orders.{policy_pairs_total}
+use Rattle.fx_base.proofs.Entries.{listed}
+use Rattle.fx_model.proofs.policy_pairs.PolicyPairSet.iter.Goals as goal
+
+pub returns : goal.returns
+returns c = c.iter.ensures.rest ∙ listed policy_pairs_total _ _ c.self.view_is c.self.invariant

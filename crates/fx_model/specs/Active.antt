@@ -1,0 +1,26 @@
+-- Which policies apply to which endpoints. From Calico's resource reference (`projectcalico.org/v3`), GlobalNetworkPolicy, `selector`
+-- and `types`; Felix's documented calculation graph calls a policy active that applies to some endpoint of the node.
+use Rattle.std.specs.Prelude.{Bool, ◌&&◌, ◌||◌}
+use Rattle.std.specs.List.{list_any}
+use Rattle.fx_selector.specs.Truth.{holds}
+use Rattle.fx_model.specs.declared.policy.Policy.{Policy}
+use Rattle.fx_model.specs.declared.resources.Endpoint.{Endpoint}
+use Rattle.fx_model.specs.declared.resources.Resources.{Resources}
+use Rattle.fx_model.specs.Directions.{Direction, Ingress, Egress}
+use Rattle.fx_model.specs.Labels.{effective_labels}
+use Rattle.fx_model.specs.Resources.{served_endpoints}
+
+abbrev pub is_on : Direction → Policy → Bool
+is_on Ingress p = p.on_ingress
+is_on Egress p = p.on_egress
+
+abbrev pub has_types : Policy → Bool
+has_types p = p.on_ingress || p.on_egress
+
+-- the policy selects the endpoint, and the direction is on
+abbrev pub applies : Resources → Direction → Policy → Endpoint → Bool
+applies R d p e = holds p.selector (effective_labels R e) && is_on d p
+
+-- the policy applies to some served endpoint in some direction
+abbrev pub is_active : Resources → Policy → Bool
+is_active R p = list_any (λ x. applies R Ingress p x.1 || applies R Egress p x.1) (served_endpoints R)

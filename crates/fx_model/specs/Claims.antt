@@ -1,0 +1,88 @@
+-- The names in the kernel that resources claim, and which claims of an update clash.
+use Rattle.std.specs.Prelude.{◌≡◌, ℕ, ◌<◌, List, [], ◌∷◌, ◌++◌, false, codes, if◌then◌else◌, Option, Some, None}
+use Rattle.std.specs.List.{flat_map}
+use Rattle.std.specs.Str.{bytes_eq}
+use Rattle.std.specs.FinMap as maps
+use Rattle.fx_base.specs.declared.kernel_name.KernelName.TheVariants.{Chain}
+use Rattle.fx_names.specs.Digests.{Digest}
+use Rattle.fx_names.specs.Names.{chain_name_of}
+use Rattle.fx_names.specs.Claims.{Clash, times, clashes, first_clash}
+use Rattle.fx_names.specs.declared.claim.Claim.{Claim}
+use Rattle.fx_names.specs.declared.prefix.Prefix.TheVariants.{ProfileIn, ProfileOut, ToEndpoint, FromEndpoint}
+use Rattle.fx_model.specs.declared.ids.ItemKey.{ItemKey}
+use Rattle.fx_model.specs.declared.ids.ItemKey.TheVariants as item_key
+use Rattle.fx_model.specs.declared.ids.Key.{Key}
+use Rattle.fx_model.specs.declared.ids.Key.TheVariants as key
+use Rattle.fx_model.specs.declared.resources.Endpoint.{Endpoint}
+use Rattle.fx_model.specs.declared.resources.Item.{Item}
+use Rattle.fx_model.specs.declared.resources.Item.TheVariants as item
+use Rattle.fx_model.specs.declared.resources.Profile.{Profile}
+use Rattle.fx_model.specs.declared.resources.Resources.{Resources}
+use Rattle.fx_model.specs.declared.resources.Update.{Update}
+use Rattle.fx_model.specs.declared.resources.Update.TheVariants as update
+use Rattle.fx_model.specs.Resources.{after_delete}
+
+-- `NS/NAME`; a network set of no namespace is told by its name
+abbrev pub item_text : ItemKey → List ℕ
+item_text (item_key.Endpoint ns name) = ns ++ (codes "/" ++ name)
+item_text (item_key.NetSet (Some ns) name) = ns ++ (codes "/" ++ name)
+item_text (item_key.NetSet None name) = name
+
+-- a profile's two chains
+abbrev pub profile_claims : Digest → List ℕ → List Claim
+profile_claims dg name =
+    record { name = Chain (chain_name_of dg ProfileIn name); holder = codes "profile " ++ name }
+    ∷ record { name = Chain (chain_name_of dg ProfileOut name); holder = codes "profile " ++ name }
+    ∷ []
+
+-- an endpoint's two chains
+abbrev pub interface_claims : Digest → ItemKey → Endpoint → List Claim
+interface_claims dg k e =
+    record { name = Chain (chain_name_of dg ToEndpoint e.iface); holder = codes "endpoint " ++ item_text k }
+    ∷ record { name = Chain (chain_name_of dg FromEndpoint e.iface); holder = codes "endpoint " ++ item_text k }
+    ∷ []
+
+-- an endpoint of this node claims its chains and those of each profile that it lists, whether the profile is there or not; other
+-- endpoints claim nothing
+abbrev pub endpoint_claims : Digest → List ℕ → ItemKey → Endpoint → List Claim
+endpoint_claims dg node k e =
+    if bytes_eq e.node node then interface_claims dg k e ++ flat_map (profile_claims dg) e.profiles else []
+
+-- what a resource at a key claims
+abbrev pub claims_of : Digest → List ℕ → Key → Item → List Claim
+claims_of dg node (key.Item k) (item.Endpoint e) = endpoint_claims dg node k e
+claims_of dg node (key.Item k) (item.Profile p) = []
+claims_of dg node (key.Profile name) (item.Endpoint e) = []
+claims_of dg node (key.Profile name) (item.Profile p) = profile_claims dg name
+
+abbrev pub listed_claims : Digest → List ℕ → ItemKey → Option Endpoint → List Claim
+listed_claims dg node k None = []
+listed_claims dg node k (Some e) = endpoint_claims dg node k e
+
+abbrev pub named_claims : Digest → List ℕ → Option Profile → List Claim
+named_claims dg name None = []
+named_claims dg name (Some p) = profile_claims dg name
+
+-- what the resource at a key claims; nothing where none is there
+abbrev pub claims_at : Digest → Resources → Key → List Claim
+claims_at dg R (key.Item k) = listed_claims dg R.node k (maps.get R.endpoints k)
+claims_at dg R (key.Profile name) = named_claims dg name (maps.get R.profiles name)
+
+-- what all resources claim
+abbrev pub all_claims : Digest → Resources → List Claim
+all_claims dg R =
+    flat_map (λ x. endpoint_claims dg R.node x.0 x.1) (maps.entries R.endpoints)
+    ++ flat_map (λ x. profile_claims dg x.0) (maps.entries R.profiles)
+
+-- the first claim of what is put that clashes with one of the other resources, or with one before it
+abbrev pub clash : Digest → Resources → Update → Option Clash
+clash dg R update.InSync = None
+clash dg R (update.Put k x) = first_clash (all_claims dg (after_delete R k)) (claims_of dg R.node k x)
+clash dg R (update.Delete k) = None
+
+-- no two of these claims clash
+abbrev pub AreApart : List Claim → Type 0
+AreApart claims = (c d : Claim) → 0 < times c claims → 0 < times d claims → clashes c d ≡ false
+
+abbrev pub IsClashFree : Digest → Resources → Type 0
+IsClashFree dg R = AreApart (all_claims dg R)

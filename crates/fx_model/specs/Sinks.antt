@@ -1,0 +1,15 @@
+-- What a sink of active rules holds.
+use Rattle.std.specs.Prelude.{Option}
+use Rattle.std.specs.Ordering.{nat_cmp}
+use Rattle.std.specs.Cmp.Lexicographic.{slice_cmp}
+use Rattle.std.specs.FinMap as map
+use Rattle.fx_model.specs.declared.policy.Policy.{Policy}
+use Rattle.fx_model.specs.declared.resources.Profile.{Profile}
+use Rattle.fx_model.specs.contracts.ids.PolicyIdOrd.TheImpl.{cmp-value}
+
+abbrev pub Policies : Type 0
+Policies = map.FinMap cmp-value.it Policy
+
+-- by name, with none for a profile that is missing
+abbrev pub Profiles : Type 0
+Profiles = map.FinMap (slice_cmp nat_cmp) (Option Profile)

@@ -1,0 +1,4 @@
+pub mod Orders
+pub mod ClaimLists
+pub mod Kept
+pub mod PlainText

@@ -1,0 +1,10 @@
+-- Digests of texts.
+use Rattle.std.specs.Prelude.{ℕ, List, ◌++◌, take, replicate}
+
+-- a rule by which every text has a digest
+abbrev pub Digest : Type 0
+Digest = List ℕ → List ℕ
+
+-- the text's first 32 bytes, filled up with zero bytes
+abbrev pub plain_digest : Digest
+plain_digest text = take 32 (text ++ replicate 32 0)

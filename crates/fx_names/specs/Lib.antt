@@ -1,0 +1,4 @@
+pub mod Digests
+pub mod Names
+pub mod Claims
+pub mod Holding

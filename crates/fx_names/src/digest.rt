@@ -1,0 +1,42 @@
+//! Digests of texts.
+ghost use Rattle.std.specs.Prelude.{◌≡◌};
+ghost use Rattle.fx_names.specs.Digests.{plain_digest};
+ghost use Rattle.sha2.specs.Sha256.{sha256};
+
+/// A rule that gives each text 32 bytes.
+pub trait DigestRule {
+    ghost use Rattle.std.specs.Prelude.{ℕ, List};
+
+    ghost digest_of: { List ℕ → List ℕ };
+}
+
+/// What answers by a rule.
+pub trait Answers<R: DigestRule> {
+    fn digest(&self, text: &[u8]) -> [u8; 32]
+        ensures { result ≡ R.digest_of text.now };
+}
+
+/// SHA-256, as FIPS 180-4 defines it.
+#[derive(Clone, Copy, Debug)]
+pub struct Sha256Rule;
+
+impl DigestRule for Sha256Rule {
+    ghost digest_of = { sha256 };
+}
+
+/// The text's first 32 bytes, filled up with zero bytes. Texts with one front have one digest, so that clashes can be tried.
+#[derive(Clone, Copy, Debug)]
+pub struct PlainRule;
+
+impl DigestRule for PlainRule {
+    ghost digest_of = { plain_digest };
+}
+
+impl Answers<PlainRule> for PlainRule {
+    fn digest(&self, text: &[u8]) -> [u8; 32] {
+        let mut digest = [0; 32];
+        let size = text.len().min(32);
+        digest[..size].copy_from_slice(&text[..size]);
+        digest
+    }
+}

@@ -1,0 +1,17 @@
+//! The names under which the kernel knows policies, profiles, endpoints and sets, and who holds them.
+#![tactic(auto)]
+
+pub use claim::{Claim, Taken};
+pub use digest::{Answers, DigestRule, PlainRule, Sha256Rule};
+pub use namer::Namer;
+pub use prefix::Prefix;
+pub use registry::Registry;
+
+mod claim;
+mod digest;
+mod kernel_map;
+mod namer;
+mod prefix;
+mod registry;
+#[cfg(test)]
+mod tests;

@@ -1,0 +1,160 @@
+//! Who holds which name.
+ghost use Rattle.std.specs.Prelude.{◌≡◌, ◌++◌, ◌∷◌, [], None, List, nat_lt, OnOk, option_map};
+ghost use Rattle.fx_names.specs.declared.claim.Claim.{Claim};
+ghost use Rattle.fx_names.specs.Claims.{times, other_holder, first_clash};
+ghost use Rattle.fx_names.specs.Holding.{Keeps, clash_told};
+
+use crate::claim::{Claim, Taken};
+use crate::kernel_map::KernelMap;
+use fx_base::{KernelName, Memory, Text, Uses};
+use std::alloc::Global;
+
+// The holder of a name, and how often it claims it.
+#[derive(Drop)]
+struct Holding {
+    holder: Text,
+    uses: Uses,
+}
+
+/// The claims that are held, each as often as it was put. After want of memory the registry isn't used again.
+#[derive(Drop)]
+pub struct Registry {
+    alloc: Global,
+    names: KernelMap<Holding>,
+}
+
+impl Registry {
+    pub fn new(alloc: Global) -> Self
+        ensures { Keeps result [] }
+    {
+        Registry {
+            alloc,
+            names: KernelMap::new(alloc),
+        }
+    }
+
+    /// The first of the new claims that another holder claims: among those that are held once `old` is taken out, or
+    /// among the new ones before it. It takes no memory, so each new claim is compared with those before it.
+    pub fn check<'a>(&'a self, old: &[Claim], new: &'a [Claim]) -> Result<(), Taken<'a>>
+        ensures { (kept : List Claim) → Keeps self.now (old.now ++ kept) → clash_told result ≡ first_clash kept new.now }
+    {
+        for (i, claim) in new.iter().enumerate() {
+            if let Some(holder) = self.other_holder(old, claim) {
+                return Err(Taken {
+                    name: claim.name,
+                    holder,
+                });
+            }
+            if let Some(holder) = other_holder(&new[..i], claim) {
+                return Err(Taken {
+                    name: claim.name,
+                    holder,
+                });
+            }
+        }
+        Ok(())
+    }
+
+    /// Takes the old claims out and puts the new ones in.
+    pub fn swap(&mut self, old: &[Claim], new: &[Claim]) -> Result<(), Memory>
+        ensures { OnOk result ((kept : List Claim) → Keeps self.old (old.now ++ kept) → first_clash kept new.now ≡ None → Keeps self.new (kept ++ new.now)) }
+    {
+        self.give_back_all(old)?;
+        self.take_all(new)?;
+        Ok(())
+    }
+
+    // Who else holds a claim's name once `old` is taken out.
+    fn other_holder(&self, old: &[Claim], claim: &Claim) -> Option<&Text>
+        ensures { (kept : List Claim) → Keeps self.now (old.now ++ kept) → option_map (λ text. text.now) result ≡ other_holder kept claim.now }
+    {
+        let holding = self.names.get(&claim.name)?;
+        if holding.holder != claim.holder && holding.outlasts(old, &claim.name) {
+            Some(&holding.holder)
+        } else {
+            None
+        }
+    }
+
+    fn give_back_all(&mut self, claims: &[Claim]) -> Result<(), Memory>
+        ensures { OnOk result ((kept : List Claim) → Keeps self.old (claims.now ++ kept) → Keeps self.new kept) }
+    {
+        for claim in claims {
+            self.give_back(claim)?;
+        }
+        Ok(())
+    }
+
+    // A name whose last claim is given back is no longer held.
+    fn give_back(&mut self, claim: &Claim) -> Result<(), Memory>
+        ensures { OnOk result ((kept : List Claim) → Keeps self.old (claim.now ∷ kept) → Keeps self.new kept) }
+    {
+        let Some(mut holding) = self.names.remove(&claim.name) else {
+            return Ok(());
+        };
+        holding.uses.lower();
+        if !holding.uses.is_zero() {
+            self.names.insert(claim.name, holding)?;
+        }
+        Ok(())
+    }
+
+    fn take_all(&mut self, claims: &[Claim]) -> Result<(), Memory>
+        ensures { OnOk result ((kept : List Claim) → Keeps self.old kept → first_clash kept claims.now ≡ None → Keeps self.new (kept ++ claims.now)) }
+    {
+        for claim in claims {
+            self.take(claim)?;
+        }
+        Ok(())
+    }
+
+    fn take(&mut self, claim: &Claim) -> Result<(), Memory>
+        ensures { OnOk result ((kept : List Claim) → Keeps self.old kept → other_holder kept claim.now ≡ None → Keeps self.new (kept ++ claim.now ∷ [])) }
+    {
+        let holding = match self.names.remove(&claim.name) {
+            Some(holding) => holding,
+            None => Holding {
+                holder: claim.holder.clone()?,
+                uses: Uses::new(self.alloc),
+            },
+        };
+        let mut holding = holding;
+        holding.uses.raise()?;
+        self.names.insert(claim.name, holding)?;
+        Ok(())
+    }
+}
+
+impl Holding {
+    // Whether the holder's claim on this name is held more often than it is among these.
+    fn outlasts(&self, old: &[Claim], name: &KernelName) -> bool
+        ensures { result ≡ nat_lt (times (record { name = name.now; holder = self.now.holder }) old.now) self.now.uses }
+    {
+        self.uses.exceeds(times(old, name, &self.holder))
+    }
+}
+
+// How often a holder claims a name, among these claims.
+fn times(claims: &[Claim], name: &KernelName, holder: &Text) -> usize
+    ensures { result ≡ times (record { name = name.now; holder = holder.now }) claims.now }
+{
+    let mut count: usize = 0;
+    for claim in claims {
+        if claim.is_of(name, holder) {
+            count += 1;
+        }
+    }
+    count
+}
+
+// Who else holds a claim's name, among these claims.
+fn other_holder<'a>(claims: &'a [Claim], claim: &Claim) -> Option<&'a Text>
+    ensures { option_map (λ text. text.now) result ≡ other_holder claims.now claim.now }
+{
+    for held in claims {
+        if held.clashes(claim) {
+            return Some(&held.holder);
+        }
+    }
+    None
+}

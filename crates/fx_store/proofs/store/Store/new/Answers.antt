@@ -1,0 +1,7 @@
+use Rattle.std.proofs.Common.{[], ap, sym, subst}
+use Rattle.fx_names.specs.Holding.{Keeps}
+use Rattle.fx_store.proofs.Stored.{keeps_none}
+use Rattle.fx_store.proofs.store.Store.new.Goals as goal
+
+pub returns-clause-keeps : goal.returns-clause-keeps
+returns-clause-keeps c = λ dg. keeps_none dg c.new.result c.new-2.result (ap (λ r. r.endpoints) c.new.ensures) (ap (λ r. r.profiles) c.new.ensures) c.new-2.ensures

@@ -1,0 +1,18 @@
+-- What stands at a key.
+use Rattle.std.specs.Prelude.{Option, option_map}
+use Rattle.std.specs.FinMap as map
+use Rattle.fx_model.specs.declared.ids.Key.{Key}
+use Rattle.fx_model.specs.declared.ids.Key.TheVariants as key
+use Rattle.fx_model.specs.declared.resources.Item.{Item}
+use Rattle.fx_model.specs.declared.resources.Item.TheVariants as item
+use Rattle.fx_model.specs.declared.resources.Resources.{Resources}
+use Rattle.fx_store.specs.declared.store.Found.{Found}
+use Rattle.fx_store.specs.declared.store.Found.TheVariants as found
+
+abbrev pub item_at : Resources → Key → Option Item
+item_at R (key.Item k) = option_map item.Endpoint (map.get R.endpoints k)
+item_at R (key.Profile name) = option_map item.Profile (map.get R.profiles name)
+
+abbrev pub item_found : Found → Item
+item_found (found.Endpoint e) = item.Endpoint e.now
+item_found (found.Profile p) = item.Profile p.now

@@ -1,0 +1,172 @@
+//! What resources claim.
+ghost use Rattle.std.specs.Prelude.{◌≡◌, [], ◌∷◌, ◌++◌, IfOk, OnOk, codes};
+ghost use Rattle.std.specs.List.{flat_map};
+ghost use Rattle.fx_base.specs.declared.kernel_name.KernelName.TheVariants.{Chain};
+ghost use Rattle.fx_names.specs.Names.{chain_name_of};
+ghost use Rattle.fx_model.specs.Claims.{item_text, profile_claims, interface_claims, endpoint_claims, claims_of, claims_at};
+
+use fx_base::{KernelName, Memory, Seq, Text};
+use fx_model::{Endpoint, Item, ItemKey, Key, Resources};
+use fx_names::{Answers, Claim, DigestRule, Namer, Prefix};
+use std::alloc::Global;
+
+/// What a resource at a key claims on this node.
+pub fn claims_of<R: DigestRule, F: Answers<R> + Drop>(
+    alloc: Global,
+    node: &Text,
+    key: &Key,
+    item: &Item,
+    namer: &Namer<R, F>,
+) -> Result<Vec<Claim>, Memory>
+    ensures { IfOk result (λ cs. cs.items ≡ claims_of R.digest_of node.now key.now item.now) }
+{
+    let mut claims = Vec::new(alloc);
+    match key {
+        Key::Item(key) => match item {
+            Item::Endpoint(endpoint) => {
+                push_endpoint(alloc, node, key, endpoint, namer, &mut claims)?;
+            }
+            Item::Profile(_) => {}
+        },
+        Key::Profile { name } => match item {
+            Item::Endpoint(_) => {}
+            Item::Profile(_) => push_profile(alloc, name, namer, &mut claims)?,
+        },
+    }
+    Ok(claims)
+}
+
+/// What the resource at a key claims.
+pub fn claims_at<R: DigestRule, F: Answers<R> + Drop>(
+    alloc: Global,
+    resources: &Resources,
+    key: &Key,
+    namer: &Namer<R, F>,
+) -> Result<Vec<Claim>, Memory>
+    ensures { IfOk result (λ cs. cs.items ≡ claims_at R.digest_of resources.now key.now) }
+{
+    let mut claims = Vec::new(alloc);
+    match key {
+        Key::Item(key) => {
+            if let Some(endpoint) = resources.endpoints.get(key) {
+                push_endpoint(alloc, &resources.node, key, endpoint, namer, &mut claims)?;
+            }
+        }
+        Key::Profile { name } => {
+            if resources.profiles.contains_key(name) {
+                push_profile(alloc, name, namer, &mut claims)?;
+            }
+        }
+    }
+    Ok(claims)
+}
+
+// An endpoint of another node claims nothing.
+fn push_endpoint<R: DigestRule, F: Answers<R> + Drop>(
+    alloc: Global,
+    node: &Text,
+    key: &ItemKey,
+    endpoint: &Endpoint,
+    namer: &Namer<R, F>,
+    claims: &mut Vec<Claim>,
+) -> Result<(), Memory>
+    ensures { OnOk result (claims.new.items ≡ claims.old.items ++ endpoint_claims R.digest_of node.now key.now endpoint.now) }
+{
+    if endpoint.node == *node {
+        push_interface(alloc, key, endpoint, namer, claims)?;
+        push_profiles(alloc, &endpoint.profiles, namer, claims)?;
+    }
+    Ok(())
+}
+
+fn push_interface<R: DigestRule, F: Answers<R> + Drop>(
+    alloc: Global,
+    key: &ItemKey,
+    endpoint: &Endpoint,
+    namer: &Namer<R, F>,
+    claims: &mut Vec<Claim>,
+) -> Result<(), Memory>
+    ensures { OnOk result (claims.new.items ≡ claims.old.items ++ interface_claims R.digest_of key.now endpoint.now) }
+{
+    let holder = item_holder(alloc, key)?;
+    let suffix = endpoint.iface.bytes();
+    push_claim(Prefix::ToEndpoint, suffix, holder.clone()?, namer, claims)?;
+    push_claim(Prefix::FromEndpoint, suffix, holder, namer, claims)?;
+    Ok(())
+}
+
+fn push_profiles<R: DigestRule, F: Answers<R> + Drop>(
+    alloc: Global,
+    names: &Seq<Text>,
+    namer: &Namer<R, F>,
+    claims: &mut Vec<Claim>,
+) -> Result<(), Memory>
+    ensures { OnOk result (claims.new.items ≡ claims.old.items ++ flat_map (profile_claims R.digest_of) names.now) }
+{
+    for name in names.as_slice() {
+        push_profile(alloc, name, namer, claims)?;
+    }
+    Ok(())
+}
+
+fn push_profile<R: DigestRule, F: Answers<R> + Drop>(
+    alloc: Global,
+    name: &Text,
+    namer: &Namer<R, F>,
+    claims: &mut Vec<Claim>,
+) -> Result<(), Memory>
+    ensures { OnOk result (claims.new.items ≡ claims.old.items ++ profile_claims R.digest_of name.now) }
+{
+    let holder = profile_holder(alloc, name)?;
+    let suffix = name.bytes();
+    push_claim(Prefix::ProfileIn, suffix, holder.clone()?, namer, claims)?;
+    push_claim(Prefix::ProfileOut, suffix, holder, namer, claims)?;
+    Ok(())
+}
+
+// A claim on a chain.
+fn push_claim<R: DigestRule, F: Answers<R> + Drop>(
+    prefix: Prefix,
+    suffix: &[u8],
+    holder: Text,
+    namer: &Namer<R, F>,
+    claims: &mut Vec<Claim>,
+) -> Result<(), Memory>
+    ensures { OnOk result (claims.new.items ≡ claims.old.items ++ record { name = Chain (chain_name_of R.digest_of prefix suffix.now); holder = holder } ∷ []) }
+{
+    let name = KernelName::Chain(namer.chain_name(prefix, suffix));
+    claims.push(Claim { name, holder })?;
+    Ok(())
+}
+
+// `profile NAME`
+fn profile_holder(alloc: Global, name: &Text) -> Result<Text, Memory>
+    ensures { IfOk result (λ text. text ≡ codes "profile " ++ name.now) }
+{
+    let mut text = Vec::from_slice(alloc, b"profile ")?;
+    text.extend_from_slice(name.bytes())?;
+    Ok(Text::from_vec(text))
+}
+
+// `endpoint NS/NAME`
+fn item_holder(alloc: Global, key: &ItemKey) -> Result<Text, Memory>
+    ensures { IfOk result (λ text. text ≡ codes "endpoint " ++ item_text key.now) }
+{
+    let mut text = Vec::from_slice(alloc, b"endpoint ")?;
+    match key {
+        ItemKey::Endpoint { ns, name } => push_pair(ns, name, &mut text)?,
+        ItemKey::NetSet { ns: Some(ns), name } => push_pair(ns, name, &mut text)?,
+        ItemKey::NetSet { ns: None, name } => text.extend_from_slice(name.bytes())?,
+    }
+    Ok(Text::from_vec(text))
+}
+
+// `NS/NAME`
+fn push_pair(ns: &Text, name: &Text, text: &mut Vec<u8>) -> Result<(), Memory>
+    ensures { OnOk result (text.new.items ≡ text.old.items ++ (ns.now ++ (codes "/" ++ name.now))) }
+{
+    text.extend_from_slice(ns.bytes())?;
+    text.extend_from_slice(b"/")?;
+    text.extend_from_slice(name.bytes())?;
+    Ok(())
+}

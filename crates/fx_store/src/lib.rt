@@ -1,0 +1,11 @@
+//! The resources of a node, with the names in the kernel that they claim.
+#![tactic(auto)]
+
+pub use claims::claims_of;
+pub use fault::CheckFault;
+pub use store::{Found, Store};
+
+mod checking;
+mod claims;
+mod fault;
+mod store;

@@ -1,0 +1,125 @@
+//! The resources, and the registry of the names that they claim.
+ghost use Rattle.std.specs.Prelude.{◌≡◌, false, true, None, OnOk, option_map};
+ghost use Rattle.std.specs.FinMap as map;
+ghost use Rattle.fx_names.specs.Digests.{Digest};
+ghost use Rattle.fx_names.specs.Holding.{Keeps};
+ghost use Rattle.fx_model.specs.Resources.{after};
+ghost use Rattle.fx_model.specs.Formed.{is_formed};
+ghost use Rattle.fx_model.specs.Claims.{all_claims, clash};
+ghost use Rattle.fx_store.specs.Keeping.{KeepsClaims};
+ghost use Rattle.fx_store.specs.Checking.{Tells};
+ghost use Rattle.fx_store.specs.Items.{item_at, item_found};
+
+use crate::checking::check_claims;
+use crate::claims::{claims_at, claims_of};
+use crate::fault::CheckFault;
+use fx_base::{Memory, Text};
+use fx_model::{Endpoint, Key, Profile, Resources, Update};
+use fx_names::{Answers, DigestRule, Namer, Registry};
+use std::alloc::Global;
+
+/// The resources of a node and what they claim. After want of memory in `apply` it isn't used again.
+#[derive(Drop)]
+pub struct Store {
+    alloc: Global,
+    resources: Resources,
+    registry: Registry,
+}
+
+/// What stands at a key.
+#[derive(Clone, Copy, Debug)]
+pub enum Found<'a> {
+    Endpoint(&'a Endpoint),
+    Profile(&'a Profile),
+}
+
+impl Store {
+    /// No resources yet, and not in sync.
+    pub fn new(alloc: Global, node: Text) -> Store
+        ensures resources { result.resources ≡ record { node = node; in_sync = false; endpoints = map.empty; profiles = map.empty } }
+        ensures keeps { (dg : Digest) → KeepsClaims dg result }
+    {
+        Store {
+            alloc,
+            resources: Resources::new(alloc, node),
+            registry: Registry::new(alloc),
+        }
+    }
+
+    pub fn resources(&self) -> &Resources
+        ensures { result.now ≡ self.now.resources }
+    {
+        &self.resources
+    }
+
+    pub fn get(&self, key: &Key) -> Option<Found<'_>>
+        ensures { option_map item_found result ≡ item_at self.now.resources key.now }
+    {
+        match key {
+            Key::Item(key) => self.resources.endpoints.get(key).map(Found::Endpoint),
+            Key::Profile { name } => self.resources.profiles.get(name).map(Found::Profile),
+        }
+    }
+
+    /// Whether an update clashes: the name, and who holds it.
+    pub fn check<R: DigestRule, F: Answers<R> + Drop>(
+        &self,
+        update: &Update,
+        namer: &Namer<R, F>,
+    ) -> Result<(), CheckFault>
+        requires { KeepsClaims R.digest_of self.now }
+        ensures { Tells result (clash R.digest_of self.now.resources update.now) }
+    {
+        let Update::Put { key, item } = update else {
+            return Ok(());
+        };
+        let old = claims_at(self.alloc, &self.resources, key, namer)?;
+        let new = claims_of(self.alloc, &self.resources.node, key, item, namer)?;
+        check_claims(self.alloc, &self.registry, &old, &new)?;
+        Ok(())
+    }
+
+    /// Makes an update that doesn't clash.
+    pub fn apply<R: DigestRule, F: Answers<R> + Drop>(
+        &mut self,
+        update: Update,
+        namer: &Namer<R, F>,
+    ) -> Result<(), Memory>
+        requires keeps { KeepsClaims R.digest_of self.old }
+        requires free { clash R.digest_of self.old.resources update ≡ None }
+        requires formed { is_formed update ≡ true }
+        ensures made { OnOk result (self.new.resources ≡ after self.old.resources update) }
+        ensures keeps { OnOk result (KeepsClaims R.digest_of self.new) }
+    {
+        self.swap_claims(&update, namer)?;
+        self.resources.apply(update)?;
+        Ok(())
+    }
+
+    // Puts an update's claims in place of those of what stands at its key.
+    fn swap_claims<R: DigestRule, F: Answers<R> + Drop>(
+        &mut self,
+        update: &Update,
+        namer: &Namer<R, F>,
+    ) -> Result<(), Memory>
+        requires keeps { KeepsClaims R.digest_of self.old }
+        requires free { clash R.digest_of self.old.resources update.now ≡ None }
+        requires formed { is_formed update.now ≡ true }
+        ensures kept { self.new.resources ≡ self.old.resources }
+        ensures keeps { OnOk result (Keeps self.new.registry (all_claims R.digest_of (after self.old.resources update.now))) }
+    {
+        match update {
+            Update::InSync => {}
+            Update::Put { key, item } => {
+                let old = claims_at(self.alloc, &self.resources, key, namer)?;
+                let new = claims_of(self.alloc, &self.resources.node, key, item, namer)?;
+                self.registry.swap(&old, &new)?;
+            }
+            Update::Delete { key } => {
+                let old = claims_at(self.alloc, &self.resources, key, namer)?;
+                self.registry.swap(&old, &[])?;
+            }
+        }
+        Ok(())
+    }
+}
