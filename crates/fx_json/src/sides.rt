@@ -12,9 +12,9 @@ ghost use Rattle.fx_json.specs.Sides.{selector, is_no_selector, accounts, select
 use crate::fault::ReadFault;
 use crate::fields::{Form, field, is_absent, items, list_at, object, optional, read_items};
 use crate::path::Path;
-use crate::values::{NetForm, PortForm, has_ports};
+use crate::values::{NetForm, PortForm};
 use fx_base::{Memory, Net, NetText, PortRange, Proto, Seq};
-use fx_model::Side;
+use fx_model::{Side, has_ports};
 use serde_json::Value;
 use std::alloc::Global;
 

@@ -15,6 +15,7 @@ use crate::fields::{Form, formed};
 use crate::path::Path;
 use crate::texts::is_port_name;
 use fx_base::{Ipv4, Net, NetText, PortRange, Proto};
+use fx_model::has_ports;
 use serde_json::Value;
 use std::alloc::Global;
 
@@ -155,13 +156,6 @@ fn port_protocol(value: &Value) -> Option<Proto>
     } else {
         None
     }
-}
-
-/// Whether rules can ask for ports of this protocol: TCP, UDP and SCTP.
-pub fn has_ports(protocol: Proto) -> bool
-    ensures { result ≡ has_ports protocol.0 }
-{
-    protocol.0 == 6 || protocol.0 == 17 || protocol.0 == 132
 }
 
 // ---- addresses and nets

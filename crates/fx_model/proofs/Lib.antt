@@ -17,3 +17,4 @@ pub mod ClaimsCounted
 pub mod ClaimsApart
 pub mod ClaimsOfKeys
 pub mod Inheriting
+pub mod Recorded

@@ -10,7 +10,7 @@ pub use labels::{applies, effective_labels, is_active};
 pub use member::{Member, MemberSet};
 pub use message::{MemberList, Message};
 pub use next::next_message;
-pub use packet::{Packet, State, Verdict};
+pub use packet::{Packet, State, Verdict, has_ports};
 pub use pairs::PairSet;
 pub use place::{Place, place_of, take_at};
 pub use policy::{NetSet, Policy, Tier};
@@ -41,6 +41,8 @@ mod records;
 mod resources;
 mod rules;
 mod sinks;
+#[cfg(test)]
+mod tests;
 mod view;
 mod view_rule;
 mod wanted;

@@ -1,4 +1,7 @@
 //! A packet at the node's FORWARD hook.
+ghost use Rattle.std.specs.Prelude.{◌≡◌};
+ghost use Rattle.fx_model.specs.Criteria.{has_ports};
+
 use fx_base::{Ipv4, Proto, Text};
 
 /// The state of the packet's connection, by iptables-extensions(8).
@@ -30,4 +33,11 @@ pub struct Packet {
 pub enum Verdict {
     Allow,
     Deny,
+}
+
+/// Whether packets of this protocol have ports, and rules can ask for them: TCP, UDP and SCTP.
+pub fn has_ports(protocol: Proto) -> bool
+    ensures { result ≡ has_ports protocol.0 }
+{
+    protocol.0 == 6 || protocol.0 == 17 || protocol.0 == 132
 }

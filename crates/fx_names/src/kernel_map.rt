@@ -6,7 +6,6 @@ ghost use Rattle.std.specs.FinMap as map;
 use fx_base::{KernelName, Memory};
 use std::alloc::Global;
 use std::collections::BTreeMap;
-use std::collections::btree_map::Iter;
 use std::marker::Model;
 
 #[derive(Drop)]
@@ -41,13 +40,6 @@ impl<V> KernelMap<V> {
         ensures { option_copied result ≡ map.get self.now key.now }
     {
         self.held.get(key)
-    }
-
-    /// The entries, by ascending keys.
-    pub fn iter(&self) -> Iter<'_, KernelName, V>
-        ensures { result ≡ map.entries self.now }
-    {
-        self.held.iter()
     }
 }
 

@@ -9,3 +9,5 @@ mod checking;
 mod claims;
 mod fault;
 mod store;
+#[cfg(test)]
+mod tests;

@@ -12,13 +12,9 @@ use Rattle.fx_model.specs.Tables.{ChainName, Sets, forward}
 use Rattle.fx_model.specs.Rendering.{plain, set_mark, clear_mark, is_set, is_clear, all_blocks, this_block, positive_block, negative_block, joined, block_rules, block_match}
 use Rattle.fx_model.specs.Machine.{holds, hold_all, marked, Reasons, with_tag, last_reason}
 use Rattle.fx_model.specs.Walk.{Onward, Ended, over_rules}
+use Rattle.fx_walk.specs.Endings.{Keeps}
 use Rattle.fx_walk.proofs.Walks.{walk_hit, walk_miss}
 use Rattle.fx_walk.proofs.Marks.{set_same, set_other, clear_same, clear_other, is_one, is_not_one, is_zero, is_not_zero}
-
--- the accept bit and the pass bit stay
-pub record Keeps (m n : ℕ) : Type 0 where
-  pub accept : bit_at n 16 ≡ bit_at m 16
-  pub pass : bit_at n 17 ≡ bit_at m 17
 
 pub keeps_same : (m : ℕ) → Keeps m m
 keeps_same m = record { accept = refl; pass = refl }

@@ -27,17 +27,11 @@ use Rattle.fx_model.specs.Machine.{holds, hold_all, marked, Reasons, with_reason
 use Rattle.fx_model.specs.Walk.{Onward, Ended, Dropped, Left, Through}
 use Rattle.fx_model.specs.Policy.{Answer, Silent, Passed, Allowed, Denied, answer_of, first_answer}
 use Rattle.fx_model.specs.ViewPolicy.{view_side_matches, view_rule_matches, met_view_rules}
+use Rattle.fx_walk.specs.Endings.{Keeps, EndsAs, IsClearFor, AllClearFor}
 use Rattle.fx_walk.proofs.Walks.{walk_hit, walk-end}
 use Rattle.fx_walk.proofs.Marks.{set_same, set_other, is_one, is_not_one}
-use Rattle.fx_walk.proofs.Blocks.{Keeps, keeps_same, keeps_on, only, walk, noted_as, miss, Part, part_none, part_one, part_join, positive_does, negative_does, before_main}
+use Rattle.fx_walk.proofs.Blocks.{keeps_same, keeps_on, only, walk, noted_as, miss, Part, part_none, part_one, part_join, positive_does, negative_does, before_main}
 use Rattle.fx_walk.proofs.Criteria.{met, met-append, proto_truth, void_truth, one_net_fits, nets_asked, nets_truth, not_nets_asked, not_nets_truth, set_truth, not_set_truth, choice_test, choice_fits, ports_asked, ports_truth, not_ports_truth, icmp_truth, not_icmp_truth}
-
--- what the walk of rendered rules comes to, where the rules say this
-abbrev pub EndsAs : Ended Reasons → ℕ → Reasons → Answer → Type 0
-EndsAs e m s Silent = (n : ℕ) × (e ≡ Through n s) × Keeps m n
-EndsAs e m s (Allowed why) = (n : ℕ) × (e ≡ Left n (with_reason s.side why s)) × (bit_at n 16 ≡ 1)
-EndsAs e m s (Denied why) = e ≡ Dropped (with_reason s.side why s)
-EndsAs e m s Passed = (n : ℕ) × (w : Reason) × (e ≡ Left n (with_reason s.side w s)) × (bit_at n 16 ≡ 0) × (bit_at n 17 ≡ 1)
 
 pub to_ends : (e f : Ended Reasons) (m : ℕ) (s : Reasons) (ans : Answer) → e ≡ f → EndsAs f m s ans → EndsAs e m s ans
 to_ends e f m s ans q h = subst (λ x. EndsAs x m s ans) (sym q) h
@@ -47,17 +41,6 @@ ends_from e m n s Silent k h = (h.0, h.1, keeps_on m n h.0 k h.2)
 ends_from e m n s (Allowed why) k h = h
 ends_from e m n s (Denied why) k h = h
 ends_from e m n s Passed k h = h
-
--- a Pass rule is met with the pass bit clear
-abbrev pub IsClearFor : Action → ℕ → Type 0
-IsClearFor action.Allow m = Unit {0}
-IsClearFor action.Deny m = Unit {0}
-IsClearFor action.Log m = Unit {0}
-IsClearFor action.Pass m = bit_at m 17 ≡ 0
-
-abbrev pub AllClearFor : List ViewRule → ℕ → Type 0
-AllClearFor [] m = Unit {0}
-AllClearFor (r ∷ rs) m = IsClearFor r.action m × AllClearFor rs m
 
 clear_kept : (x : Action) (m n : ℕ) → Keeps m n → IsClearFor x m → IsClearFor x n
 clear_kept action.Allow m n k h = tt

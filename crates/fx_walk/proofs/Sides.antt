@@ -37,7 +37,8 @@ use Rattle.fx_model.specs.ViewPolicy.{met_view_rules, view_rule_matches, rules_o
 use Rattle.fx_walk.proofs.Walks.{walk_hit, walk-end}
 use Rattle.fx_walk.proofs.Marks.{clear_same, clear_other, is_zero, is_not_zero}
 use Rattle.fx_walk.proofs.Blocks.{only, noted_as, plain_hit, miss}
-use Rattle.fx_walk.proofs.Rules.{EndsAs, told_drop, return_hit, return_miss, formed_parts, each_formed, all_clear, profile_clear, rules_end}
+use Rattle.fx_walk.specs.Endings.{EndsAs}
+use Rattle.fx_walk.proofs.Rules.{told_drop, return_hit, return_miss, formed_parts, each_formed, all_clear, profile_clear, rules_end}
 use Rattle.fx_walk.proofs.Families.{found, Renders}
 
 -- rules of profiles don't pass

@@ -9,10 +9,16 @@ ghost use Rattle.fx_model.specs.Formed.{are_formed};
 ghost use Rattle.fx_model.specs.Machine.{RunHasOneEnd};
 ghost use Rattle.fx_model.specs.Tables.{forward, tables_of};
 ghost use Rattle.fx_model.specs.ViewPolicy.{HasLoneLocal, IsServable, PolicyIsKept, TablesAgree};
+ghost use Rattle.fx_walk.specs.Endings.{RulesEndAsTheySay};
 
 /// A run has one end.
 pub fn run_has_one_end()
     ensures { RunHasOneEnd }
+{}
+
+/// The rendered rules of a policy or a profile do with each packet what the rules say.
+pub fn rules_end_as_they_say()
+    ensures { RulesEndAsTheySay }
 {}
 
 /// The tables of a view give each first packet the view's verdict and reasons.

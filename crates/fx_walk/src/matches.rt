@@ -4,7 +4,7 @@ ghost use Rattle.fx_model.specs.Criteria.{address_at, code_is, has_ports, in_net
 ghost use Rattle.fx_model.specs.Machine.{hold_all, holds, iface_at, marked, member_holds, names_iface, negated, set_holds, state_in};
 
 use fx_base::{Ipv4, Net, PortRange, Proto, SetMap, SetName, Text};
-use fx_model::{End, Icmp, Match, Member, MemberSet, Packet, State};
+use fx_model::{End, Icmp, Match, Member, MemberSet, Packet, State, has_ports};
 
 fn iface_of(packet: &Packet, end: End) -> &Text
     ensures { result.now ≡ iface_at end packet.now }
@@ -66,13 +66,6 @@ fn is_in_net(net: Net, address: Ipv4) -> bool
     ensures { result ≡ in_net net address.0 }
 {
     net.contains(address)
-}
-
-/// TCP, UDP and SCTP.
-fn knows_ports(proto: Proto) -> bool
-    ensures { result ≡ has_ports proto.0 }
-{
-    proto.0 == 6 || proto.0 == 17 || proto.0 == 132
 }
 
 fn is_in_range(range: PortRange, port: u16) -> bool
@@ -161,7 +154,7 @@ fn holds_for(sets: &SetMap<MemberSet>, packet: &Packet, mark: u32, m: &Match) ->
         } => is_in_state(packet.state, *related_established),
         Match::Set { end, name, not } => with_sign(*not, is_in_set(sets, packet, *end, *name)),
         Match::Ports { end, list, not } => {
-            knows_ports(packet.proto)
+            has_ports(packet.proto)
                 && with_sign(*not, is_in_ranges(list.as_slice(), port_of(packet, *end)))
         }
         Match::Icmp { icmp, not } => {

@@ -1,0 +1,14 @@
+pub mod MapLemmas
+pub mod CountLemmas
+pub mod ListingLemmas
+pub mod EndpointLemmas
+pub mod KeysByText
+pub mod IndexLemmas
+pub mod TurnWalk
+pub mod PairWalk
+pub mod Turns
+pub mod Larger
+pub mod RowLemmas
+pub mod NodeLemmas
+pub mod MatchLemmas
+pub mod Leaving

@@ -1,0 +1,3 @@
+//! What no clause says: that calls with memory succeed, on an endpoint with two profiles.
+mod resources;
+mod sinks;

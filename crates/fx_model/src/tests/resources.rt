@@ -1,0 +1,146 @@
+//! Labels, activity and the view of a node with one endpoint. What is wanted follows from Calico's resource reference.
+use crate::{
+    Endpoint, Item, ItemKey, Key, Policy, Profile, Resources, Update, View, applies,
+    effective_labels, is_active, next_message, place_of, take_at, view_of,
+};
+use fx_base::{Counter, Memory, NameKey, Seq, Text};
+use fx_names::{Answers, DigestRule, Namer};
+use fx_selector::{Labels, Selector};
+use std::alloc::Global;
+use std::test::Fail;
+
+/// One digest for all texts.
+#[derive(Drop)]
+struct Flat;
+
+impl DigestRule for Flat {
+    ghost use Rattle.std.specs.Prelude.{replicate};
+
+    ghost digest_of = { λ _. replicate 32 0 };
+}
+
+impl Answers<Flat> for Flat {
+    fn digest(&self, _text: &[u8]) -> [u8; 32] {
+        [0; 32]
+    }
+}
+
+fn labels(alloc: Global, entries: &[(&[u8], &[u8])]) -> Result<Labels, Memory> {
+    let mut labels = Labels::new(alloc);
+    for (key, value) in entries {
+        labels.put(key, value)?;
+    }
+    Ok(labels)
+}
+
+fn put_profile(
+    alloc: Global,
+    resources: &mut Resources,
+    name: &[u8],
+    labels: Labels,
+) -> Result<(), Memory> {
+    let key = Key::Profile {
+        name: Text::new(alloc, name)?,
+    };
+    let item = Item::Profile(Profile {
+        labels,
+        ingress: Seq::new(alloc),
+        egress: Seq::new(alloc),
+    });
+    resources.apply(Update::Put { key, item })?;
+    Ok(())
+}
+
+fn web(alloc: Global) -> Result<Endpoint, Memory> {
+    let profiles = vec![in alloc; Text::new(alloc, b"p")?, Text::new(alloc, b"q")?]?;
+    Ok(Endpoint {
+        node: Text::new(alloc, b"n1")?,
+        iface: Text::new(alloc, b"cali1")?,
+        labels: labels(alloc, &[(b"c", b"4")])?,
+        profiles: Seq::from_vec(profiles),
+    })
+}
+
+/// The profile `p` with a=1, `q` with a=2 and b=3, and an endpoint with c=4 that lists both.
+fn filled(alloc: Global) -> Result<Resources, Memory> {
+    let mut resources = Resources::new(alloc, Text::new(alloc, b"n1")?);
+    let first = labels(alloc, &[(b"a", b"1")])?;
+    put_profile(alloc, &mut resources, b"p", first)?;
+    let second = labels(alloc, &[(b"a", b"2"), (b"b", b"3")])?;
+    put_profile(alloc, &mut resources, b"q", second)?;
+    let key = Key::Item(ItemKey::Endpoint {
+        ns: Text::new(alloc, b"shop")?,
+        name: Text::new(alloc, b"web")?,
+    });
+    let item = Item::Endpoint(web(alloc)?);
+    resources.apply(Update::Put { key, item })?;
+    resources.apply(Update::InSync)?;
+    Ok(resources)
+}
+
+/// A policy on the packets to what the text selects.
+fn policy(alloc: Global, text: &[u8]) -> Result<Policy, Fail> {
+    Ok(Policy {
+        tier: Text::new(alloc, b"default")?,
+        order: None,
+        selector: Selector::parse(alloc, text)?,
+        on_ingress: true,
+        on_egress: false,
+        ingress: Seq::new(alloc),
+        egress: Seq::new(alloc),
+    })
+}
+
+#[test]
+fn the_first_profile_that_has_a_label_wins(rt: HostRuntime) -> Result<(), Fail> {
+    let a = rt.alloc();
+    let resources = filled(a)?;
+    let labels = effective_labels(a, &resources, &web(a)?)?;
+    let wanted: [(&[u8], &[u8]); 3] = [(b"a", b"1"), (b"b", b"3"), (b"c", b"4")];
+    for (key, value) in &wanted {
+        assert_eq!(rt; labels.get(key), Some(*value));
+    }
+    Ok(())
+}
+
+#[test]
+fn a_policy_is_active_where_it_applies_to_a_served_endpoint(rt: HostRuntime) -> Result<(), Fail> {
+    let a = rt.alloc();
+    let resources = filled(a)?;
+    let endpoint = web(a)?;
+    let mut ticks = Counter::new();
+    let one = policy(a, b"a == '1'")?;
+    assert!(rt; applies(a, &resources, &one, &endpoint, true, &mut ticks)?);
+    assert!(rt; !applies(a, &resources, &one, &endpoint, false, &mut ticks)?);
+    assert!(rt; is_active(a, &resources, &one, &mut ticks)?);
+    let two = policy(a, b"a == '2'")?;
+    assert!(rt; !is_active(a, &resources, &two, &mut ticks)?);
+    assert_eq!(rt; ticks.count(), 5);
+    Ok(())
+}
+
+#[test]
+fn messages_lead_to_the_view(rt: HostRuntime) -> Result<(), Fail> {
+    let a = rt.alloc();
+    let mut resources = filled(a)?;
+    let name = Text::new(a, b"q")?;
+    resources.apply(Update::Delete {
+        key: Key::Profile { name },
+    })?;
+    let wanted = view_of(a, &resources, &Namer::new(Flat))?;
+    match wanted.profiles.get(NameKey::new(b"q")) {
+        Some(profile) => assert!(rt; profile.missing),
+        None => assert!(rt; false),
+    }
+    assert!(rt; wanted.endpoints.contains_key(&Text::new(a, b"cali1")?));
+    let mut sent = View::new(a);
+    for _ in 0..3 {
+        assert!(rt; sent != wanted);
+        if let Some(message) = next_message(&sent, &wanted) {
+            let place = place_of(&message)?;
+            take_at(&mut sent, &wanted, place)?;
+        }
+    }
+    assert!(rt; sent == wanted);
+    Ok(())
+}
