@@ -4,13 +4,12 @@ ghost use Rattle.std.specs.FinMap as map;
 ghost use Rattle.fx_base.specs.Set as set;
 ghost use Rattle.fx_active.specs.Active.{IsActive, is_endpoint};
 
-use crate::changes::{come, turn_match, unpair};
+use crate::changes::{come, tell_policy, turn_match, withdraw_policy};
 use crate::endpoints::Endpoints;
 use crate::kept::Kept;
 use crate::matches::Matches;
 use crate::policies::PolicyIndex;
-use crate::reach::is_active;
-use crate::turning::{end_policy, set_policy, turn_item, turn_pairs};
+use crate::turning::turn_item;
 use fx_base::{Memory, Text, TextMap};
 use fx_model::{ActiveSink, ItemKey, Policy, PolicyId, Profile};
 use std::alloc::Global;
@@ -69,10 +68,8 @@ impl ActiveRules {
         ensures active { OnOk result (IsActive self.new (S.policies sink.new) (S.profiles sink.new) (S.pairs sink.new)) }
     {
         let kept = Kept::new(self.alloc, policy)?;
-        let was = unpair(&self.policies, &self.endpoints, &self.matched, id, sink)?;
-        let stands = is_active(&self.endpoints, &self.matched, &kept);
-        set_policy(id, policy, was, stands, sink)?;
-        turn_pairs(&self.endpoints, &self.matched, id, &kept, true, sink)?;
+        let before = self.policies.get(id);
+        tell_policy(&self.endpoints, &self.matched, id, before, &kept, sink)?;
         self.policies.put(id, kept)?;
         Ok(())
     }
@@ -86,8 +83,8 @@ impl ActiveRules {
         ensures inputs { OnOk result (self.new ≡ record self.old { policies = map.remove self.old.policies id.now }) }
         ensures active { OnOk result (IsActive self.new (S.policies sink.new) (S.profiles sink.new) (S.pairs sink.new)) }
     {
-        let was = unpair(&self.policies, &self.endpoints, &self.matched, id, sink)?;
-        end_policy(id, was, sink)?;
+        let before = self.policies.get(id);
+        withdraw_policy(&self.endpoints, &self.matched, id, before, sink)?;
         self.policies.remove(id);
         Ok(())
     }

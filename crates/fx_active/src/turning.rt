@@ -1,5 +1,6 @@
 //! Walks over policies and endpoints that bring the sink up to date.
 ghost use Rattle.std.specs.Prelude.{◌≡◌, OnOk, Some, None, IsSome, is_some, true, false, not, ◌&&◌, nat_eq, cond};
+ghost use Rattle.std.specs.Option.{option_copied};
 ghost use Rattle.std.specs.Cmp.Lexicographic.{pointwise};
 ghost use Rattle.std.specs.FinMap as map;
 ghost use Rattle.fx_base.specs.Set as set;
@@ -14,30 +15,9 @@ use crate::endpoints::Endpoints;
 use crate::kept::Kept;
 use crate::matches::Matches;
 use crate::policies::PolicyIndex;
-use crate::reach::{holds_somewhere, selects};
+use crate::reach::{holds_somewhere, selects, selects_if_there};
 use fx_base::{Memory, Text};
 use fx_model::{ActiveSink, ItemKey, Policy, PolicyId, PolicyMap};
-
-/// Makes a policy active or not, and tells an active one again.
-pub fn set_policy<S: ActiveSink>(
-    id: &PolicyId,
-    policy: &Policy,
-    was: bool,
-    stands: bool,
-    sink: &mut S,
-) -> Result<(), Memory>
-    requires { is_some (map.get (S.policies sink.old) id.now) ≡ was }
-    ensures policies { OnOk result (S.policies sink.new ≡ keep (S.policies sink.old) id.now policy.now stands) }
-    ensures pairs { OnOk result (S.pairs sink.new ≡ S.pairs sink.old) }
-    ensures profiles { OnOk result (S.profiles sink.new ≡ S.profiles sink.old) }
-{
-    if stands {
-        sink.policy_on(id, policy)?;
-    } else {
-        end_policy(id, was, sink)?;
-    }
-    Ok(())
-}
 
 /// Makes a policy active no more.
 pub fn end_policy<S: ActiveSink>(id: &PolicyId, was: bool, sink: &mut S) -> Result<(), Memory>
@@ -52,21 +32,24 @@ pub fn end_policy<S: ActiveSink>(id: &PolicyId, was: bool, sink: &mut S) -> Resu
     Ok(())
 }
 
-/// Makes a pair stand or not.
-fn turn_pair<S: ActiveSink>(
+/// Tells of a pair that comes or goes.
+#[tactic(auto, using(fx_model::proofs::PairAt::put_same_policy_pair))]
+fn set_pair<S: ActiveSink>(
     id: &PolicyId,
     item: &ItemKey,
-    comes: bool,
+    stood: bool,
+    stands: bool,
     sink: &mut S,
 ) -> Result<(), Memory>
-    requires { set.contains (S.pairs sink.old) (id.now, item.now) ≡ not comes }
-    ensures pairs { OnOk result (S.pairs sink.new ≡ put (S.pairs sink.old) (id.now, item.now) comes) }
+    requires { set.contains (S.pairs sink.old) (id.now, item.now) ≡ stood }
+    ensures pairs { OnOk result (S.pairs sink.new ≡ put (S.pairs sink.old) (id.now, item.now) stands) }
     ensures policies { OnOk result (S.policies sink.new ≡ S.policies sink.old) }
     ensures profiles { OnOk result (S.profiles sink.new ≡ S.profiles sink.old) }
 {
-    if comes {
+    if stands && !stood {
         sink.pair_on(id, item)?;
-    } else {
+    }
+    if stood && !stands {
         sink.pair_off(id, item)?;
     }
     Ok(())
@@ -90,7 +73,7 @@ fn turn<S: ActiveSink>(
     if comes && !others {
         sink.policy_on(id, policy)?;
     }
-    turn_pair(id, item, comes, sink)?;
+    set_pair(id, item, !comes, comes, sink)?;
     if !comes && !others {
         sink.policy_off(id)?;
     }
@@ -161,24 +144,24 @@ pub fn turn_item<S: ActiveSink>(
     Ok(())
 }
 
-/// The pairs of a policy come or go.
+/// Makes the pairs of a policy those of what it is after a change, from those of what it was; either may be absent.
 pub fn turn_pairs<S: ActiveSink>(
     endpoints: &Endpoints,
     matched: &Matches,
     id: &PolicyId,
-    kept: &Kept,
-    comes: bool,
+    before: Option<&Kept>,
+    after: Option<&Kept>,
     sink: &mut S,
 ) -> Result<(), Memory>
-    requires { (i : ItemKey) → set.contains (S.pairs sink.old) (id.now, i) ≡ (not comes && applies_to endpoints.now matched.now (Some kept.now) i) }
-    ensures pairs { OnOk result (IsRowSet id.now (λ i. comes && applies_to endpoints.now matched.now (Some kept.now) i) (S.pairs sink.old) (S.pairs sink.new)) }
+    requires { (i : ItemKey) → set.contains (S.pairs sink.old) (id.now, i) ≡ applies_to endpoints.now matched.now (option_copied before) i }
+    ensures pairs { OnOk result (IsRowSet id.now (λ i. applies_to endpoints.now matched.now (option_copied after.entry) i) (S.pairs sink.old) (S.pairs sink.new)) }
     ensures policies { OnOk result (S.policies sink.new ≡ S.policies sink.old) }
     ensures profiles { OnOk result (S.profiles sink.new ≡ S.profiles sink.old) }
 {
     for (key, _) in endpoints.iter() {
-        if selects(matched, kept, key) {
-            turn_pair(id, key, comes, sink)?;
-        }
+        let stood = selects_if_there(matched, before, key);
+        let stands = selects_if_there(matched, after, key);
+        set_pair(id, key, stood, stands, sink)?;
     }
     Ok(())
 }

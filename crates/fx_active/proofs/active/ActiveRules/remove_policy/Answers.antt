@@ -1,9 +1,20 @@
-use Rattle.std.proofs.Common.{false, subst, ap, sym, ◌∙◌}
+use Rattle.std.proofs.Common.{is_some, subst, ap, sym, ◌∙◌}
 use Rattle.std.specs.FinMap as map
-use Rattle.fx_active.specs.Active.{IsActive}
-use Rattle.fx_active.specs.Steps.{IsRowSet}
+use Rattle.fx_active.specs.Active.{IsActive, where_active, applies_to}
 use Rattle.fx_active.proofs.NodeLemmas.{policies_removed, pairs_removed}
 use Rattle.fx_active.proofs.active.ActiveRules.remove_policy.Goals as goal
+
+pub withdraw_policy-requires-clause-policies : goal.withdraw_policy-requires-clause-policies
+withdraw_policy-requires-clause-policies g c =
+    let n = c.self.inside in
+    let was = subst (λ m. IsActive m (g.S.ActiveSink.policies c.args.sink.now) (g.S.ActiveSink.profiles c.args.sink.now) (g.S.ActiveSink.pairs c.args.sink.now)) (sym c.self.view_is) c.requires in
+    ap is_some (was.policies_are c.args.id.now ∙ ap (where_active n.endpoints n.matched) (sym c.get-before.ensures))
+
+pub withdraw_policy-requires-clause-pairs : goal.withdraw_policy-requires-clause-pairs
+withdraw_policy-requires-clause-pairs g c = λ i.
+    let n = c.self.inside in
+    let was = subst (λ m. IsActive m (g.S.ActiveSink.policies c.args.sink.now) (g.S.ActiveSink.profiles c.args.sink.now) (g.S.ActiveSink.pairs c.args.sink.now)) (sym c.self.view_is) c.requires in
+    was.pairs_are c.args.id.now i ∙ ap (λ o. applies_to n.endpoints n.matched o i) (sym c.get-before.ensures)
 
 pub returns-clause-active : goal.returns-clause-active
 returns-clause-active g c =
@@ -14,9 +25,7 @@ returns-clause-active g c =
     let was = subst (λ m. IsActive m P Q S) (sym c.self.view_is) c.requires in
     let id = c.args.id.now in
     record {
-      policies_are = policies_removed n.endpoints n.matched n.policies c.remove.new.self id c.remove.ensures P (g.S.ActiveSink.policies c.end_policy.new.sink) was.policies_are
-          (c.in_ok-end_policy.ensures.policies ∙ ap (λ m. map.remove m id) c.in_ok-was.ensures.policies);
-      profiles_are = λ name. ap (λ m. map.get m name) (c.in_ok-end_policy.ensures.profiles ∙ c.in_ok-was.ensures.profiles) ∙ was.profiles_are name;
-      pairs_are = pairs_removed n.endpoints n.matched n.policies c.remove.new.self id c.remove.ensures S (g.S.ActiveSink.pairs c.end_policy.new.sink) was.pairs_are
-          (subst (λ s. IsRowSet id (λ i. false) S s) (sym c.in_ok-end_policy.ensures.pairs) c.in_ok-was.ensures.pairs);
+      policies_are = policies_removed n.endpoints n.matched n.policies c.remove.new.self id c.remove.ensures P (g.S.ActiveSink.policies c.withdraw_policy.new.sink) was.policies_are c.in_ok-withdraw_policy.ensures.policies;
+      profiles_are = λ name. ap (λ m. map.get m name) c.in_ok-withdraw_policy.ensures.profiles ∙ was.profiles_are name;
+      pairs_are = pairs_removed n.endpoints n.matched n.policies c.remove.new.self id c.remove.ensures S (g.S.ActiveSink.pairs c.withdraw_policy.new.sink) was.pairs_are c.in_ok-withdraw_policy.ensures.pairs;
     }
