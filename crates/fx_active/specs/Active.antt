@@ -10,14 +10,9 @@ use Rattle.fx_model.specs.Active.{has_types}
 use Rattle.fx_model.specs.Pairs.{Pairs, PolicyPairs}
 use Rattle.fx_model.specs.Sinks.{Policies, Profiles}
 use Rattle.fx_model.specs.declared.ids.ItemKey.{ItemKey}
-use Rattle.fx_model.specs.declared.ids.ItemKey.TheVariants.{Endpoint, NetSet}
 use Rattle.fx_model.specs.declared.ids.PolicyId.{PolicyId}
 use Rattle.fx_model.specs.declared.policy.Policy.{Policy}
 use Rattle.fx_active.specs.Inputs.{Inputs, Endpoints, Named}
-
-abbrev pub is_endpoint : ItemKey → Bool
-is_endpoint (Endpoint ns name) = true
-is_endpoint (NetSet ns name) = false
 
 abbrev pub text_of : Policy → List ℕ
 text_of p = canonical_text p.selector

@@ -2,9 +2,9 @@
 ghost use Rattle.std.specs.Prelude.{◌≡◌, OnOk, true, false};
 ghost use Rattle.std.specs.FinMap as map;
 ghost use Rattle.fx_base.specs.Set as set;
-ghost use Rattle.fx_active.specs.Active.{IsActive, is_endpoint};
+ghost use Rattle.fx_active.specs.Active.{IsActive};
 
-use crate::changes::{come, tell_policy, turn_match, withdraw_policy};
+use crate::changes::{tell_endpoint, tell_policy, turn_match, withdraw_policy};
 use crate::endpoints::Endpoints;
 use crate::kept::Kept;
 use crate::matches::Matches;
@@ -122,12 +122,11 @@ impl ActiveRules {
         profiles: &[Text],
         sink: &mut S,
     ) -> Result<(), Memory>
-        requires endpoint { is_endpoint key.now ≡ true }
-        requires active { IsActive self.old (S.policies sink.old) (S.profiles sink.old) (S.pairs sink.old) }
+        requires { IsActive self.old (S.policies sink.old) (S.profiles sink.old) (S.pairs sink.old) }
         ensures inputs { OnOk result (self.new ≡ record self.old { endpoints = map.insert self.old.endpoints key.now profiles.now }) }
         ensures active { OnOk result (IsActive self.new (S.policies sink.new) (S.profiles sink.new) (S.pairs sink.new)) }
     {
-        come(&self.policies, &self.endpoints, &self.matched, key, sink)?;
+        tell_endpoint(&self.policies, &self.endpoints, &self.matched, key, sink)?;
         self.endpoints.put(key, profiles, &self.profiles, sink)?;
         Ok(())
     }

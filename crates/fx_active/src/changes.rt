@@ -1,4 +1,4 @@
-//! What changes of the policies that act, with one policy, endpoint or match.
+//! What a sink is told of policies and their pairs where one policy, endpoint or match changes.
 ghost use Rattle.std.specs.Prelude.{◌≡◌, ℕ, List, OnOk, Some, is_some, false, not};
 ghost use Rattle.std.specs.Option.{option_copied};
 ghost use Rattle.std.specs.FinMap as map;
@@ -61,7 +61,7 @@ pub fn withdraw_policy<S: ActiveSink>(
 }
 
 /// Tells the policies that apply to an endpoint, before it is put.
-pub fn come<S: ActiveSink>(
+pub fn tell_endpoint<S: ActiveSink>(
     policies: &PolicyIndex,
     endpoints: &Endpoints,
     matched: &Matches,

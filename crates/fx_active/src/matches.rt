@@ -1,5 +1,5 @@
 //! On which items selectors hold.
-ghost use Rattle.std.specs.Prelude.{◌≡◌, ℕ, List, OnOk, [], IsTrue, true};
+ghost use Rattle.std.specs.Prelude.{◌≡◌, OnOk, [], IsTrue, true};
 ghost use Rattle.std.specs.Option.{option_copied};
 ghost use Rattle.std.specs.FinMap as map;
 ghost use Rattle.fx_base.specs.Set as set;

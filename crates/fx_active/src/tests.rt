@@ -1,8 +1,7 @@
 //! Calls in their order, each with what a sink that records holds then. What is wanted follows from Calico's resource
 //! reference: a policy is needed while it has a type and selects some endpoint of the node, and a profile while some endpoint
 //! of the node lists it.
-ghost use Rattle.std.specs.Prelude.{◌≡◌, OnOk, IfOk, true};
-ghost use Rattle.fx_active.specs.Active.{is_endpoint};
+ghost use Rattle.std.specs.Prelude.{OnOk};
 ghost use Rattle.fx_active.specs.Recorded.{IsRecorded};
 
 use crate::ActiveRules;
@@ -279,9 +278,7 @@ fn policy_id(alloc: Global, name: &[u8]) -> Result<PolicyId, Memory> {
     Ok(PolicyId::Global { name })
 }
 
-fn endpoint(alloc: Global, name: &[u8]) -> Result<ItemKey, Memory>
-    ensures { IfOk result (λ key. is_endpoint key ≡ true) }
-{
+fn endpoint(alloc: Global, name: &[u8]) -> Result<ItemKey, Memory> {
     let ns = Text::new(alloc, b"default")?;
     let name = Text::new(alloc, name)?;
     Ok(ItemKey::Endpoint { ns, name })

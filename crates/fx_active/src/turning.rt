@@ -1,14 +1,12 @@
 //! Walks over policies and endpoints that bring the sink up to date.
-ghost use Rattle.std.specs.Prelude.{◌≡◌, OnOk, Some, None, IsSome, is_some, true, false, not, ◌&&◌, nat_eq, cond};
+ghost use Rattle.std.specs.Prelude.{◌≡◌, OnOk, is_some, true, false, not, ◌&&◌, cond};
 ghost use Rattle.std.specs.Option.{option_copied};
-ghost use Rattle.std.specs.Cmp.Lexicographic.{pointwise};
 ghost use Rattle.std.specs.FinMap as map;
 ghost use Rattle.fx_base.specs.Set as set;
-ghost use Rattle.fx_model.specs.Active.{has_types};
 ghost use Rattle.fx_model.specs.Pairs.{put};
 ghost use Rattle.fx_model.specs.declared.ids.ItemKey.{ItemKey};
 ghost use Rattle.fx_model.specs.declared.ids.PolicyId.{PolicyId};
-ghost use Rattle.fx_active.specs.Active.{applies_to, holds_somewhere, text_of};
+ghost use Rattle.fx_active.specs.Active.{applies_to};
 ghost use Rattle.fx_active.specs.Steps.{keep, selects, is_typed, has_typed_text, holds_of, IsRowSet, IsTurned};
 
 use crate::endpoints::Endpoints;

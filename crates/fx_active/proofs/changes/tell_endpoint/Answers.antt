@@ -5,7 +5,7 @@ use Rattle.fx_active.specs.Active.{text_of}
 use Rattle.fx_active.specs.Steps.{selects, holds_of}
 use Rattle.fx_active.proofs.Turns.{policies_come, pairs_come, policies_stay, pairs_stay}
 use Rattle.fx_active.proofs.Larger.{endpoint_more, endpoint_test, again_holds, again_pairs}
-use Rattle.fx_active.proofs.changes.come.Goals as goal
+use Rattle.fx_active.proofs.changes.tell_endpoint.Goals as goal
 
 pub returns-in_ok-turn_item-clause-policies : goal.returns-in_ok-turn_item-clause-policies
 returns-in_ok-turn_item-clause-policies g c = λ names.
