@@ -1,8 +1,8 @@
 //! A source over any reader and a sink over any writer. To the layers below, neither tells what the bytes are.
 ghost use Rattle.std.specs.Prelude.{◌≡◌, ◌<◌, ◌+◌, ◌^◌, ℕ, List, length, take, Option, None, false, IfOk, OnOk, OnErr};
 ghost use Rattle.std.specs.Io.KnownBytes.{Keeps, Consumes, Appends};
-ghost use Rattle.fx_base.specs.Streams.{HasCause, ReadsSome, ReadsNone, AppendsFront};
-ghost use Rattle.fx_base.proofs.Compose.{Appends-none, Appends-more, AppendsFront-none, AppendsFront-all, AppendsFront-after};
+ghost use Rattle.fx_base.specs.Streams.{HasCause, ReadsSome, ReadsNone, AppendsPrefix};
+ghost use Rattle.fx_base.proofs.Compose.{Appends-none, Appends-more, AppendsPrefix-none, AppendsPrefix-all, AppendsPrefix-after};
 
 use fx_base::{Failed, Sink, Source};
 use std::io::{Read, Write};
@@ -89,12 +89,12 @@ impl<W: Write + Drop> Sink for WriteSink<W> {
 
     fn put(&mut self, bytes: &[u8]) -> Result<(), Failed>
         ensures ok { OnOk result (Appends None None bytes.now) }
-        ensures err { OnErr result (AppendsFront None None bytes.now) }
+        ensures err { OnErr result (AppendsPrefix None None bytes.now) }
         ensures cause { HasCause (self.old.faults) (self.new.faults) result }
 
         // The writer takes them all, or a front of them.
         ensures written { OnOk result (Appends (W.contents self.old.writer) (W.contents self.new.writer) bytes.now) }
-        ensures front { OnErr result (AppendsFront (W.contents self.old.writer) (W.contents self.new.writer) bytes.now) }
+        ensures front { OnErr result (AppendsPrefix (W.contents self.old.writer) (W.contents self.new.writer) bytes.now) }
     {
         let result = write_whole(&mut self.writer, bytes);
         if result.is_err() {
@@ -107,7 +107,7 @@ impl<W: Write + Drop> Sink for WriteSink<W> {
 // std's `write_all` says nothing of what it wrote before it failed, and tries an interrupted write again.
 fn write_whole<W: Write>(writer: &mut W, bytes: &[u8]) -> Result<(), Failed>
     ensures written { OnOk result (Appends (W.contents writer.old) (W.contents writer.new) bytes.now) }
-    ensures front { OnErr result (AppendsFront (W.contents writer.old) (W.contents writer.new) bytes.now) }
+    ensures front { OnErr result (AppendsPrefix (W.contents writer.old) (W.contents writer.new) bytes.now) }
 {
     let mut rest = bytes;
     while !rest.is_empty() {

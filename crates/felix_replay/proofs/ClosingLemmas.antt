@@ -11,7 +11,7 @@ use Rattle.fx_names.specs.Digests.{Digest}
 use Rattle.fx_lines.specs.Lines.{lines_of}
 use Rattle.fx_lines.specs.declared.commands.Command.{Command}
 use Rattle.fx_lines.specs.declared.commands.Command.TheVariants as command
-use Rattle.felix_replay.specs.Output.{State, start, answer_of, next, step}
+use Rattle.felix_replay.specs.Output.{State, start, answer_of, next, after_answer}
 use Rattle.felix_replay.specs.Closing.{views_in, views_along, IsWhole}
 use Rattle.felix_replay.proofs.EmptyView.{empty_view-closed}
 
@@ -31,7 +31,7 @@ in_line s (Ok (command.Update u)) closed = tt
 in_line s (Ok (command.Packet a)) closed = tt
 in_line s (Err r) closed = tt
 
-after_line : (s : State) (a : Result Command Refusal) → IsClosedView s.sent → IsClosedView (step s a).sent
+after_line : (s : State) (a : Result Command Refusal) → IsClosedView s.sent → IsClosedView (after_answer s a).sent
 after_line s (Ok command.Blank) closed = closed
 after_line s (Ok command.Tables) closed = closed
 after_line s (Ok command.Flush) closed = view_of-closed s.digest s.resources

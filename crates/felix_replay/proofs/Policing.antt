@@ -45,7 +45,7 @@ use Rattle.felix_replay.specs.Engine.{IsRendered}
 use Rattle.felix_replay.specs.declared.engine.Engine.{Engine}
 use Rattle.felix_replay.specs.Run.{state_after}
 use Rattle.felix_replay.specs.PacketRuns.{nothing_traced, packet_run, packet_text}
-use Rattle.felix_replay.specs.Output.{State, start, is_second_local, unless_taken, checked, accepted, answer_of, step, next, answer_text}
+use Rattle.felix_replay.specs.Output.{State, start, is_second_local, unless_taken, checked, accepted, answer_of, after_answer, next, answer_text}
 use Rattle.felix_replay.specs.Policed.{TellsPolicy, KeepsPolicy}
 use Rattle.felix_replay.proofs.EmptyView.{start-formed}
 use Rattle.felix_replay.proofs.Lone.{lone-after}
@@ -119,7 +119,7 @@ accepted-digest s command.Flush = refl
 accepted-digest s (command.Update u) = refl
 accepted-digest s (command.Packet a) = refl
 
-step-digest : (s : State) (r : Result Command Refusal) → (step s r).digest ≡ s.digest
+step-digest : (s : State) (r : Result Command Refusal) → (after_answer s r).digest ≡ s.digest
 step-digest s (Ok c) = accepted-digest (record s { lines = s.lines + 1 }) c
 step-digest s (Err r) = refl
 

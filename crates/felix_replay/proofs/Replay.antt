@@ -4,8 +4,8 @@ use Rattle.std.specs.Io.KnownBytes.{Appends}
 use Rattle.std.proofs.Common.{Bool, true, refl, Result, Ok, Err, ◌+◌}
 use Rattle.fx_lines.specs.Lines.{lines_of, answerable}
 use Rattle.std.proofs.lemmas.List.{append-nil}
-use Rattle.fx_base.specs.Streams.{Gives, AppendsFront}
-use Rattle.fx_base.proofs.Compose.{Appends-more, AppendsFront-all, AppendsFront-after, AppendsFront-longer, Gives-more, Gives-none}
+use Rattle.fx_base.specs.Streams.{Gives, AppendsPrefix}
+use Rattle.fx_base.proofs.Compose.{Appends-more, AppendsPrefix-all, AppendsPrefix-after, AppendsPrefix-longer, Gives-more, Gives-none}
 use Rattle.fx_lines.specs.Reading.{HasRead}
 use Rattle.fx_lines.proofs.Cuts.{answerable-lines, nothing_given}
 use Rattle.fx_names.specs.Digests.{Digest}
@@ -14,7 +14,7 @@ use Rattle.felix_replay.specs.Run.{state_after, written}
 use Rattle.fx_json.specs.declared.refusal.Refusal.{Refusal}
 use Rattle.fx_lines.specs.declared.commands.Command.{Command}
 use Rattle.fx_lines.specs.declared.commands.Command.TheVariants as command
-use Rattle.felix_replay.specs.Output.{State, start, next, step, text, output}
+use Rattle.felix_replay.specs.Output.{State, start, next, after_answer, text, output}
 use Rattle.felix_replay.proofs.Runs.{state_after-push, written-push, written-append}
 
 module _ (dg : Digest) (node : List ℕ) (lines : List (List ℕ)) (line bytes : List ℕ) (s : State) (is : s ≡ state_after next (start dg node) lines) (same : bytes ≡ line) where
@@ -30,10 +30,10 @@ module _ (dg : Digest) (node : List ℕ) (lines : List (List ℕ)) (line bytes :
       subst (Appends a c) e (Appends-more a b c (written next text (start dg node) lines) (text s bytes) p q)
 
 -- what the lines write is a front of what bytes with these lines at their front write
-front_of : (dg : Digest) (node : List ℕ) (bytes : List ℕ) (lines rest : List (List ℕ)) (before now : Option (List ℕ)) → lines_of bytes ≡ lines ++ rest → AppendsFront before now (written next text (start dg node) lines) → AppendsFront before now (output dg node bytes)
+front_of : (dg : Digest) (node : List ℕ) (bytes : List ℕ) (lines rest : List (List ℕ)) (before now : Option (List ℕ)) → lines_of bytes ≡ lines ++ rest → AppendsPrefix before now (written next text (start dg node) lines) → AppendsPrefix before now (output dg node bytes)
 front_of dg node bytes lines rest before now is wrote =
-    subst (AppendsFront before now) (sym (ap (λ (l : List (List ℕ)). written next text (start dg node) l) is ∙ written-append next text (start dg node) lines rest))
-    (AppendsFront-longer before now (written next text (start dg node) lines) (written next text (state_after next (start dg node) lines) rest) wrote)
+    subst (AppendsPrefix before now) (sym (ap (λ (l : List (List ℕ)). written next text (start dg node) l) is ∙ written-append next text (start dg node) lines rest))
+    (AppendsPrefix-longer before now (written next text (start dg node) lines) (written next text (state_after next (start dg node) lines) rest) wrote)
 
 -- a run that ends with a fault of the reader, which took one more piece
 pub stopped_between : (dg : Digest) (node : List ℕ) (left_before left left_now : Option (List ℕ)) (given_before given given_now : ℕ) (held : List ℕ) (ended ended_now : Bool) (lines : List (List ℕ)) (piece : List ℕ) (out_before out_now : Option (List ℕ))
@@ -45,13 +45,13 @@ stopped_between dg node left_before left left_now given_before given given_now h
       taken = was.taken ++ piece;
       gives = Gives-more left_before left left_now given_before given given_now was.taken piece was.gives gives;
       output = front_of dg node (answerable ended_now (was.taken ++ piece)) lines more.0 out_before out_now more.1
-          (subst (AppendsFront out_before out_now) (append-nil (written next text (start dg node) lines)) (AppendsFront-all out_before out_now (written next text (start dg node) lines) [] wrote));
+          (subst (AppendsPrefix out_before out_now) (append-nil (written next text (start dg node) lines)) (AppendsPrefix-all out_before out_now (written next text (start dg node) lines) [] wrote));
     }
 
 -- a run that ends within the answer to a line
 pub stopped_within : (dg : Digest) (node : List ℕ) (left_before left_now : Option (List ℕ)) (given_before given_now : ℕ) (held : List ℕ) (ended ended_now : Bool) (lines : List (List ℕ)) (line bytes : List ℕ) (s : State) (out_before out out_now : Option (List ℕ))
     → HasRead left_before left_now given_before given_now held ended (lines ++ line ∷ []) → ended_now ≡ ended → s ≡ state_after next (start dg node) lines → bytes ≡ line
-    → Appends out_before out (written next text (start dg node) lines) → AppendsFront out out_now (text s bytes) → Stopped dg node left_before left_now given_before given_now ended_now out_before out_now
+    → Appends out_before out (written next text (start dg node) lines) → AppendsPrefix out out_now (text s bytes) → Stopped dg node left_before left_now given_before given_now ended_now out_before out_now
 stopped_within dg node left_before left_now given_before given_now held ended ended_now lines line bytes s out_before out out_now was now is same wrote stop =
     let more = answerable-lines was.taken held [] ended ended_now (lines ++ line ∷ []) was.cut (λ end. (refl, now ∙ end)) in
     let e : written next text (start dg node) lines ++ text s bytes ≡ written next text (start dg node) (lines ++ line ∷ []) =
@@ -62,11 +62,11 @@ stopped_within dg node left_before left_now given_before given_now held ended en
       taken = was.taken ++ [];
       gives = Gives-more left_before left_now left_now given_before given_now given_now was.taken [] was.gives (Gives-none left_now given_now);
       output = front_of dg node (answerable ended_now (was.taken ++ [])) (lines ++ line ∷ []) more.0 out_before out_now more.1
-          (subst (AppendsFront out_before out_now) e (AppendsFront-after out_before out out_now (written next text (start dg node) lines) (text s bytes) wrote stop));
+          (subst (AppendsPrefix out_before out_now) e (AppendsPrefix-after out_before out out_now (written next text (start dg node) lines) (text s bytes) wrote stop));
     }
 
 -- each line is counted
-pub step-lines : (s : State) (a : Result Command Refusal) → (step s a).lines ≡ s.lines + 1
+pub step-lines : (s : State) (a : Result Command Refusal) → (after_answer s a).lines ≡ s.lines + 1
 step-lines s (Ok command.Blank) = refl
 step-lines s (Ok command.Tables) = refl
 step-lines s (Ok command.Flush) = refl

@@ -4,8 +4,8 @@ use Rattle.std.specs.List.{concat}
 use Rattle.std.proofs.lemmas.List.{drop_more, take_more, append-nil}
 use Rattle.std.proofs.lemmas.List.Folds.{concat-append}
 use Rattle.std.specs.Io.KnownBytes.{Appends}
-use Rattle.fx_base.specs.Streams.{AppendsFront}
-use Rattle.fx_base.proofs.Compose.{AppendsFront-none, AppendsFront-all, AppendsFront-after, AppendsFront-longer, Appends-more}
+use Rattle.fx_base.specs.Streams.{AppendsPrefix}
+use Rattle.fx_base.proofs.Compose.{AppendsPrefix-none, AppendsPrefix-all, AppendsPrefix-after, AppendsPrefix-longer, Appends-more}
 use Rattle.felix_replay.specs.declared.stop.Stop.{Stop}
 use Rattle.felix_replay.specs.declared.stop.Stop.TheVariants as stop
 use Rattle.felix_replay.specs.Writing.{IsOutStop, Writes}
@@ -20,18 +20,18 @@ cause_wider a b c stop.InputTooLong le h = h
 module _ {T : Type 0} where
   -- nothing was written, for want of memory
   pub Writes-nothing : (held : Option (List ℕ)) (faults : ℕ) (text : List ℕ) → Writes {T = T} held held faults faults text (Err stop.Memory)
-  Writes-nothing held faults text = record { whole = tt; front = AppendsFront-none held text; later = omega arith; cause = tt }
+  Writes-nothing held faults text = record { whole = tt; front = AppendsPrefix-none held text; later = omega arith; cause = tt }
 
   -- a first part was written whole, and then there was no memory
   pub Writes-first : (held now : Option (List ℕ)) (before after : ℕ) (first rest : List ℕ) → Appends held now first → before ≤ after → Writes {T = T} held now before after (first ++ rest) (Err stop.Memory)
-  Writes-first held now before after first rest wrote le = record { whole = tt; front = AppendsFront-all held now first rest wrote; later = le; cause = tt }
+  Writes-first held now before after first rest wrote le = record { whole = tt; front = AppendsPrefix-all held now first rest wrote; later = le; cause = tt }
 
   -- a first part was written whole, and a call for the second part stopped
-  pub Writes-stopped : (held mid now : Option (List ℕ)) (before between after : ℕ) (first second rest : List ℕ) (s : Stop) → Appends held mid first → before ≤ between → AppendsFront mid now second → between ≤ after → IsOutStop between after s
+  pub Writes-stopped : (held mid now : Option (List ℕ)) (before between after : ℕ) (first second rest : List ℕ) (s : Stop) → Appends held mid first → before ≤ between → AppendsPrefix mid now second → between ≤ after → IsOutStop between after s
       → Writes {T = T} held now before after (first ++ (second ++ rest)) (Err s)
   Writes-stopped held mid now before between after first second rest s wrote le front le' cause = record {
     whole = tt;
-    front = AppendsFront-after held mid now first (second ++ rest) wrote (AppendsFront-longer mid now second rest front);
+    front = AppendsPrefix-after held mid now first (second ++ rest) wrote (AppendsPrefix-longer mid now second rest front);
     later = omega arith;
     cause = cause_wider before between after s le cause;
   }
@@ -53,8 +53,8 @@ concat-split lines i line small is =
 
 module _ {T : Type 0} where
   -- a call for the first part stopped
-  pub Writes-front : (held now : Option (List ℕ)) (before after : ℕ) (first rest : List ℕ) (s : Stop) → AppendsFront held now first → before ≤ after → IsOutStop before after s → Writes {T = T} held now before after (first ++ rest) (Err s)
-  Writes-front held now before after first rest s front le cause = record { whole = tt; front = AppendsFront-longer held now first rest front; later = le; cause = cause }
+  pub Writes-front : (held now : Option (List ℕ)) (before after : ℕ) (first rest : List ℕ) (s : Stop) → AppendsPrefix held now first → before ≤ after → IsOutStop before after s → Writes {T = T} held now before after (first ++ rest) (Err s)
+  Writes-front held now before after first rest s front le cause = record { whole = tt; front = AppendsPrefix-longer held now first rest front; later = le; cause = cause }
 
   -- the first part was written whole, and then the second was or wasn't
   pub Writes-then : (held mid now : Option (List ℕ)) (before between after : ℕ) (first second : List ℕ) (r : Result T Stop) → Appends held mid first → before ≤ between → Writes mid now between after second r → Writes held now before after (first ++ second) r
@@ -66,7 +66,7 @@ module _ {T : Type 0} where
   }
   Writes-then held mid now before between after first second (Err s) wrote le then = record {
     whole = tt;
-    front = AppendsFront-after held mid now first second wrote then.front;
+    front = AppendsPrefix-after held mid now first second wrote then.front;
     later = omega (arith, then.later);
     cause = cause_wider before between after s le then.cause;
   }

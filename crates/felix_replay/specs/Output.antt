@@ -89,12 +89,12 @@ accepted s (command.Update u) = record s { resources = after s.resources u }
 accepted s (command.Packet a) = s
 
 -- a refused line changes nothing but the numbers
-abbrev pub step : State → Result Command Refusal → State
-step s (Ok c) = accepted (record s { lines = s.lines + 1 }) c
-step s (Err r) = record s { lines = s.lines + 1; refused = true }
+abbrev pub after_answer : State → Result Command Refusal → State
+after_answer s (Ok c) = accepted (record s { lines = s.lines + 1 }) c
+after_answer s (Err r) = record s { lines = s.lines + 1; refused = true }
 
 abbrev pub next : State → List ℕ → State
-next s line = step s (answer_of s line)
+next s line = after_answer s (answer_of s line)
 
 -- ---- what a line writes
 

@@ -1,7 +1,7 @@
 -- What a run of the program did.
 use Rattle.std.specs.Prelude.{if◌then◌else◌, ◌≡◌, ℕ, List, Bool, true, Option}
 use Rattle.std.specs.Io.KnownBytes.{Appends, IsAtEnd}
-use Rattle.fx_base.specs.Streams.{Gives, AppendsFront}
+use Rattle.fx_base.specs.Streams.{Gives, AppendsPrefix}
 use Rattle.felix_replay.specs.declared.top.Status.{Status}
 use Rattle.felix_replay.specs.declared.top.Status.TheVariants.{Done, Refused, Usage, ReadFault, WriteFault, Memory, InputTooLong}
 use Rattle.fx_lines.specs.Lines.{answerable}
@@ -21,7 +21,7 @@ pub record Ran (dg : Digest) (node : List ℕ) (left_before left_now : Option (L
 pub record Stopped (dg : Digest) (node : List ℕ) (left_before left_now : Option (List ℕ)) (given_before given_now : ℕ) (ended : Bool) (held_before held_now : Option (List ℕ)) : Type 0 where
   pub taken : List ℕ
   pub gives : Gives left_before left_now given_before given_now taken
-  pub output : AppendsFront held_before held_now (output dg node (answerable ended taken))
+  pub output : AppendsPrefix held_before held_now (output dg node (answerable ended taken))
 
 -- the statuses of a run that ended early
 abbrev pub IsStop : Status → Type 0

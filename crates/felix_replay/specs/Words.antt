@@ -15,5 +15,5 @@ node_of (option ∷ name ∷ []) = if bytes_eq option (codes "--node") && is_nod
 node_of (option ∷ name ∷ other ∷ words) = None
 
 -- the node's name, or none where the words are not in the grammar
-abbrev pub name_of : List (List ℕ) → List ℕ
-name_of words = unwrap_or (node_of words) []
+abbrev pub node_name : List (List ℕ) → List ℕ
+node_name words = unwrap_or (node_of words) []

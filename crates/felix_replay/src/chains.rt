@@ -9,7 +9,7 @@ ghost use Rattle.felix_replay.specs.Rendering.{policy_jump, one_tier, profile_ju
 
 use fx_base::{ChainName, Memory, NameKey, Seq, Text, TextMap};
 use fx_model::{ChainRule, End, Match, Reason, Target, ViewEndpoint, ViewTier};
-use fx_rules::{ACCEPT, PASS, clear_mark, is_clear, one, plain, push_return, told};
+use fx_rules::{ACCEPT, PASS, clear_mark, is_clear, one, plain, push_return, tagged};
 use std::alloc::Global;
 
 /// The name of a policy's chain.
@@ -107,7 +107,7 @@ fn push_tier(
     let why = Reason::EndOfTier {
         tier: tier.name.clone()?,
     };
-    chain.push(told(one(alloc, is_clear(PASS))?, Target::Drop, why))
+    chain.push(tagged(one(alloc, is_clear(PASS))?, Target::Drop, why))
 }
 
 fn push_tiers(
@@ -161,11 +161,11 @@ fn push_state_rules(alloc: Global, chain: &mut Seq<ChainRule>) -> Result<(), Mem
     let known = Match::State {
         related_established: true,
     };
-    chain.push(told(one(alloc, known)?, Target::Accept, Reason::Established))?;
+    chain.push(tagged(one(alloc, known)?, Target::Accept, Reason::Established))?;
     let invalid = Match::State {
         related_established: false,
     };
-    chain.push(told(one(alloc, invalid)?, Target::Drop, Reason::Invalid))?;
+    chain.push(tagged(one(alloc, invalid)?, Target::Drop, Reason::Invalid))?;
     chain.push(plain(Seq::new(alloc), clear_mark(ACCEPT)))
 }
 
@@ -188,7 +188,7 @@ pub fn endpoint_chain(
     push_state_rules(alloc, &mut chain)?;
     push_tiers(alloc, ingress, tiers, &mut chain)?;
     push_profile_jumps(alloc, ingress, &endpoint.profiles, &mut chain)?;
-    chain.push(told(Seq::new(alloc), Target::Drop, Reason::NoProfileRule))?;
+    chain.push(tagged(Seq::new(alloc), Target::Drop, Reason::NoProfileRule))?;
     Ok(chain)
 }
 
@@ -224,7 +224,7 @@ pub fn dispatch_chain(
     for (iface, _) in endpoints.iter() {
         push_goto(alloc, ingress, iface, &mut chain)?;
     }
-    chain.push(told(Seq::new(alloc), Target::Drop, Reason::UnknownInterface))?;
+    chain.push(tagged(Seq::new(alloc), Target::Drop, Reason::UnknownInterface))?;
     Ok(chain)
 }
 

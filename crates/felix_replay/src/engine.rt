@@ -10,7 +10,7 @@ ghost use Rattle.fx_model.specs.Views.{view_of};
 ghost use Rattle.fx_model.specs.contracts.ids.ItemKeyPartialEq.TheImpl as item_eq;
 ghost use Rattle.fx_print.specs.Texts.{refusal_line, flushed_line};
 ghost use Rattle.fx_lines.specs.Formed.{is_formed_command};
-ghost use Rattle.felix_replay.specs.Output.{start, next, text, checked, update_answer, step, answer_text, is_second_local, flush_text};
+ghost use Rattle.felix_replay.specs.Output.{start, next, text, checked, update_answer, after_answer, answer_text, is_second_local, flush_text};
 ghost use Rattle.fx_print.specs.TableTexts.{table_lines};
 ghost use Rattle.felix_replay.specs.PacketRuns.{packet_text};
 ghost use Rattle.felix_replay.specs.Fitting.{Fits};
@@ -24,7 +24,7 @@ use fx_base::{Memory, Sink, Text};
 use fx_json::{ReadFault, Refusal};
 use fx_lines::{Command, read_command};
 use fx_model::{Item, ItemKey, Key, Packet, Resources, Update, View, view_of};
-use fx_names::{Answers, DigestRule, Namer};
+use fx_names::{DigestFunction, DigestRule, Namer};
 use fx_print::{flushed_text, packet_texts, refusal_text, tables_text};
 use fx_store::{CheckFault, Store};
 use fx_tables::Tables;
@@ -62,7 +62,7 @@ impl Engine {
     }
 
     /// Answers the next line.
-    pub fn answer<K: Sink, R: DigestRule, F: Answers<R> + Drop>(
+    pub fn answer<K: Sink, R: DigestRule, F: DigestFunction<R> + Drop>(
         &mut self,
         line: &[u8],
         namer: &Namer<R, F>,
@@ -79,7 +79,7 @@ impl Engine {
         self.obey(answer, namer, sink)
     }
 
-    fn obey<K: Sink, R: DigestRule, F: Answers<R> + Drop>(
+    fn obey<K: Sink, R: DigestRule, F: DigestFunction<R> + Drop>(
         &mut self,
         answer: Result<Command, Refusal>,
         namer: &Namer<R, F>,
@@ -89,7 +89,7 @@ impl Engine {
         requires few { self.old.lines < 2 ^ 64 - 1 }
         requires fits { IfOk answer (Fits R.digest_of self.old.store.resources) }
         ensures kept { OnOk result (IsKept R.digest_of self.new) }
-        ensures state { OnOk result (state_of R.digest_of self.new ≡ step (state_of R.digest_of self.old) answer) }
+        ensures state { OnOk result (state_of R.digest_of self.new ≡ after_answer (state_of R.digest_of self.old) answer) }
         ensures writes { Writes (K.held sink.old) (K.held sink.new) (K.faults sink.old) (K.faults sink.new) (answer_text (state_of R.digest_of self.old) answer) result }
     {
         self.lines += 1;
@@ -103,7 +103,7 @@ impl Engine {
         }
     }
 
-    fn apply<R: DigestRule, F: Answers<R> + Drop>(
+    fn apply<R: DigestRule, F: DigestFunction<R> + Drop>(
         &mut self,
         update: Update,
         namer: &Namer<R, F>,
@@ -162,7 +162,7 @@ impl Engine {
 
     // Sends what the wanted view has and the sent view hasn't, and renders it.
     #[tactic(auto, using(fx_base::proofs::AtKey::reads, crate::proofs::Policing::wanted_closed))]
-    fn flush<K: Sink, R: DigestRule, F: Answers<R> + Drop>(
+    fn flush<K: Sink, R: DigestRule, F: DigestFunction<R> + Drop>(
         &mut self,
         namer: &Namer<R, F>,
         sink: &mut K,
@@ -206,7 +206,7 @@ fn command_in(alloc: Global, line: &[u8]) -> Result<Result<Command, Refusal>, Me
 
 // A put of a second local endpoint is refused, and one whose claims clash.
 #[tactic(auto, using(crate::proofs::Checking::checked_fits))]
-fn checked<R: DigestRule, F: Answers<R> + Drop>(
+fn checked<R: DigestRule, F: DigestFunction<R> + Drop>(
     alloc: Global,
     store: &Store,
     said: Result<Command, Refusal>,
@@ -223,7 +223,7 @@ fn checked<R: DigestRule, F: Answers<R> + Drop>(
     }
 }
 
-fn checked_update<R: DigestRule, F: Answers<R> + Drop>(
+fn checked_update<R: DigestRule, F: DigestFunction<R> + Drop>(
     alloc: Global,
     store: &Store,
     update: Update,

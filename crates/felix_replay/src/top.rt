@@ -1,8 +1,8 @@
 //! The top call: from the bytes of a source to the bytes of a sink.
 ghost use Rattle.std.specs.Prelude.{List, ℕ, ◌++◌, Some, ◌≡◌, ◌⊎◌, ◌+◌, ◌^◌, ◌<◌, ◌≤◌, IfOk, OnOk, OnErr, IsErrOf, IsSome, None, false, true};
 ghost use Rattle.std.specs.Io.KnownBytes.{Appends, Keeps};
-ghost use Rattle.fx_base.specs.Streams.{Rose, AppendsFront};
-ghost use Rattle.felix_replay.specs.Words.{node_of, name_of};
+ghost use Rattle.fx_base.specs.Streams.{Rose, AppendsPrefix};
+ghost use Rattle.felix_replay.specs.Words.{node_of, node_name};
 ghost use Rattle.fx_print.specs.Texts.{usage_line};
 ghost use Rattle.felix_replay.specs.Top.{Ran, Stopped, IsStop, HasRun, output_status};
 ghost use Rattle.std.specs.List.{AllByRecursion};
@@ -16,7 +16,7 @@ use crate::stop::Stop;
 use crate::words::node_word;
 use fx_base::{Sink, Source, Text};
 use fx_lines::LineReader;
-use fx_names::{Answers, DigestRule, Namer};
+use fx_names::{DigestFunction, DigestRule, Namer};
 use std::alloc::Global;
 
 #[derive(Clone, Copy, Debug, PartialEq, Eq)]
@@ -36,7 +36,7 @@ pub enum Status {
 /// first, `-`. A line is a JSON object with one member; each output line is written with its newline by one put. Names in the
 /// kernel that are too long are made by the namer's digest rule.
 #[tactic(auto, using(fx_base::proofs::AtKey::reads, crate::proofs::ClosingLemmas::run_stays_whole, crate::proofs::Policing::keeps_policy))]
-pub fn felix_replay<S: Source, K: Sink, R: DigestRule, F: Answers<R> + Drop>(
+pub fn felix_replay<S: Source, K: Sink, R: DigestRule, F: DigestFunction<R> + Drop>(
     alloc: Global,
     words: &[Text],
     source: &mut S,
@@ -48,19 +48,19 @@ pub fn felix_replay<S: Source, K: Sink, R: DigestRule, F: Answers<R> + Drop>(
 
     // The input was read to its end, and the output is the definition's.
     ensures done { result ≡ Status.Done → IsSome (node_of words.now)
-        × Ran R.digest_of (name_of words.now) (S.left source.old) (S.left source.new) (S.given source.old) (S.given source.new) (S.ended source.new) (K.held sink.old) (K.held sink.new) false }
+        × Ran R.digest_of (node_name words.now) (S.left source.old) (S.left source.new) (S.given source.old) (S.given source.new) (S.ended source.new) (K.held sink.old) (K.held sink.new) false }
     ensures refused { result ≡ Status.Refused → IsSome (node_of words.now)
-        × Ran R.digest_of (name_of words.now) (S.left source.old) (S.left source.new) (S.given source.old) (S.given source.new) (S.ended source.new) (K.held sink.old) (K.held sink.new) true }
+        × Ran R.digest_of (node_name words.now) (S.left source.old) (S.left source.new) (S.given source.old) (S.given source.new) (S.ended source.new) (K.held sink.old) (K.held sink.new) true }
 
     // The same where the source tells what is left and the sink what it holds.
     ensures told { (input : List ℕ) (held : List ℕ) → S.left source.old ≡ Some input → K.held sink.old ≡ Some held → HasRun result
-        → (K.held sink.new ≡ Some (held ++ output R.digest_of (name_of words.now) input)) × (result ≡ output_status R.digest_of (name_of words.now) input) }
+        → (K.held sink.new ≡ Some (held ++ output R.digest_of (node_name words.now) input)) × (result ≡ output_status R.digest_of (node_name words.now) input) }
 
     // After each single message nothing that is named is missing, in the sent view and in its tables.
-    ensures closed { (input : List ℕ) → AllByRecursion IsWhole (views_along (start R.digest_of (name_of words.now)) (lines_of input)) }
+    ensures closed { (input : List ℕ) → AllByRecursion IsWhole (views_along (start R.digest_of (node_name words.now)) (lines_of input)) }
 
     // A line with a first packet is answered as the policy reference says, where each accepted update was flushed.
-    ensures policy { KeepsPolicy R.digest_of (name_of words.now) }
+    ensures policy { KeepsPolicy R.digest_of (node_name words.now) }
 
     // Without a fault it is never anything else but want of memory.
     ensures complete { IsSome (node_of words.now) → ¬ Rose (S.faults source.old) (S.faults source.new) → ¬ Rose (K.faults sink.old) (K.faults sink.new)
@@ -73,8 +73,8 @@ pub fn felix_replay<S: Source, K: Sink, R: DigestRule, F: Answers<R> + Drop>(
 
     // What a run that ended early has written is a front of the output.
     ensures stopped { IsSome (node_of words.now) → IsStop result
-        → Stopped R.digest_of (name_of words.now) (S.left source.old) (S.left source.new) (S.given source.old) (S.given source.new) (S.ended source.new) (K.held sink.old) (K.held sink.new) }
-    ensures no_usage { node_of words.now ≡ None → AppendsFront (K.held sink.old) (K.held sink.new) usage_line }
+        → Stopped R.digest_of (node_name words.now) (S.left source.old) (S.left source.new) (S.given source.old) (S.given source.new) (S.ended source.new) (K.held sink.old) (K.held sink.new) }
+    ensures no_usage { node_of words.now ≡ None → AppendsPrefix (K.held sink.old) (K.held sink.new) usage_line }
 
     // Each other end has its cause.
     ensures read_fault { result ≡ Status.ReadFault → Rose (S.faults source.old) (S.faults source.new) }
@@ -97,7 +97,7 @@ pub fn felix_replay<S: Source, K: Sink, R: DigestRule, F: Answers<R> + Drop>(
 fn tell_usage<K: Sink>(sink: &mut K) -> Status
     ensures told { result ≡ Status.Usage → Appends (K.held sink.old) (K.held sink.new) usage_line }
     ensures only { (result ≡ Status.Usage) ⊎ (result ≡ Status.WriteFault) }
-    ensures front { AppendsFront (K.held sink.old) (K.held sink.new) usage_line }
+    ensures front { AppendsPrefix (K.held sink.old) (K.held sink.new) usage_line }
     ensures cause { result ≡ Status.WriteFault → Rose (K.faults sink.old) (K.faults sink.new) }
 {
     match sink.put(b"usage: felix-replay --node NAME [--soak SEED --count N]\n") {
@@ -107,7 +107,7 @@ fn tell_usage<K: Sink>(sink: &mut K) -> Status
 }
 
 // Answers each line, and tells whether one was refused.
-fn replay<S: Source, K: Sink, R: DigestRule, F: Answers<R> + Drop>(
+fn replay<S: Source, K: Sink, R: DigestRule, F: DigestFunction<R> + Drop>(
     alloc: Global,
     node: &Text,
     source: &mut S,

@@ -8,8 +8,8 @@ abbrev pub head_of : SetKind → List ℕ
 head_of Nets = codes "cali40s:"
 head_of Ports = codes "cali40n:"
 
-abbrev pub name_of : SetKind → List ℕ → List ℕ
-name_of kind tail = head_of kind ++ tail
+abbrev pub set_name_text : SetKind → List ℕ → List ℕ
+set_name_text kind tail = head_of kind ++ tail
 
 -- the kind that a name tells
 abbrev pub kind_of : List ℕ → SetKind

@@ -1,7 +1,7 @@
 //! What only counts: the bytes that are written, and the tests that are made.
 ghost use Rattle.std.specs.Prelude.{◌≡◌, ◌+◌, ◌-◌, ◌^◌, ℕ, List, None, Option, min, length, OnOk, OnErr, is_ok, true};
 ghost use Rattle.std.specs.Io.KnownBytes.{Appends};
-ghost use Rattle.fx_base.specs.Streams.{HasCause, AppendsFront};
+ghost use Rattle.fx_base.specs.Streams.{HasCause, AppendsPrefix};
 
 use crate::streams::{Failed, Sink};
 use std::marker::Model;
@@ -42,7 +42,7 @@ impl Sink for CountSink {
 
     fn put(&mut self, bytes: &[u8]) -> Result<(), Failed>
         ensures ok { OnOk result (Appends None None bytes.now) }
-        ensures err { OnErr result (AppendsFront None None bytes.now) }
+        ensures err { OnErr result (AppendsPrefix None None bytes.now) }
         ensures cause { HasCause 0 0 result }
         ensures always { is_ok result ≡ true }
         ensures counted { self.new ≡ min (self.old + length bytes.now) (2 ^ 64 - 1) }

@@ -1,7 +1,7 @@
 //! A sink over bytes in memory.
 ghost use Rattle.std.specs.Prelude.{◌≡◌, ◌↔◌, ◌⊎◌, ◌-◌, min, ◌<◌, ◌≤◌, ◌+◌, ◌^◌, ℕ, List, [], length, Option, Some, IfOk, OnOk, OnErr, IsErr, Contains, vec_len, vec_capacity};
 ghost use Rattle.std.specs.Io.KnownBytes.{Appends};
-ghost use Rattle.fx_base.specs.Streams.{HasCause, AppendsFront};
+ghost use Rattle.fx_base.specs.Streams.{HasCause, AppendsPrefix};
 
 use crate::failing::is_next_listed;
 use crate::memory::Memory;
@@ -55,7 +55,7 @@ impl Sink for MemSink {
 
     fn put(&mut self, bytes: &[u8]) -> Result<(), Failed>
         ensures ok { OnOk result (Appends (Some (held_bytes self.old)) (Some (held_bytes self.new)) bytes.now) }
-        ensures err { OnErr result (AppendsFront (Some (held_bytes self.old)) (Some (held_bytes self.new)) bytes.now) }
+        ensures err { OnErr result (AppendsPrefix (Some (held_bytes self.old)) (Some (held_bytes self.new)) bytes.now) }
         ensures cause { HasCause (fault_count self.old) (fault_count self.new) result }
 
         // Exactly the calls that are listed and those that don't fit fail, and they append nothing.

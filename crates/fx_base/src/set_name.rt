@@ -3,7 +3,7 @@ ghost use Rattle.std.specs.Prelude.{◌≡◌, ◌++◌, ℕ, List, Some, nat_eq
 ghost use Rattle.std.specs.Ordering.{nat_cmp};
 ghost use Rattle.std.specs.Cmp.{partial_equiv_from_equiv};
 ghost use Rattle.std.specs.Cmp.Lexicographic.{slice_cmp, pointwise, nat_list_cmp_total, nat_list_eq_equiv, texts_po, texts_ties};
-ghost use Rattle.fx_base.specs.SetName.{name_of, kind_of};
+ghost use Rattle.fx_base.specs.SetName.{set_name_text, kind_of};
 ghost use Rattle.fx_base.specs.Same.{same_bytes};
 
 use crate::exact::Exact;
@@ -35,7 +35,7 @@ impl Model for SetName {
 
 impl SetName {
     pub fn new(kind: SetKind, tail: [u8; 23]) -> Self
-        ensures name { result ≡ name_of kind tail }
+        ensures name { result ≡ set_name_text kind tail }
         ensures kind { kind_of result ≡ kind }
     {
         let mut held = [0; 31];

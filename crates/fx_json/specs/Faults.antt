@@ -45,10 +45,10 @@ is_memory (PassInProfile path) = false
 is_memory Memory = true
 
 -- What code answers where a value isn't read: the fault, unless memory is wanted.
-abbrev pub IsFault : {A : Type 0} → Result A ReadFault → ReadFault → Type 0
-IsFault answer told = (told ≡ Memory) ⊎ (answer ≡ Err told)
+abbrev pub IsReadFault : {A : Type 0} → Result A ReadFault → ReadFault → Type 0
+IsReadFault answer told = (told ≡ Memory) ⊎ (answer ≡ Err told)
 
 -- What code answers: what is read or the fault, unless memory is wanted.
-abbrev pub Answers : {A : Type 0} → Result A ReadFault → Result A ReadFault → Type 0
-Answers answer (Ok x) = answer ≡ Ok x
-Answers answer (Err told) = IsFault answer told
+abbrev pub IsAnswerOf : {A : Type 0} → Result A ReadFault → Result A ReadFault → Type 0
+IsAnswerOf answer (Ok x) = answer ≡ Ok x
+IsAnswerOf answer (Err told) = IsReadFault answer told

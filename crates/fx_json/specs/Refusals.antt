@@ -11,11 +11,11 @@ number_of BadJson = 21
 number_of BadLine = 22
 number_of (Taken name holder) = 30
 
-abbrev pub name_of : Refusal → List ℕ
-name_of (Read fault) = fault_name fault
-name_of BadJson = codes "BadJson"
-name_of BadLine = codes "BadLine"
-name_of (Taken name holder) = codes "Taken"
+abbrev pub refusal_name : Refusal → List ℕ
+refusal_name (Read fault) = fault_name fault
+refusal_name BadJson = codes "BadJson"
+refusal_name BadLine = codes "BadLine"
+refusal_name (Taken name holder) = codes "Taken"
 
 -- a want of memory tells nothing of the line
 abbrev pub is_memory : Refusal → Bool

@@ -4,7 +4,7 @@ ghost use Rattle.serde_json.specs.Data.{Data, null};
 ghost use Rattle.serde_json.specs.View.{view, items_view, members_view};
 ghost use Rattle.fx_json.specs.declared.fault.ReadFault.{ReadFault};
 ghost use Rattle.fx_json.specs.declared.fault.ReadFault.TheVariants.{MissingField};
-ghost use Rattle.fx_json.specs.Faults.{IsFault, Answers};
+ghost use Rattle.fx_json.specs.Faults.{IsReadFault, IsAnswerOf};
 ghost use Rattle.fx_json.specs.Paths.{text_of, member_path, item_path};
 ghost use Rattle.fx_json.specs.Fields.{Reader, field, is_absent, is_null, has_members, member_count, formed, required, defaulted, optional, object_at, section, list_at, items, items_from};
 
@@ -60,12 +60,12 @@ pub trait Form {
 
     /// Reads the value at a path.
     fn read(&self, alloc: Global, path: &Path<'_>, value: &Value) -> Result<Self::Read, ReadFault>
-        ensures { Answers (read_by self.now (text_of path.now) (view value.now)) result };
+        ensures { IsAnswerOf (read_by self.now (text_of path.now) (view value.now)) result };
 }
 
 /// What was found of the value at a path, which has to be in its form.
 pub fn formed<T: Drop>(alloc: Global, path: &Path<'_>, found: Option<T>) -> Result<T, ReadFault>
-    ensures { Answers (formed (text_of path.now) found) result }
+    ensures { IsAnswerOf (formed (text_of path.now) found) result }
 {
     match found {
         Some(value) => Ok(value),
@@ -84,7 +84,7 @@ pub fn required<F: Form>(
     key: &str,
     object: &Value,
 ) -> Result<F::Read, ReadFault>
-    ensures { Answers (required (F.read_by form.now) (text_of path.now) key.now (view object.now)) result }
+    ensures { IsAnswerOf (required (F.read_by form.now) (text_of path.now) key.now (view object.now)) result }
 {
     let here = path.member(key);
     match field(object, key) {
@@ -104,7 +104,7 @@ pub fn optional<F: Form>(
     key: &str,
     object: &Value,
 ) -> Result<Option<F::Read>, ReadFault>
-    ensures { Answers (optional (F.read_by form.now) (text_of path.now) key.now (view object.now)) result }
+    ensures { IsAnswerOf (optional (F.read_by form.now) (text_of path.now) key.now (view object.now)) result }
 {
     match field(object, key) {
         Some(value) => Ok(Some(form.read(alloc, &path.member(key), value)?)),
@@ -122,7 +122,7 @@ pub fn defaulted<F: Form>(
     key: &str,
     object: &Value,
 ) -> Result<F::Read, ReadFault>
-    ensures { Answers (defaulted absent (F.read_by form.now) (text_of path.now) key.now (view object.now)) result }
+    ensures { IsAnswerOf (defaulted absent (F.read_by form.now) (text_of path.now) key.now (view object.now)) result }
 {
     match field(object, key) {
         Some(value) => form.read(alloc, &path.member(key), value),
@@ -135,7 +135,7 @@ pub fn defaulted<F: Form>(
 /// The value, which has to be an object.
 #[tactic(auto, unfolding(crate::specs::Fields::object_at))]
 pub fn object<'v>(alloc: Global, path: &Path<'_>, value: &'v Value) -> Result<&'v Value, ReadFault>
-    ensures { MatchResult result (λ v. object_at (text_of path.now) (view value.now) ≡ Ok (view v.now)) (IsFault (object_at (text_of path.now) (view value.now))) }
+    ensures { MatchResult result (λ v. object_at (text_of path.now) (view value.now) ≡ Ok (view v.now)) (IsReadFault (object_at (text_of path.now) (view value.now))) }
 {
     if value.is_object() {
         Ok(value)
@@ -156,7 +156,7 @@ pub fn section<'v>(
     nothing: &'v Value,
 ) -> Result<&'v Value, ReadFault>
     requires { view nothing.now ≡ null }
-    ensures { MatchResult result (λ v. section (text_of path.now) key.now (view outer.now) ≡ Ok (view v.now)) (IsFault (section (text_of path.now) key.now (view outer.now))) }
+    ensures { MatchResult result (λ v. section (text_of path.now) key.now (view outer.now) ≡ Ok (view v.now)) (IsReadFault (section (text_of path.now) key.now (view outer.now))) }
 {
     match field(outer, key) {
         Some(value) => object(alloc, path, value),
@@ -172,7 +172,7 @@ pub fn list_at<'v>(
     key: &str,
     object: &'v Value,
 ) -> Result<&'v [Value], ReadFault>
-    ensures { MatchResult result (λ values. list_at (text_of path.now) key.now (view object.now) ≡ Ok (items_view values.now)) (IsFault (list_at (text_of path.now) key.now (view object.now))) }
+    ensures { MatchResult result (λ values. list_at (text_of path.now) key.now (view object.now) ≡ Ok (items_view values.now)) (IsReadFault (list_at (text_of path.now) key.now (view object.now))) }
 {
     let Some(value) = field(object, key) else {
         return Ok(&[]);
@@ -194,7 +194,7 @@ pub fn items<F: Form>(
     key: &str,
     object: &Value,
 ) -> Result<Seq<F::Read>, ReadFault>
-    ensures { Answers (items (F.read_by form.now) (text_of path.now) key.now (view object.now)) result }
+    ensures { IsAnswerOf (items (F.read_by form.now) (text_of path.now) key.now (view object.now)) result }
 {
     let values = list_at(alloc, path, key, object)?;
     read_items(alloc, form, &path.member(key), values)
@@ -207,7 +207,7 @@ pub fn read_items<F: Form>(
     path: &Path<'_>,
     values: &[Value],
 ) -> Result<Seq<F::Read>, ReadFault>
-    ensures { Answers (items_from (F.read_by form.now) (text_of path.now) 0 (items_view values.now)) result }
+    ensures { IsAnswerOf (items_from (F.read_by form.now) (text_of path.now) 0 (items_view values.now)) result }
 {
     let mut read = Vec::new(alloc);
     for (index, value) in values.iter().enumerate() {

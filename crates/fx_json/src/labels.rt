@@ -2,7 +2,7 @@
 ghost use Rattle.std.specs.Prelude.{◌≡◌, OnOk, IfOk};
 ghost use Rattle.std.specs.FinMap as maps;
 ghost use Rattle.serde_json.specs.View.{view, members_view};
-ghost use Rattle.fx_json.specs.Faults.{Answers};
+ghost use Rattle.fx_json.specs.Faults.{IsAnswerOf};
 ghost use Rattle.fx_json.specs.Paths.{text_of};
 ghost use Rattle.fx_json.specs.Resources.{with_labels, labels_in, labels, labels_at, with_given, own_labels};
 
@@ -22,7 +22,7 @@ pub fn labels_at(
     key: &str,
     object: &Value,
 ) -> Result<Labels, ReadFault>
-    ensures { Answers (labels_at (text_of path.now) key.now (view object.now)) result }
+    ensures { IsAnswerOf (labels_at (text_of path.now) key.now (view object.now)) result }
 {
     defaulted(alloc, &LabelsForm, Labels::new(alloc), path, key, object)
 }

@@ -2,7 +2,7 @@
 ghost use Rattle.std.specs.Prelude.{◌≡◌, option_and_then};
 ghost use Rattle.serde_json.specs.Find.{as_str};
 ghost use Rattle.serde_json.specs.View.{view};
-ghost use Rattle.fx_json.specs.Faults.{Answers};
+ghost use Rattle.fx_json.specs.Faults.{IsAnswerOf};
 ghost use Rattle.fx_json.specs.Paths.{text_of};
 ghost use Rattle.fx_json.specs.Packets.{state_named, state, packet_fields, packet_of};
 
@@ -18,14 +18,14 @@ use std::alloc::Global;
 /// The packet, or its first fault.
 #[tactic(auto, unfolding(crate::specs::Packets::packet_of))]
 pub fn read_packet(alloc: Global, value: &Value) -> Result<Packet, ReadFault>
-    ensures { Answers (packet_of (view value.now)) result }
+    ensures { IsAnswerOf (packet_of (view value.now)) result }
 {
     packet(alloc, &Path::top("packet"), value)
 }
 
 #[tactic(auto, unfolding(crate::specs::Packets::packet_fields))]
 fn packet(alloc: Global, path: &Path<'_>, value: &Value) -> Result<Packet, ReadFault>
-    ensures { Answers (packet_fields (text_of path.now) (view value.now)) result }
+    ensures { IsAnswerOf (packet_fields (text_of path.now) (view value.now)) result }
 {
     let iface_in = required(alloc, &TextForm::Interface, path, "in", value)?;
     let iface_out = required(alloc, &TextForm::Interface, path, "out", value)?;

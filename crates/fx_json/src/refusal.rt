@@ -1,7 +1,7 @@
 //! Why a line is refused.
 ghost use Rattle.std.specs.Prelude.{◌≡◌};
 ghost use Rattle.fx_json.specs.declared.refusal.Refusal.TheVariants.{Read};
-ghost use Rattle.fx_json.specs.Refusals.{number_of, name_of, is_memory};
+ghost use Rattle.fx_json.specs.Refusals.{number_of, refusal_name, is_memory};
 
 use crate::fault::ReadFault;
 use fx_base::{KernelName, Text};
@@ -30,7 +30,7 @@ impl Refusal {
     }
 
     pub fn name(&self) -> &'static [u8]
-        ensures { result.now ≡ name_of self.now }
+        ensures { result.now ≡ refusal_name self.now }
     {
         match self {
             Refusal::Read(fault) => fault.name(),

@@ -1,7 +1,7 @@
 //! Reads a resource that is put or deleted: a Profile or a WorkloadEndpoint.
 ghost use Rattle.std.specs.Prelude.{◌≡◌, option_map};
 ghost use Rattle.serde_json.specs.View.{view};
-ghost use Rattle.fx_json.specs.Faults.{IsFault, Answers};
+ghost use Rattle.fx_json.specs.Faults.{IsReadFault, IsAnswerOf};
 ghost use Rattle.fx_json.specs.Paths.{text_of};
 ghost use Rattle.fx_json.specs.Resources.{unread_kind, calico_kind, core_kind, network_kind, kind_named, text_at, kind_of, profile_of, profile_put, namespaced_name, endpoint_key, port_fields, endpoint_port, endpoint_of, endpoint_put, put_of, resource_of, key_of, delete_of};
 
@@ -28,7 +28,7 @@ enum Kind {
 /// The update that a put of this resource is, or the first fault of the resource.
 #[tactic(auto, unfolding(crate::specs::Resources::resource_of))]
 pub fn read_resource(alloc: Global, value: &Value) -> Result<Update, ReadFault>
-    ensures { Answers (resource_of (view value.now)) result }
+    ensures { IsAnswerOf (resource_of (view value.now)) result }
 {
     match kind_of(alloc, value)? {
         Kind::Profile => profile_put(alloc, value),
@@ -39,7 +39,7 @@ pub fn read_resource(alloc: Global, value: &Value) -> Result<Update, ReadFault>
 /// The update that a delete of this resource is, or the first fault of what names the resource.
 #[tactic(auto, unfolding(crate::specs::Resources::delete_of))]
 pub fn read_delete(alloc: Global, value: &Value) -> Result<Update, ReadFault>
-    ensures { Answers (delete_of (view value.now)) result }
+    ensures { IsAnswerOf (delete_of (view value.now)) result }
 {
     let kind = kind_of(alloc, value)?;
     let nothing = Value::Null;
@@ -50,7 +50,7 @@ pub fn read_delete(alloc: Global, value: &Value) -> Result<Update, ReadFault>
 }
 
 fn key_of(alloc: Global, kind: Kind, path: &Path<'_>, metadata: &Value) -> Result<Key, ReadFault>
-    ensures { Answers (key_of kind (text_of path.now) (view metadata.now)) result }
+    ensures { IsAnswerOf (key_of kind (text_of path.now) (view metadata.now)) result }
 {
     match kind {
         Kind::Profile => Ok(Key::Profile {
@@ -64,7 +64,7 @@ fn key_of(alloc: Global, kind: Kind, path: &Path<'_>, metadata: &Value) -> Resul
 
 #[tactic(auto, unfolding(crate::specs::Resources::kind_of))]
 fn kind_of(alloc: Global, resource: &Value) -> Result<Kind, ReadFault>
-    ensures { Answers (kind_of (view resource.now)) result }
+    ensures { IsAnswerOf (kind_of (view resource.now)) result }
 {
     let Some(version) = text_at(resource, "apiVersion") else {
         return Err(ReadFault::UnknownKind);
@@ -82,7 +82,7 @@ fn text_at<'v>(object: &'v Value, key: &str) -> Option<&'v str>
 }
 
 fn kind_named(alloc: Global, version: &str, kind: &str) -> Result<Kind, ReadFault>
-    ensures { Answers (kind_named version.now kind.now) result }
+    ensures { IsAnswerOf (kind_named version.now kind.now) result }
 {
     match version {
         "projectcalico.org/v3" => calico_kind(alloc, kind),
@@ -94,7 +94,7 @@ fn kind_named(alloc: Global, version: &str, kind: &str) -> Result<Kind, ReadFaul
 
 #[tactic(auto, unfolding(crate::specs::Resources::calico_kind))]
 fn calico_kind(alloc: Global, kind: &str) -> Result<Kind, ReadFault>
-    ensures { Answers (calico_kind kind.now) result }
+    ensures { IsAnswerOf (calico_kind kind.now) result }
 {
     match kind {
         "Profile" => Ok(Kind::Profile),
@@ -108,7 +108,7 @@ fn calico_kind(alloc: Global, kind: &str) -> Result<Kind, ReadFault>
 
 #[tactic(auto, unfolding(crate::specs::Resources::core_kind))]
 fn core_kind(alloc: Global, kind: &str) -> Result<Kind, ReadFault>
-    ensures { Answers (core_kind kind.now) result }
+    ensures { IsAnswerOf (core_kind kind.now) result }
 {
     match kind {
         "Namespace" | "ServiceAccount" => unread_kind(alloc),
@@ -118,7 +118,7 @@ fn core_kind(alloc: Global, kind: &str) -> Result<Kind, ReadFault>
 
 #[tactic(auto, unfolding(crate::specs::Resources::network_kind))]
 fn network_kind(alloc: Global, kind: &str) -> Result<Kind, ReadFault>
-    ensures { Answers (network_kind kind.now) result }
+    ensures { IsAnswerOf (network_kind kind.now) result }
 {
     match kind {
         "NetworkPolicy" => unread_kind(alloc),
@@ -128,7 +128,7 @@ fn network_kind(alloc: Global, kind: &str) -> Result<Kind, ReadFault>
 
 // A kind that is known and isn't read yet.
 fn unread_kind(alloc: Global) -> Result<Kind, ReadFault>
-    ensures { Answers unread_kind result }
+    ensures { IsAnswerOf unread_kind result }
 {
     Err(ReadFault::Unsupported {
         path: Path::top("kind").text(alloc)?,
@@ -139,7 +139,7 @@ fn unread_kind(alloc: Global) -> Result<Kind, ReadFault>
 
 #[tactic(auto, unfolding(crate::specs::Resources::profile_put))]
 fn profile_put(alloc: Global, resource: &Value) -> Result<Update, ReadFault>
-    ensures { Answers (profile_put (view resource.now)) result }
+    ensures { IsAnswerOf (profile_put (view resource.now)) result }
 {
     let nothing = Value::Null;
     let path = Path::top("metadata");
@@ -156,7 +156,7 @@ fn profile_put(alloc: Global, resource: &Value) -> Result<Update, ReadFault>
 
 #[tactic(auto, unfolding(crate::specs::Resources::profile_of))]
 fn read_profile(alloc: Global, path: &Path<'_>, spec: &Value) -> Result<Profile, ReadFault>
-    ensures { Answers (profile_of (text_of path.now) (view spec.now)) result }
+    ensures { IsAnswerOf (profile_of (text_of path.now) (view spec.now)) result }
 {
     let ingress = items(alloc, &RuleForm, path, "ingress", spec)?;
     let egress = items(alloc, &RuleForm, path, "egress", spec)?;
@@ -172,7 +172,7 @@ fn read_profile(alloc: Global, path: &Path<'_>, spec: &Value) -> Result<Profile,
 
 #[tactic(auto, unfolding(crate::specs::Resources::endpoint_put))]
 fn endpoint_put(alloc: Global, resource: &Value) -> Result<Update, ReadFault>
-    ensures { Answers (endpoint_put (view resource.now)) result }
+    ensures { IsAnswerOf (endpoint_put (view resource.now)) result }
 {
     let nothing = Value::Null;
     let path = Path::top("metadata");
@@ -201,7 +201,7 @@ fn namespaced_name(
     path: &Path<'_>,
     metadata: &Value,
 ) -> Result<NamespacedName, ReadFault>
-    ensures { Answers (namespaced_name (text_of path.now) (view metadata.now)) result }
+    ensures { IsAnswerOf (namespaced_name (text_of path.now) (view metadata.now)) result }
 {
     let name = required(alloc, &TextForm::Name, path, "name", metadata)?;
     let ns = required(alloc, &TextForm::Namespace, path, "namespace", metadata)?;
@@ -225,7 +225,7 @@ fn read_endpoint(
     path: &Path<'_>,
     spec: &Value,
 ) -> Result<Endpoint, ReadFault>
-    ensures { Answers (endpoint_of given namespace.now (text_of path.now) (view spec.now)) result }
+    ensures { IsAnswerOf (endpoint_of given namespace.now (text_of path.now) (view spec.now)) result }
 {
     let node = required(alloc, &TextForm::Name, path, "node", spec)?;
     let orchestrator = optional(alloc, &TextForm::Name, path, "orchestrator", spec)?;
@@ -264,7 +264,7 @@ impl Form for EndpointPortForm {
 
 #[tactic(auto, unfolding(crate::specs::Resources::port_fields))]
 fn read_endpoint_port(alloc: Global, path: &Path<'_>, port: &Value) -> Result<(), ReadFault>
-    ensures { Answers (port_fields (text_of path.now) (view port.now)) result }
+    ensures { IsAnswerOf (port_fields (text_of path.now) (view port.now)) result }
 {
     required(alloc, &TextForm::PortName, path, "name", port)?;
     optional(alloc, &PortProtocolForm, path, "protocol", port)?;

@@ -3,7 +3,7 @@ ghost use Rattle.std.specs.Prelude.{◌≡◌, option_and_then};
 ghost use Rattle.serde_json.specs.Find.{as_str};
 ghost use Rattle.serde_json.specs.View.{view};
 ghost use Rattle.fx_model.specs.Formed.{passes};
-ghost use Rattle.fx_json.specs.Faults.{Answers};
+ghost use Rattle.fx_json.specs.Faults.{IsAnswerOf};
 ghost use Rattle.fx_json.specs.Paths.{text_of};
 ghost use Rattle.fx_json.specs.Rules.{action_named, profile_action, is_icmpv6, has_messages, with_messages, message, asked_message, icmp_at, side_at, of_ipv4, is_of_ipv6, protocols, is_never, rule_fields, rule};
 
@@ -33,7 +33,7 @@ impl Form for RuleForm {
 
 #[tactic(auto, unfolding(crate::specs::Rules::rule_fields))]
 fn read_rule(alloc: Global, path: &Path<'_>, rule: &Value) -> Result<Rule, ReadFault>
-    ensures { Answers (rule_fields (text_of path.now) (view rule.now)) result }
+    ensures { IsAnswerOf (rule_fields (text_of path.now) (view rule.now)) result }
 {
     let action = required(alloc, &ActionForm, path, "action", rule)?;
     let asked = read_protocols(alloc, path, rule)?;
@@ -72,7 +72,7 @@ pub struct ReadProtocols {
 
 #[tactic(auto, unfolding(crate::specs::Rules::protocols))]
 fn read_protocols(alloc: Global, path: &Path<'_>, rule: &Value) -> Result<ReadProtocols, ReadFault>
-    ensures { Answers (protocols (text_of path.now) (view rule.now)) result }
+    ensures { IsAnswerOf (protocols (text_of path.now) (view rule.now)) result }
 {
     let version = defaulted(alloc, &VersionForm, 4, path, "ipVersion", rule)?;
     let protocol = optional(alloc, &ProtocolForm, path, "protocol", rule)?;
@@ -96,7 +96,7 @@ fn side_at(
     key: &str,
     rule: &Value,
 ) -> Result<ReadSide, ReadFault>
-    ensures { Answers (side_at protocol (text_of path.now) key.now (view rule.now)) result }
+    ensures { IsAnswerOf (side_at protocol (text_of path.now) key.now (view rule.now)) result }
 {
     let nothing = Value::Null;
     let here = path.member(key);
@@ -163,7 +163,7 @@ fn icmp_at(
     key: &str,
     rule: &Value,
 ) -> Result<Option<Icmp>, ReadFault>
-    ensures { Answers (icmp_at protocol (text_of path.now) key.now (view rule.now)) result }
+    ensures { IsAnswerOf (icmp_at protocol (text_of path.now) key.now (view rule.now)) result }
 {
     let nothing = Value::Null;
     let here = path.member(key);
@@ -177,7 +177,7 @@ fn read_icmp(
     path: &Path<'_>,
     icmp: &Value,
 ) -> Result<Option<Icmp>, ReadFault>
-    ensures { Answers (asked_message protocol (text_of path.now) (view icmp.now)) result }
+    ensures { IsAnswerOf (asked_message protocol (text_of path.now) (view icmp.now)) result }
 {
     if is_absent(icmp, "type") && is_absent(icmp, "code") {
         return Ok(None);
@@ -187,7 +187,7 @@ fn read_icmp(
 }
 
 fn with_messages(alloc: Global, protocol: Option<Proto>, path: &Path<'_>) -> Result<(), ReadFault>
-    ensures { Answers (with_messages protocol (text_of path.now)) result }
+    ensures { IsAnswerOf (with_messages protocol (text_of path.now)) result }
 {
     if has_messages(protocol) {
         Ok(())
@@ -199,7 +199,7 @@ fn with_messages(alloc: Global, protocol: Option<Proto>, path: &Path<'_>) -> Res
 }
 
 fn read_message(alloc: Global, path: &Path<'_>, icmp: &Value) -> Result<Icmp, ReadFault>
-    ensures { Answers (message (text_of path.now) (view icmp.now)) result }
+    ensures { IsAnswerOf (message (text_of path.now) (view icmp.now)) result }
 {
     let kind = required(alloc, &ByteForm { high: 254 }, path, "type", icmp)?;
     let code = optional(alloc, &ByteForm { high: 255 }, path, "code", icmp)?;

@@ -4,7 +4,7 @@ ghost use Rattle.std.specs.List.{list_all, filter_map};
 ghost use Rattle.serde_json.specs.Find.{as_str};
 ghost use Rattle.serde_json.specs.View.{view, items_view};
 ghost use Rattle.fx_model.specs.Formed.{has_port_protocol};
-ghost use Rattle.fx_json.specs.Faults.{IsFault, Answers};
+ghost use Rattle.fx_json.specs.Faults.{IsReadFault, IsAnswerOf};
 ghost use Rattle.fx_json.specs.Paths.{text_of};
 ghost use Rattle.fx_json.specs.Fields.{unread};
 ghost use Rattle.fx_json.specs.Sides.{selector, is_no_selector, accounts, selectors, with_ports, may_list, ports_in, ports_at, ipv4, is_ipv6, are_ipv6_alone, side};
@@ -32,7 +32,7 @@ pub fn read_side(
     path: &Path<'_>,
     value: &Value,
 ) -> Result<ReadSide, ReadFault>
-    ensures { Answers (side protocol (text_of path.now) (view value.now)) result }
+    ensures { IsAnswerOf (side protocol (text_of path.now) (view value.now)) result }
 {
     let nets = items(alloc, &NetForm, path, "nets", value)?;
     let not_nets = items(alloc, &NetForm, path, "notNets", value)?;
@@ -56,7 +56,7 @@ pub fn read_side(
 // What a side asks of the endpoints of its addresses.
 #[tactic(auto, unfolding(crate::specs::Sides::selectors))]
 fn read_selectors(alloc: Global, path: &Path<'_>, side: &Value) -> Result<(), ReadFault>
-    ensures { Answers (selectors (text_of path.now) (view side.now)) result }
+    ensures { IsAnswerOf (selectors (text_of path.now) (view side.now)) result }
 {
     optional(alloc, &SelectorForm, path, "selector", side)?;
     optional(alloc, &SelectorForm, path, "notSelector", side)?;
@@ -140,7 +140,7 @@ fn ports_at(
     key: &str,
     side: &Value,
 ) -> Result<Seq<PortRange>, ReadFault>
-    ensures { Answers (ports_at protocol (text_of path.now) key.now (view side.now)) result }
+    ensures { IsAnswerOf (ports_at protocol (text_of path.now) key.now (view side.now)) result }
 {
     let values = list_at(alloc, path, key, side)?;
     ports_in(alloc, protocol, &path.member(key), values)
@@ -152,7 +152,7 @@ fn ports_in(
     path: &Path<'_>,
     values: &[Value],
 ) -> Result<Seq<PortRange>, ReadFault>
-    ensures { Answers (ports_in protocol (text_of path.now) (items_view values.now)) result }
+    ensures { IsAnswerOf (ports_in protocol (text_of path.now) (items_view values.now)) result }
 {
     may_list(alloc, protocol, path, values)?;
     read_items(alloc, &PortForm, path, values)
@@ -166,7 +166,7 @@ fn may_list(
     path: &Path<'_>,
     values: &[Value],
 ) -> Result<(), ReadFault>
-    ensures { Answers (may_list protocol (text_of path.now) (items_view values.now)) result }
+    ensures { IsAnswerOf (may_list protocol (text_of path.now) (items_view values.now)) result }
 {
     if values.is_empty() {
         Ok(())
@@ -176,7 +176,7 @@ fn may_list(
 }
 
 fn with_ports(alloc: Global, protocol: Option<Proto>, path: &Path<'_>) -> Result<(), ReadFault>
-    ensures { Answers (with_ports protocol (text_of path.now)) result }
+    ensures { IsAnswerOf (with_ports protocol (text_of path.now)) result }
 {
     if has_port_protocol(protocol) {
         Ok(())

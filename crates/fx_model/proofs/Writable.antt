@@ -19,7 +19,7 @@ use Rattle.fx_model.specs.declared.chain.Target.TheVariants as target
 use Rattle.fx_model.specs.declared.chain.ChainRule.{ChainRule}
 use Rattle.fx_model.specs.Directions.{Direction, Ingress, Egress}
 use Rattle.fx_model.specs.Tables.{ChainName, Chains, Sets, end_of, policy_chain, profile_chain, policy_side, profile_side, policy_rules, profile_rules, present_or_missing, endpoint_chain, policy_jumps, tier_rules, profile_jumps, tiers_side, endpoint_rules, root_of, dispatch_rules, policy_chains, profile_chains, endpoint_chains, dispatch_chains, chains_of}
-use Rattle.fx_model.specs.Rendering.{plain, told, is_set, accept_mark}
+use Rattle.fx_model.specs.Rendering.{plain, tagged, is_set, accept_mark}
 use Rattle.fx_model.specs.Ranks.{LeadsBelow, AllLeadBelow, rank_of}
 use Rattle.fx_model.specs.Shapes.{has_shape, have_shape}
 use Rattle.fx_model.specs.Closed.{AreThere, TiersAreThere, EndpointIsClosed, IsClosedView, LeadsThere, MatchesNameThere, sets_of_rules}
@@ -30,7 +30,7 @@ use Rattle.fx_model.proofs.Shaping.{Lead, leaf_lead, rules_leaf}
 -- ---- rules of policies and profiles lead nowhere
 
 module _ (sets : Sets) (chains : Chains) (rank : ℕ) where
-  told_drop : (why : Reason) → Lead sets chains rank (told [] target.Drop why ∷ [])
+  told_drop : (why : Reason) → Lead sets chains rank (tagged [] target.Drop why ∷ [])
   told_drop why = record { there = (tt, tt); below = (tt, tt); named = (tt, tt); shaped = refl }
 
   present_lead : (missing : Bool) (name : List ℕ) (rules : List ChainRule) → Lead sets chains rank rules → Lead sets chains rank (present_or_missing missing name rules)

@@ -149,14 +149,14 @@ at_next note test (Some r) chain passed stack mark noted =
       | false ↦ Goes (at_rule chain (suc passed) stack mark noted)
     ]
 
-abbrev pub step : {S : Type 0} → Notes S → Test → Chains → Config S → Next S
-step note test chains c =
+abbrev pub machine_step : {S : Type 0} → Notes S → Test → Chains → Config S → Next S
+machine_step note test chains c =
     at_next note test (slice_get (rules_in chains c.place.chain) c.place.passed) c.place.chain c.place.passed c.stack c.mark c.noted
 
 -- from here the machine comes to its end with this verdict, and this was noted
 pub data Run (S : Type 0) (note : Notes S) (test : Test) (chains : Chains) : Config S → Verdict → S → Type 0 where
-  ended : {c : Config S} {v : Verdict} {s : S} → step note test chains c ≡ Ends v s → Run S note test chains c v s
-  stepped : {c d : Config S} {v : Verdict} {s : S} → step note test chains c ≡ Goes d → Run S note test chains d v s → Run S note test chains c v s
+  ended : {c : Config S} {v : Verdict} {s : S} → machine_step note test chains c ≡ Ends v s → Run S note test chains c v s
+  stepped : {c d : Config S} {v : Verdict} {s : S} → machine_step note test chains c ≡ Goes d → Run S note test chains d v s → Run S note test chains c v s
 
 -- ---- which rule decided, on each side of the packet's way
 

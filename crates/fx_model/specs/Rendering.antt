@@ -44,8 +44,8 @@ this_block = 0x80000
 abbrev pub plain : List Match → Target → ChainRule
 plain ms to = record { matches = ms; target = to; tag = tag.Plain }
 
-abbrev pub told : List Match → Target → Reason → ChainRule
-told ms to why = record { matches = ms; target = to; tag = tag.Why why }
+abbrev pub tagged : List Match → Target → Reason → ChainRule
+tagged ms to why = record { matches = ms; target = to; tag = tag.Why why }
 
 abbrev pub set_mark : ℕ → Target
 set_mark m = target.Mark m m
@@ -141,9 +141,9 @@ abbrev pub range_of : ViewPort → List PortRange
 range_of (Range r) = r ∷ []
 range_of (Named name) = []
 
-abbrev pub name_of : ViewPort → List (List ℕ)
-name_of (Range r) = []
-name_of (Named name) = name ∷ []
+abbrev pub set_of_port : ViewPort → List (List ℕ)
+set_of_port (Range r) = []
+set_of_port (Named name) = name ∷ []
 
 -- the numbers and ranges, in order
 abbrev pub ranges_of : List ViewPort → List PortRange
@@ -151,7 +151,7 @@ ranges_of ps = flat_map range_of ps
 
 -- the sets, in order
 abbrev pub names_of : List ViewPort → List (List ℕ)
-names_of ps = flat_map name_of ps
+names_of ps = flat_map set_of_port ps
 
 -- what one match can ask for: a list of ports, or a set
 pub data PortChoice : Type 0 where
@@ -238,10 +238,10 @@ main_matches r =
 
 -- what a rule does with a packet that meets these matches
 abbrev pub main_rules : Action → List Match → Reason → List ChainRule
-main_rules Allow ms why = told ms (set_mark accept_mark) why ∷ plain (is_set accept_mark ∷ []) target.Return ∷ []
-main_rules Deny ms why = told ms target.Drop why ∷ []
+main_rules Allow ms why = tagged ms (set_mark accept_mark) why ∷ plain (is_set accept_mark ∷ []) target.Return ∷ []
+main_rules Deny ms why = tagged ms target.Drop why ∷ []
 main_rules Log ms why = record { matches = ms; target = target.Log; tag = tag.Log } ∷ []
-main_rules Pass ms why = told ms (set_mark pass_mark) why ∷ plain (is_set pass_mark ∷ []) target.Return ∷ []
+main_rules Pass ms why = tagged ms (set_mark pass_mark) why ∷ plain (is_set pass_mark ∷ []) target.Return ∷ []
 
 -- a protocol that is also excluded
 abbrev pub is_void : Option Proto → Option Proto → Bool

@@ -21,7 +21,7 @@ use Rattle.fx_model.specs.declared.chain.Target.TheVariants as target
 use Rattle.fx_model.specs.declared.chain.Reason.TheVariants as reason
 use Rattle.fx_model.specs.declared.chain.ChainRule.{ChainRule}
 use Rattle.fx_model.specs.Directions.{Direction, Ingress, Egress}
-use Rattle.fx_model.specs.Rendering.{accept_mark, pass_mark, plain, told, clear_mark, is_set, is_clear, rendered_rules}
+use Rattle.fx_model.specs.Rendering.{accept_mark, pass_mark, plain, tagged, clear_mark, is_set, is_clear, rendered_rules}
 
 -- a chain's name, as bytes
 abbrev pub ChainName : Type 0
@@ -61,7 +61,7 @@ policy_rules d p = rendered_rules (reason.Policy p.id) 1 (policy_side d p)
 
 -- a missing profile drops
 abbrev pub present_or_missing : Bool → List ℕ → List ChainRule → List ChainRule
-present_or_missing true name rules = told [] target.Drop (reason.MissingProfile name) ∷ []
+present_or_missing true name rules = tagged [] target.Drop (reason.MissingProfile name) ∷ []
 present_or_missing false name rules = rules
 
 abbrev pub profile_rules : Direction → ViewProfile → List ChainRule
@@ -83,11 +83,11 @@ policy_jumps d (key ∷ keys) =
 abbrev pub tier_rules : Direction → List ViewTier → List ChainRule → List ChainRule
 tier_rules d [] rest = rest
 tier_rules d (t ∷ ts) rest =
-    plain [] (clear_mark pass_mark) ∷ (policy_jumps d t.policies ++ told (is_clear pass_mark ∷ []) target.Drop (reason.EndOfTier t.name) ∷ tier_rules d ts rest)
+    plain [] (clear_mark pass_mark) ∷ (policy_jumps d t.policies ++ tagged (is_clear pass_mark ∷ []) target.Drop (reason.EndOfTier t.name) ∷ tier_rules d ts rest)
 
 -- the profiles, and then the end
 abbrev pub profile_jumps : Direction → List (List ℕ) → List ChainRule
-profile_jumps d [] = told [] target.Drop reason.NoProfileRule ∷ []
+profile_jumps d [] = tagged [] target.Drop reason.NoProfileRule ∷ []
 profile_jumps d (key ∷ keys) =
     plain [] (target.Jump (profile_chain d key)) ∷ plain (is_set accept_mark ∷ []) target.Return ∷ profile_jumps d keys
 
@@ -97,8 +97,8 @@ tiers_side Egress e = e.egress
 
 abbrev pub endpoint_rules : Direction → ViewEndpoint → List ChainRule
 endpoint_rules d e =
-    told (match.State true ∷ []) target.Accept reason.Established
-    ∷ told (match.State false ∷ []) target.Drop reason.Invalid
+    tagged (match.State true ∷ []) target.Accept reason.Established
+    ∷ tagged (match.State false ∷ []) target.Drop reason.Invalid
     ∷ plain [] (clear_mark accept_mark)
     ∷ tier_rules d (tiers_side d e) (profile_jumps d e.profiles)
 
@@ -117,7 +117,7 @@ end_of Egress = Source
 
 -- each interface goes to its endpoint's chain, and every other one is unknown
 abbrev pub dispatch_rules : Direction → List (List ℕ) → List ChainRule
-dispatch_rules d [] = told [] target.Drop reason.UnknownInterface ∷ []
+dispatch_rules d [] = tagged [] target.Drop reason.UnknownInterface ∷ []
 dispatch_rules d (iface ∷ ifaces) =
     plain (match.Iface (end_of d) iface false ∷ []) (target.Goto (endpoint_chain d iface)) ∷ dispatch_rules d ifaces
 

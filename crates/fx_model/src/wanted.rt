@@ -11,12 +11,12 @@ use crate::rules::{Rule, Side};
 use crate::view::{View, ViewEndpoint, ViewProfile};
 use crate::view_rule::{ViewPort, ViewRule, ViewSide};
 use fx_base::{Memory, NameKey, NameMap, PortRange, Seq, Text};
-use fx_names::{Answers, DigestRule, Namer, Prefix};
+use fx_names::{DigestFunction, DigestRule, Namer, Prefix};
 use std::alloc::Global;
 
 /// What the node needs of the resources.
 #[tactic(auto, using(crate::proofs::Serving::profiles_both))]
-pub fn view_of<R: DigestRule, F: Answers<R> + Drop>(
+pub fn view_of<R: DigestRule, F: DigestFunction<R> + Drop>(
     alloc: Global,
     resources: &Resources,
     namer: &Namer<R, F>,
@@ -33,7 +33,7 @@ pub fn view_of<R: DigestRule, F: Answers<R> + Drop>(
 }
 
 // A served endpoint and its profiles.
-fn put_served<R: DigestRule, F: Answers<R> + Drop>(
+fn put_served<R: DigestRule, F: DigestFunction<R> + Drop>(
     alloc: Global,
     resources: &Resources,
     namer: &Namer<R, F>,
@@ -58,7 +58,7 @@ fn put_served<R: DigestRule, F: Answers<R> + Drop>(
 }
 
 // The profiles of these names.
-fn put_profiles<R: DigestRule, F: Answers<R> + Drop>(
+fn put_profiles<R: DigestRule, F: DigestFunction<R> + Drop>(
     alloc: Global,
     resources: &Resources,
     namer: &Namer<R, F>,
@@ -146,7 +146,7 @@ fn view_ports(alloc: Global, ports: &Seq<PortRange>) -> Result<Seq<ViewPort>, Me
     Ok(wanted)
 }
 
-fn view_endpoint<R: DigestRule, F: Answers<R> + Drop>(
+fn view_endpoint<R: DigestRule, F: DigestFunction<R> + Drop>(
     alloc: Global,
     namer: &Namer<R, F>,
     key: &ItemKey,
@@ -168,7 +168,7 @@ fn view_endpoint<R: DigestRule, F: Answers<R> + Drop>(
 }
 
 // The keys of profiles.
-fn keys_of<R: DigestRule, F: Answers<R> + Drop>(
+fn keys_of<R: DigestRule, F: DigestFunction<R> + Drop>(
     alloc: Global,
     namer: &Namer<R, F>,
     names: &Seq<Text>,

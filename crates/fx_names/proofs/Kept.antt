@@ -14,7 +14,7 @@ use Rattle.fx_names.specs.declared.claim.Claim.{Claim}
 use Rattle.fx_names.specs.declared.registry.Holding.{Holding}
 use Rattle.fx_names.specs.declared.registry.Registry.{Registry}
 use Rattle.fx_names.specs.Claims.{same_name, is_same, clashes, times, other_holder}
-use Rattle.fx_names.specs.Holding.{Keeps, uses_of}
+use Rattle.fx_names.specs.Holding.{HoldsClaims, uses_of}
 use Rattle.fx_names.proofs.Orders.{name_total}
 use Rattle.fx_names.proofs.ClaimLists.{same_name-refl, same_name-swap, bytes_eq-refl, other_holder-none, other_holder-some, times-append, times-none, times-itself, times-other}
 
@@ -42,11 +42,11 @@ Differs-put r s n x e = λ q.
     ∙ ap (cond (same_name q n) (Some x)) (name-remove r.names n q) ∙ shadowed (same_name q n) (Some x) None (map.get r.names q)
 
 -- a registry keeps claims by how often each is among them
-pub Keeps-same : (r : Registry) (xs ys : List Claim) → Keeps r xs → ((c : Claim) → times c xs ≡ times c ys) → Keeps r ys
-Keeps-same r xs ys k h = record { used = k.used; each = λ c. k.each c ∙ h c }
+pub HoldsClaims-same : (r : Registry) (xs ys : List Claim) → HoldsClaims r xs → ((c : Claim) → times c xs ≡ times c ys) → HoldsClaims r ys
+HoldsClaims-same r xs ys k h = record { used = k.used; each = λ c. k.each c ∙ h c }
 
-pub Keeps-empty : (r : Registry) → r.names ≡ map.empty → Keeps r []
-Keeps-empty r e = record {
+pub HoldsClaims-empty : (r : Registry) → r.names ≡ map.empty → HoldsClaims r []
+HoldsClaims-empty r e = record {
   used = λ n x h. let no : None ≡ Some x = sym (get-empty cmp-value.it n) ∙ ap (λ m. map.get m n) (sym e) ∙ h in cc;
   each = λ c. ap (λ m. uses_of (map.get m c.name) c) e ∙ ap (λ o. uses_of o c) (get-empty cmp-value.it c.name);
 }
@@ -54,8 +54,8 @@ Keeps-empty r e = record {
 at_name : (c : Claim) (n : KernelName) → same_name c.name n ≡ true → c ≡ record { name = n; holder = c.holder }
 at_name c n e = λ i. record { name = same_kernel_name c.name n e i; holder = c.holder }
 
-pub Keeps-differs : (r s : Registry) (n : KernelName) (o : Option Holding) (xs ys : List Claim) → Keeps r xs → Differs r s n o → ((x : Holding) → o ≡ Some x → 0 < x.uses) → ((h : List ℕ) → uses_of o (record { name = n; holder = h }) ≡ times (record { name = n; holder = h }) ys) → ((c : Claim) → same_name c.name n ≡ false → times c xs ≡ times c ys) → Keeps s ys
-Keeps-differs r s n o xs ys k d used here others = record {
+pub HoldsClaims-differs : (r s : Registry) (n : KernelName) (o : Option Holding) (xs ys : List Claim) → HoldsClaims r xs → Differs r s n o → ((x : Holding) → o ≡ Some x → 0 < x.uses) → ((h : List ℕ) → uses_of o (record { name = n; holder = h }) ≡ times (record { name = n; holder = h }) ys) → ((c : Claim) → same_name c.name n ≡ false → times c xs ≡ times c ys) → HoldsClaims s ys
+HoldsClaims-differs r s n o xs ys k d used here others = record {
   used = λ q x h.
       elim (same_name q n) as (λ b. cond b o (map.get r.names q) ≡ Some x → 0 < x.uses) [
         | true ↦ λ g. used x g
@@ -96,15 +96,15 @@ put_here c n kept u free h =
           omega (arith, times-append d kept (c ∷ []), times-other d c [] (same_there c.name h c.holder ∙ nat_list_eq_equiv.symm h c.holder ∙ e), times-none kept c d free (clash_there c h e))
     ] refl
 
-Keeps-put : (r s : Registry) (c : Claim) (n : ℕ) (kept : List Claim) → s.names ≡ map.insert (map.remove r.names c.name) c.name (record { holder = c.holder; uses = n }) → n ≡ times c kept + 1 → Keeps r kept → other_holder kept c ≡ None → Keeps s (kept ++ c ∷ [])
-Keeps-put r s c n kept e u k free =
-    Keeps-differs r s c.name (Some (record { holder = c.holder; uses = n })) kept (kept ++ c ∷ []) k (Differs-put r s c.name _ e)
+HoldsClaims-put : (r s : Registry) (c : Claim) (n : ℕ) (kept : List Claim) → s.names ≡ map.insert (map.remove r.names c.name) c.name (record { holder = c.holder; uses = n }) → n ≡ times c kept + 1 → HoldsClaims r kept → other_holder kept c ≡ None → HoldsClaims s (kept ++ c ∷ [])
+HoldsClaims-put r s c n kept e u k free =
+    HoldsClaims-differs r s c.name (Some (record { holder = c.holder; uses = n })) kept (kept ++ c ∷ []) k (Differs-put r s c.name _ e)
     (λ x g. subst (λ o. 0 < uses_or o) g (omega arith))
     (put_here c n kept u free)
     (λ d a. last_other d c kept a)
 
 -- a holder that is there is the claim's, where none else holds the name
-there_already : (r : Registry) (c : Claim) (x : Holding) (kept : List Claim) → map.get r.names c.name ≡ Some x → Keeps r kept → other_holder kept c ≡ None → (x.holder ≡ c.holder) × (x.uses ≡ times c kept)
+there_already : (r : Registry) (c : Claim) (x : Holding) (kept : List Claim) → map.get r.names c.name ≡ Some x → HoldsClaims r kept → other_holder kept c ≡ None → (x.holder ≡ c.holder) × (x.uses ≡ times c kept)
 there_already r c x kept g k free =
     let d : Claim = record { name = c.name; holder = x.holder } in
     let all : x.uses ≡ times d kept = ap (λ b. cond b x.uses 0) (sym (bytes_eq-refl x.holder)) ∙ ap (λ o. uses_of o d) (sym g) ∙ k.each d in
@@ -113,22 +113,22 @@ there_already r c x kept g k free =
       | false ↦ λ e. absurd (omega (arith, k.used c.name x g, times-none kept c d free (clash_there c x.holder e)))
     ] refl
 
-pub Keeps-raised : (r s : Registry) (c : Claim) (x : Holding) (kept : List Claim) → map.get r.names c.name ≡ Some x → s.names ≡ map.insert (map.remove r.names c.name) c.name (record { holder = x.holder; uses = x.uses + 1 }) → Keeps r kept → other_holder kept c ≡ None → Keeps s (kept ++ c ∷ [])
-Keeps-raised r s c x kept g e k free =
+pub HoldsClaims-raised : (r s : Registry) (c : Claim) (x : Holding) (kept : List Claim) → map.get r.names c.name ≡ Some x → s.names ≡ map.insert (map.remove r.names c.name) c.name (record { holder = x.holder; uses = x.uses + 1 }) → HoldsClaims r kept → other_holder kept c ≡ None → HoldsClaims s (kept ++ c ∷ [])
+HoldsClaims-raised r s c x kept g e k free =
     let t = there_already r c x kept g k free in
-    Keeps-put r s c (x.uses + 1) kept (e ∙ ap (λ h. map.insert (map.remove r.names c.name) c.name (record { holder = h; uses = x.uses + 1 })) t.0) (ap (λ n. n + 1) t.1) k free
+    HoldsClaims-put r s c (x.uses + 1) kept (e ∙ ap (λ h. map.insert (map.remove r.names c.name) c.name (record { holder = h; uses = x.uses + 1 })) t.0) (ap (λ n. n + 1) t.1) k free
 
-pub Keeps-fresh : (r s : Registry) (c : Claim) (kept : List Claim) → map.get r.names c.name ≡ None → s.names ≡ map.insert (map.remove r.names c.name) c.name (record { holder = c.holder; uses = 1 }) → Keeps r kept → other_holder kept c ≡ None → Keeps s (kept ++ c ∷ [])
-Keeps-fresh r s c kept g e k free =
+pub HoldsClaims-fresh : (r s : Registry) (c : Claim) (kept : List Claim) → map.get r.names c.name ≡ None → s.names ≡ map.insert (map.remove r.names c.name) c.name (record { holder = c.holder; uses = 1 }) → HoldsClaims r kept → other_holder kept c ≡ None → HoldsClaims s (kept ++ c ∷ [])
+HoldsClaims-fresh r s c kept g e k free =
     let none : 0 ≡ times c kept = ap (λ o. uses_of o c) (sym g) ∙ k.each c in
-    Keeps-put r s c 1 kept e (omega arith) k free
+    HoldsClaims-put r s c 1 kept e (omega arith) k free
 
 -- ---- a claim is given back
 
 first_other : (c d : Claim) (kept : List Claim) → same_name c.name d.name ≡ false → times c (d ∷ kept) ≡ times c kept
 first_other c d kept e = times-other c d kept (apart c d e)
 
-given_holder : (r : Registry) (c : Claim) (x : Holding) (kept : List Claim) → map.get r.names c.name ≡ Some x → Keeps r (c ∷ kept) → x.holder ≡ c.holder
+given_holder : (r : Registry) (c : Claim) (x : Holding) (kept : List Claim) → map.get r.names c.name ≡ Some x → HoldsClaims r (c ∷ kept) → x.holder ≡ c.holder
 given_holder r c x kept g k =
     let all : cond (bytes_eq x.holder c.holder) x.uses 0 ≡ times c kept + 1 = ap (λ o. uses_of o c) (sym g) ∙ k.each c ∙ times-itself c kept in
     elim (bytes_eq x.holder c.holder) as (λ b. bytes_eq x.holder c.holder ≡ b → cond b x.uses 0 ≡ times c kept + 1 → x.holder ≡ c.holder) [
@@ -137,7 +137,7 @@ given_holder r c x kept g k =
     ] refl all
 
 -- what is left of a holder's uses, by each holder
-left : (r : Registry) (c : Claim) (x : Holding) (kept : List Claim) → map.get r.names c.name ≡ Some x → Keeps r (c ∷ kept) → (h : List ℕ) → cond (bytes_eq x.holder h) (x.uses - 1) 0 ≡ times (record { name = c.name; holder = h }) kept
+left : (r : Registry) (c : Claim) (x : Holding) (kept : List Claim) → map.get r.names c.name ≡ Some x → HoldsClaims r (c ∷ kept) → (h : List ℕ) → cond (bytes_eq x.holder h) (x.uses - 1) 0 ≡ times (record { name = c.name; holder = h }) kept
 left r c x kept g k h =
     let d : Claim = record { name = c.name; holder = h } in
     let b : is_same d c ≡ bytes_eq x.holder h = same_there c.name h c.holder ∙ nat_list_eq_equiv.symm h c.holder ∙ ap (λ t. bytes_eq t h) (sym (given_holder r c x kept g k)) in
@@ -151,9 +151,9 @@ positive : (n : ℕ) → (n == 0) ≡ false → 0 < n
 positive zero e = cc
 positive (suc n) e = omega arith
 
-pub Keeps-lowered : (r s : Registry) (c : Claim) (x : Holding) (n : ℕ) (kept : List Claim) → map.get r.names c.name ≡ Some x → s.names ≡ map.insert (map.remove r.names c.name) c.name (record { holder = x.holder; uses = n }) → n ≡ x.uses - 1 → (n == 0) ≡ false → Keeps r (c ∷ kept) → Keeps s kept
-Keeps-lowered r s c x n kept g e u z k =
-    Keeps-differs r s c.name (Some (record { holder = x.holder; uses = n })) (c ∷ kept) kept k (Differs-put r s c.name _ e)
+pub HoldsClaims-lowered : (r s : Registry) (c : Claim) (x : Holding) (n : ℕ) (kept : List Claim) → map.get r.names c.name ≡ Some x → s.names ≡ map.insert (map.remove r.names c.name) c.name (record { holder = x.holder; uses = n }) → n ≡ x.uses - 1 → (n == 0) ≡ false → HoldsClaims r (c ∷ kept) → HoldsClaims s kept
+HoldsClaims-lowered r s c x n kept g e u z k =
+    HoldsClaims-differs r s c.name (Some (record { holder = x.holder; uses = n })) (c ∷ kept) kept k (Differs-put r s c.name _ e)
     (λ y w. subst (λ o. 0 < uses_or o) w (positive n z))
     (λ h. ap (λ m. cond (bytes_eq x.holder h) m 0) u ∙ left r c x kept g k h)
     (λ d a. first_other d c kept a)
@@ -162,9 +162,9 @@ none_left : (b : Bool) (n m : ℕ) → n ≡ 0 → cond b n 0 ≡ m → 0 ≡ m
 none_left true n m z e = sym z ∙ e
 none_left false n m z e = e
 
-pub Keeps-gone : (r s : Registry) (c : Claim) (x : Holding) (kept : List Claim) → map.get r.names c.name ≡ Some x → s.names ≡ map.remove r.names c.name → (x.uses - 1 == 0) ≡ true → Keeps r (c ∷ kept) → Keeps s kept
-Keeps-gone r s c x kept g e z k =
-    Keeps-differs r s c.name None (c ∷ kept) kept k (Differs-gone r s c.name e)
+pub HoldsClaims-gone : (r s : Registry) (c : Claim) (x : Holding) (kept : List Claim) → map.get r.names c.name ≡ Some x → s.names ≡ map.remove r.names c.name → (x.uses - 1 == 0) ≡ true → HoldsClaims r (c ∷ kept) → HoldsClaims s kept
+HoldsClaims-gone r s c x kept g e z k =
+    HoldsClaims-differs r s c.name None (c ∷ kept) kept k (Differs-gone r s c.name e)
     (λ y w. cc)
     (λ h. none_left (bytes_eq x.holder h) (x.uses - 1) _ (same_numbers (x.uses - 1) 0 z) (left r c x kept g k h))
     (λ d a. first_other d c kept a)
@@ -187,7 +187,7 @@ somebody c t kept a p f =
     let n : bytes_eq t e.holder ≡ false = nat_list_eq_equiv.symm t e.holder ∙ sym (same_there c.name e.holder t) ∙ ap (λ d. is_same d (record { name = c.name; holder = t })) (sym i.0) ∙ w in
     ap (λ d. times d kept) i.0 ∙ f e.holder n)
 
-module _ (r : Registry) (c : Claim) (old kept : List Claim) (k : Keeps r (old ++ kept)) where
+module _ (r : Registry) (c : Claim) (old kept : List Claim) (k : HoldsClaims r (old ++ kept)) where
   -- how often a holder claims the name
   held : (o : Option Holding) → map.get r.names c.name ≡ o → (h : List ℕ) → uses_of o (record { name = c.name; holder = h }) ≡ times (record { name = c.name; holder = h }) old + times (record { name = c.name; holder = h }) kept
   held o g h =

@@ -15,7 +15,7 @@ uses_of None c = 0
 uses_of (Some x) c = cond (bytes_eq x.holder c.holder) x.uses 0
 
 -- the registry keeps these claims: a name that is held is used, and each claim is held as often as it is among these
-pub record Keeps (r : Registry) (claims : List Claim) : Type 0 where
+pub record HoldsClaims (r : Registry) (claims : List Claim) : Type 0 where
   pub used : (name : KernelName) (x : Holding) → map.get r.names name ≡ Some x → 0 < x.uses
   pub each : (c : Claim) → uses_of (map.get r.names c.name) c ≡ times c claims
 

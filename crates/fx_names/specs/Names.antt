@@ -3,7 +3,7 @@
 use Rattle.std.specs.Prelude.{ℕ, ◌-◌, List, ◌∷◌, ◌++◌, Bool, ◌&&◌, ◌||◌, ◌==◌, not, nat_lt, length, take, slice_index, codes, if◌then◌else◌}
 use Rattle.base64.specs.Engines.{url_safe_no_pad}
 use Rattle.base64.specs.GeneralPurpose.{encode_of}
-use Rattle.fx_base.specs.SetName.{name_of}
+use Rattle.fx_base.specs.SetName.{set_name_text}
 use Rattle.fx_base.specs.declared.set_name.SetKind.{SetKind}
 use Rattle.fx_names.specs.Digests.{Digest}
 use Rattle.fx_names.specs.declared.prefix.Prefix.{Prefix}
@@ -42,4 +42,4 @@ chain_name_of dg p s = prefix_text p ++ key_of dg p s
 
 -- the name of the set that a text describes
 abbrev pub set_name_of : Digest → SetKind → List ℕ → List ℕ
-set_name_of dg kind text = name_of kind (take 23 (digest_text dg text))
+set_name_of dg kind text = set_name_text kind (take 23 (digest_text dg text))

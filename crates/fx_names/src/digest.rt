@@ -11,7 +11,7 @@ pub trait DigestRule {
 }
 
 /// What answers by a rule.
-pub trait Answers<R: DigestRule> {
+pub trait DigestFunction<R: DigestRule> {
     fn digest(&self, text: &[u8]) -> [u8; 32]
         ensures { result ≡ R.digest_of text.now };
 }
@@ -32,7 +32,7 @@ impl DigestRule for PlainRule {
     ghost digest_of = { plain_digest };
 }
 
-impl Answers<PlainRule> for PlainRule {
+impl DigestFunction<PlainRule> for PlainRule {
     fn digest(&self, text: &[u8]) -> [u8; 32] {
         let mut digest = [0; 32];
         let size = text.len().min(32);

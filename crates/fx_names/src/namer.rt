@@ -4,7 +4,7 @@ ghost use Rattle.base64.specs.Engines.{url_safe_no_pad};
 ghost use Rattle.base64.specs.GeneralPurpose.{encode_of};
 ghost use Rattle.fx_names.specs.Names.{is_whole, shortened, key_of, chain_name_of, set_name_of, room, digest_text};
 
-use crate::digest::{Answers, DigestRule};
+use crate::digest::{DigestFunction, DigestRule};
 use crate::prefix::Prefix;
 use base64::engine::general_purpose::URL_SAFE_NO_PAD;
 use fx_base::{ChainName, NameKey, SetKind, SetName};
@@ -12,12 +12,12 @@ use std::marker::PhantomData;
 
 /// Names by a digest rule. It takes no memory.
 #[derive(Drop)]
-pub struct Namer<R: DigestRule, F: Answers<R> + Drop> {
+pub struct Namer<R: DigestRule, F: DigestFunction<R> + Drop> {
     answers: F,
     rule: PhantomData<R>,
 }
 
-impl<R: DigestRule, F: Answers<R> + Drop> Namer<R, F> {
+impl<R: DigestRule, F: DigestFunction<R> + Drop> Namer<R, F> {
     pub fn new(answers: F) -> Self
         ensures { result.answers ≡ answers }
     {

@@ -4,7 +4,7 @@ ghost use Rattle.fx_model.specs.Rendering.{rendered_rules};
 ghost use Rattle.fx_model.specs.Tables.{policy_rules, profile_rules};
 ghost use Rattle.fx_rules.specs.Rules.{direction_of, reason_at};
 
-use crate::parts::told;
+use crate::parts::tagged;
 use crate::reasons::Owner;
 use crate::rule::push_rule;
 use fx_base::{Memory, Seq};
@@ -58,7 +58,7 @@ pub fn profile_chain(
         let why = Reason::MissingProfile {
             name: profile.name.clone()?,
         };
-        chain.push(told(Seq::new(alloc), Target::Drop, why))?;
+        chain.push(tagged(Seq::new(alloc), Target::Drop, why))?;
         return Ok(chain);
     }
     let rules = if ingress {

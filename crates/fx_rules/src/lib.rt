@@ -4,7 +4,7 @@
 
 pub use chains::{policy_chain, profile_chain};
 pub use marks::{ACCEPT, PASS, clear_mark, is_clear, is_set, set_mark};
-pub use parts::{one, plain, push_return, told};
+pub use parts::{one, plain, push_return, tagged};
 pub use rule::render_rule;
 
 mod blocks;

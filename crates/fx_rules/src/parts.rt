@@ -1,6 +1,6 @@
 //! The parts that rules of chains are made of.
 ghost use Rattle.std.specs.Prelude.{◌≡◌, ◌++◌, [], ◌∷◌, IfOk, OnOk};
-ghost use Rattle.fx_model.specs.Rendering.{plain, told, is_set};
+ghost use Rattle.fx_model.specs.Rendering.{plain, tagged, is_set};
 
 use crate::marks::is_set;
 use fx_base::{Memory, Seq};
@@ -19,8 +19,8 @@ pub fn plain(matches: Seq<Match>, target: Target) -> ChainRule
 }
 
 /// A rule that tells why.
-pub fn told(matches: Seq<Match>, target: Target, why: Reason) -> ChainRule
-    ensures { result ≡ told matches target why }
+pub fn tagged(matches: Seq<Match>, target: Target, why: Reason) -> ChainRule
+    ensures { result ≡ tagged matches target why }
 {
     ChainRule {
         matches,

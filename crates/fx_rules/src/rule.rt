@@ -7,7 +7,7 @@ ghost use Rattle.fx_rules.specs.Rules.{GrowsByFront};
 use crate::blocks::blocks_of;
 use crate::marks::{ACCEPT, ALL_BLOCKS, PASS, set_mark};
 use crate::matches::main_matches;
-use crate::parts::{plain, push_return, told};
+use crate::parts::{plain, push_return, tagged};
 use crate::ports::choices_of;
 use crate::reasons::copied;
 use fx_base::{Memory, Proto, Seq};
@@ -36,17 +36,17 @@ fn push_main(
 {
     match action {
         Action::Allow => {
-            out.push(told(matches, set_mark(ACCEPT), why))?;
+            out.push(tagged(matches, set_mark(ACCEPT), why))?;
             push_return(alloc, ACCEPT, out)
         }
-        Action::Deny => out.push(told(matches, Target::Drop, why)),
+        Action::Deny => out.push(tagged(matches, Target::Drop, why)),
         Action::Log => out.push(ChainRule {
             matches,
             target: Target::Log,
             tag: Tag::Log,
         }),
         Action::Pass => {
-            out.push(told(matches, set_mark(PASS), why))?;
+            out.push(tagged(matches, set_mark(PASS), why))?;
             push_return(alloc, PASS, out)
         }
     }

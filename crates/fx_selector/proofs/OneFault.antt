@@ -2,7 +2,7 @@
 use Rattle.std.proofs.Common.{◌≡◌, ◌≢◌, ℕ, ◌<◌, List, [], ◌∷◌, ◌++◌, length, take, drop, refl, sym, ap, subst, ◌∙◌, arith, lit<, length-take, length-drop}
 use Rattle.std.proofs.lemmas.List.{take-append-drop}
 use Rattle.fx_selector.specs.Reading.{Cause, unexpected, deep, long}
-use Rattle.fx_selector.specs.Places.{Spells, KeysWithin, NestsWithin, Begins, StandsAt, IsFault}
+use Rattle.fx_selector.specs.Places.{Spells, KeysWithin, NestsWithin, Begins, StandsAt, IsSelectorFault}
 use Rattle.fx_selector.specs.declared.fault.SelectorFault.{SelectorFault}
 use Rattle.fx_selector.specs.declared.fault.SelectorFault.TheVariants.{Unexpected, TooDeep, TooLong, KeyTooLong, Memory}
 use Rattle.fx_selector.proofs.Faults.{Stands}
@@ -47,7 +47,7 @@ moved why text a b e h = subst (At why text) (sym e) h
 apart : (v w : Cause) (text : List ℕ) → ((taken rest : List ℕ) → Stands 512 64 v taken rest → Stands 512 64 w taken rest → ⊥) → (a b : ℕ) → At v text a → At w text b → ⊥
 apart v w text never a b h k = never (take a text) (drop a text) h.2 (moved w text a b (same_place v w text a b h k) k).2
 
-pub one_fault : (text : List ℕ) (f g : SelectorFault) → f ≢ Memory → g ≢ Memory → IsFault text f → IsFault text g → f ≡ g
+pub one_fault : (text : List ℕ) (f g : SelectorFault) → f ≢ Memory → g ≢ Memory → IsSelectorFault text f → IsSelectorFault text g → f ≡ g
 one_fault text Memory g x y h k = absurd (x refl)
 one_fault text f Memory x y h k = absurd (y refl)
 one_fault text TooLong TooLong x y h k = refl

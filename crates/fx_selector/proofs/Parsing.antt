@@ -7,7 +7,7 @@ use Rattle.fx_selector.specs.Tree.{Tree, IsSelector, height}
 use Rattle.fx_selector.specs.Language.{SelectorText}
 use Rattle.fx_selector.specs.Reader.{parsed}
 use Rattle.fx_selector.specs.Gives.{cause}
-use Rattle.fx_selector.specs.Places.{Spells, Allows, Means, IsFault}
+use Rattle.fx_selector.specs.Places.{Spells, Allows, Means, IsSelectorFault}
 use Rattle.fx_selector.specs.declared.fault.SelectorFault.{SelectorFault}
 use Rattle.fx_selector.specs.declared.fault.SelectorFault.TheVariants as selector_fault
 use Rattle.fx_selector.specs.Parsing.{fault_at}
@@ -51,7 +51,7 @@ module _ (text : List ℕ) (short : length text ≤ 65536) where
       rw (front, back) (fault 512 (lit< tt) n 64 text a.0 rest why a.1 e a.2 a.3 real)
 
   -- the fault of a stop
-  pub is_fault : (f : Fault) (rest : List ℕ) → parsed 512 n 64 text ≡ Stop (cause f) rest → IsFault text (fault_at f (length text - length rest))
+  pub is_fault : (f : Fault) (rest : List ℕ) → parsed 512 n 64 text ≡ Stop (cause f) rest → IsSelectorFault text (fault_at f (length text - length rest))
   is_fault Unexpected rest e = (short, omega arith, stands unexpected rest (never_spent Unexpected) e)
   is_fault TooDeep rest e = (short, omega arith, stands deep rest (never_spent TooDeep) e)
   is_fault KeyTooLong rest e = (short, omega arith, stands long rest (never_spent KeyTooLong) e)
@@ -74,7 +74,7 @@ pub one_meant : (text : List ℕ) (t u : Tree) → Means text t → Means text u
 one_meant text t u h k = one_spelled text t u (512, h.1.0, 64, lit< tt, h.1.1) (512, k.1.0, 64, lit< tt, k.1.1)
 
 -- a text that means a tree has no fault but want of memory
-pub only_memory : (text : List ℕ) (t : Tree) (f : SelectorFault) → Means text t → IsFault text f → f ≡ selector_fault.Memory
+pub only_memory : (text : List ℕ) (t : Tree) (f : SelectorFault) → Means text t → IsSelectorFault text f → f ≡ selector_fault.Memory
 only_memory text t selector_fault.Memory h k = refl
 only_memory text t selector_fault.TooLong h k = absurd (omega (arith, h.0, k))
 only_memory text t (selector_fault.Unexpected at) h k = absurd (no_fault 512 (lit< tt) 64 unexpected (take at text) (drop at text) t k.2 (subst (λ x. Allows 512 64 x t) (sym (take-append-drop at text)) h.1))

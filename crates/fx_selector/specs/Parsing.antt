@@ -1,7 +1,7 @@
 -- What a reader of whole texts gives.
 use Rattle.std.specs.Prelude.{ℕ, List, Result, Ok, Err}
 use Rattle.fx_selector.specs.Nodes.{tree}
-use Rattle.fx_selector.specs.Places.{Means, IsFault}
+use Rattle.fx_selector.specs.Places.{Means, IsSelectorFault}
 use Rattle.fx_selector.specs.declared.node.Node.{Node}
 use Rattle.fx_selector.specs.declared.fault.Fault.{Fault}
 use Rattle.fx_selector.specs.declared.fault.Fault.TheVariants as fault
@@ -16,4 +16,4 @@ fault_at fault.KeyTooLong at = KeyTooLong at
 
 abbrev pub Parses : List ℕ → Result Node SelectorFault → Type 0
 Parses text (Ok node) = Means text (tree node)
-Parses text (Err f) = IsFault text f
+Parses text (Err f) = IsSelectorFault text f

@@ -51,9 +51,9 @@ abbrev pub StandsAt : (List ℕ → List ℕ → Type 0) → List ℕ → ℕ �
 StandsAt F text at = (length text ≤ 65536) × (at ≤ length text) × F (take at text) (drop at text)
 
 -- the text has this fault; want of memory says nothing of the text
-abbrev pub IsFault : List ℕ → SelectorFault → Type 0
-IsFault text (Unexpected at) = StandsAt (IsUnexpected 512 64) text at
-IsFault text (TooDeep at) = StandsAt (IsTooDeep 512 64) text at
-IsFault text TooLong = 65536 < length text
-IsFault text (KeyTooLong at) = StandsAt (IsKeyTooLong 512 64) text at
-IsFault text Memory = Unit {0}
+abbrev pub IsSelectorFault : List ℕ → SelectorFault → Type 0
+IsSelectorFault text (Unexpected at) = StandsAt (IsUnexpected 512 64) text at
+IsSelectorFault text (TooDeep at) = StandsAt (IsTooDeep 512 64) text at
+IsSelectorFault text TooLong = 65536 < length text
+IsSelectorFault text (KeyTooLong at) = StandsAt (IsKeyTooLong 512 64) text at
+IsSelectorFault text Memory = Unit {0}

@@ -2,7 +2,7 @@
 ghost use Rattle.std.specs.Prelude.{◌≡◌, ◌≢◌, ℕ, List};
 ghost use Rattle.fx_selector.specs.Tree.{Tree, IsTree};
 ghost use Rattle.fx_selector.specs.Canonical.{canonical_text};
-ghost use Rattle.fx_selector.specs.Places.{Spells, IsFault};
+ghost use Rattle.fx_selector.specs.Places.{Spells, IsSelectorFault};
 
 use crate::fault::SelectorFault;
 
@@ -14,7 +14,7 @@ pub fn one_tree()
 /// A text has at most one fault, and so at most one place of a fault.
 pub fn one_fault()
     ensures { (text : List ℕ) (f g : SelectorFault) → f ≢ SelectorFault.Memory → g ≢ SelectorFault.Memory →
-        IsFault text f → IsFault text g → f ≡ g }
+        IsSelectorFault text f → IsSelectorFault text g → f ≡ g }
 {}
 
 /// The canonical text of a tree spells it. So equal canonical texts mean equal trees.

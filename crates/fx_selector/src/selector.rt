@@ -5,7 +5,7 @@ ghost use Rattle.fx_selector.specs.Nodes.{tree};
 ghost use Rattle.fx_selector.specs.Truth.{holds};
 ghost use Rattle.fx_selector.specs.Canonical.{canonical_text};
 ghost use Rattle.fx_selector.specs.Rewriting.{namespace_tree, service_account_tree};
-ghost use Rattle.fx_selector.specs.Places.{Spells, Means, IsFault};
+ghost use Rattle.fx_selector.specs.Places.{Spells, Means, IsSelectorFault};
 ghost use Rattle.fx_selector.specs.SameTree.{same_tree, same_tree_equiv, one_tree};
 ghost use Rattle.std.specs.Cmp.{partial_equiv_from_equiv};
 
@@ -54,7 +54,7 @@ impl Selector {
 
         // The length is tested before all else; of the other faults the one with the least place is given.
         ensures too_long { 65536 < length text.now → IsErrOf result SelectorFault.TooLong }
-        ensures fault { IfErr result (IsFault text.now) }
+        ensures fault { IfErr result (IsSelectorFault text.now) }
 
         ensures selector { IfOk result IsSelector }
         ensures shallow { IfOk result (λ selector. height selector ≤ 131) }

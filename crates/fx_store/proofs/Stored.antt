@@ -6,9 +6,9 @@ use Rattle.fx_names.specs.Digests.{Digest}
 use Rattle.fx_names.specs.declared.claim.Claim.{Claim}
 use Rattle.fx_names.specs.declared.registry.Registry.{Registry}
 use Rattle.fx_names.specs.Claims.{Clash, times, first_clash}
-use Rattle.fx_names.specs.Holding.{Keeps}
+use Rattle.fx_names.specs.Holding.{HoldsClaims}
 use Rattle.fx_names.proofs.ClaimLists.{times-append}
-use Rattle.fx_names.proofs.Kept.{Keeps-same}
+use Rattle.fx_names.proofs.Kept.{HoldsClaims-same}
 use Rattle.fx_model.specs.declared.ids.Key.{Key}
 use Rattle.fx_model.specs.declared.resources.Item.{Item}
 use Rattle.fx_model.specs.declared.resources.Resources.{Resources}
@@ -25,35 +25,35 @@ module _ (dg : Digest) (R : Resources) (k : Key) (r : Registry) where
   abbrev rest : List Claim
   rest = all_claims dg (after_delete R k)
 
-  keeps_parts : Keeps r (all_claims dg R) → Keeps r (claims_at dg R k ++ rest)
-  keeps_parts h = Keeps-same r (all_claims dg R) (claims_at dg R k ++ rest) h (λ c. times-at c dg R k ∙ sym (times-append c (claims_at dg R k) rest))
+  keeps_parts : HoldsClaims r (all_claims dg R) → HoldsClaims r (claims_at dg R k ++ rest)
+  keeps_parts h = HoldsClaims-same r (all_claims dg R) (claims_at dg R k ++ rest) h (λ c. times-at c dg R k ∙ sym (times-append c (claims_at dg R k) rest))
 
   module _ (old new : List Claim) (own : old ≡ claims_at dg R k) where
-    without : Keeps r (all_claims dg R) → Keeps r (old ++ rest)
-    without h = subst (λ l. Keeps r (l ++ rest)) (sym own) (keeps_parts h)
+    without : HoldsClaims r (all_claims dg R) → HoldsClaims r (old ++ rest)
+    without h = subst (λ l. HoldsClaims r (l ++ rest)) (sym own) (keeps_parts h)
 
     -- what is found of the first clash is found of the update's
-    pub clash_of_put : (P : Option Clash → Type 0) (u : Update) (x : Item) → u ≡ Put k x → new ≡ claims_of dg R.node k x → Keeps r (all_claims dg R) → ((kept : List Claim) → Keeps r (old ++ kept) → P (first_clash kept new)) → P (clash dg R u)
+    pub clash_of_put : (P : Option Clash → Type 0) (u : Update) (x : Item) → u ≡ Put k x → new ≡ claims_of dg R.node k x → HoldsClaims r (all_claims dg R) → ((kept : List Claim) → HoldsClaims r (old ++ kept) → P (first_clash kept new)) → P (clash dg R u)
     clash_of_put P u x is wanted h found =
         subst P (ap (first_clash rest) wanted ∙ ap (clash dg R) (sym is)) (found rest (without h))
 
-    module _ (s : Registry) (swapped : (kept : List Claim) → Keeps r (old ++ kept) → first_clash kept new ≡ None → Keeps s (kept ++ new)) (h : Keeps r (all_claims dg R)) (u : Update) where
-      pub kept_after_put : (x : Item) → u ≡ Put k x → new ≡ claims_of dg R.node k x → is_formed u ≡ true → clash dg R u ≡ None → Keeps s (all_claims dg (after R u))
+    module _ (s : Registry) (swapped : (kept : List Claim) → HoldsClaims r (old ++ kept) → first_clash kept new ≡ None → HoldsClaims s (kept ++ new)) (h : HoldsClaims r (all_claims dg R)) (u : Update) where
+      pub kept_after_put : (x : Item) → u ≡ Put k x → new ≡ claims_of dg R.node k x → is_formed u ≡ true → clash dg R u ≡ None → HoldsClaims s (all_claims dg (after R u))
       kept_after_put x is wanted formed free =
-          subst (λ v. Keeps s (all_claims dg (after R v))) (sym is)
+          subst (λ v. HoldsClaims s (all_claims dg (after R v))) (sym is)
           (put_in x (ap is_formed (sym is) ∙ formed)
-          (subst (λ l. Keeps s (rest ++ l)) wanted (swapped rest (without h) (ap (first_clash rest) wanted ∙ ap (clash dg R) (sym is) ∙ free))))
+          (subst (λ l. HoldsClaims s (rest ++ l)) wanted (swapped rest (without h) (ap (first_clash rest) wanted ∙ ap (clash dg R) (sym is) ∙ free))))
         where
-          put_in : (x : Item) → is_formed (Put k x) ≡ true → Keeps s (rest ++ claims_of dg R.node k x) → Keeps s (all_claims dg (after_put R k x))
+          put_in : (x : Item) → is_formed (Put k x) ≡ true → HoldsClaims s (rest ++ claims_of dg R.node k x) → HoldsClaims s (all_claims dg (after_put R k x))
           put_in x formed g =
-              Keeps-same s (rest ++ claims_of dg R.node k x) (all_claims dg (after_put R k x)) g
+              HoldsClaims-same s (rest ++ claims_of dg R.node k x) (all_claims dg (after_put R k x)) g
               (λ c. omega (arith, times-append c rest (claims_of dg R.node k x), times-put c dg R k x formed))
 
-      pub kept_after_delete : u ≡ Delete k → new ≡ [] → Keeps s (all_claims dg (after R u))
+      pub kept_after_delete : u ≡ Delete k → new ≡ [] → HoldsClaims s (all_claims dg (after R u))
       kept_after_delete is none =
-          subst (λ v. Keeps s (all_claims dg (after R v))) (sym is)
-          (subst (Keeps s) (ap (λ l. rest ++ l) none ∙ append-nil rest) (swapped rest (without h) (ap (first_clash rest) none)))
+          subst (λ v. HoldsClaims s (all_claims dg (after R v))) (sym is)
+          (subst (HoldsClaims s) (ap (λ l. rest ++ l) none ∙ append-nil rest) (swapped rest (without h) (ap (first_clash rest) none)))
 
 -- no resources claim nothing
-pub keeps_none : (dg : Digest) (R : Resources) (r : Registry) → R.endpoints ≡ maps.empty → R.profiles ≡ maps.empty → Keeps r [] → Keeps r (all_claims dg R)
-keeps_none dg R r endpoints profiles h = Keeps-same r [] (all_claims dg R) h (λ c. sym (none_claimed dg R endpoints profiles c))
+pub keeps_none : (dg : Digest) (R : Resources) (r : Registry) → R.endpoints ≡ maps.empty → R.profiles ≡ maps.empty → HoldsClaims r [] → HoldsClaims r (all_claims dg R)
+keeps_none dg R r endpoints profiles h = HoldsClaims-same r [] (all_claims dg R) h (λ c. sym (none_claimed dg R endpoints profiles c))

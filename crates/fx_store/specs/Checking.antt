@@ -5,10 +5,10 @@ use Rattle.fx_store.specs.declared.fault.CheckFault.{CheckFault}
 use Rattle.fx_store.specs.declared.fault.CheckFault.TheVariants.{Taken, Memory}
 
 -- a fault is the clash, if it isn't want of memory
-abbrev pub IsFault : CheckFault → Option Clash → Type 0
-IsFault (Taken name holder) o = o ≡ Some (record { name = name; holder = holder })
-IsFault Memory o = Unit
+abbrev pub IsCheckFault : CheckFault → Option Clash → Type 0
+IsCheckFault (Taken name holder) o = o ≡ Some (record { name = name; holder = holder })
+IsCheckFault Memory o = Unit
 
 -- all is well where nothing clashes
 abbrev pub Tells : {T : Type 0} → Result T CheckFault → Option Clash → Type 0
-Tells r o = MatchResult r (λ _. o ≡ None) (λ e. IsFault e o)
+Tells r o = MatchResult r (λ _. o ≡ None) (λ e. IsCheckFault e o)

@@ -2,7 +2,7 @@
 ghost use Rattle.std.specs.Prelude.{[], ◌∷◌, ◌++◌, List};
 ghost use Rattle.fx_names.specs.declared.claim.Claim.{Claim};
 ghost use Rattle.fx_names.specs.Claims.{first_clash};
-ghost use Rattle.fx_names.specs.Holding.{Keeps};
+ghost use Rattle.fx_names.specs.Holding.{HoldsClaims};
 ghost use Rattle.fx_store.specs.Checking.{Tells};
 
 use crate::fault::CheckFault;
@@ -18,7 +18,7 @@ pub fn check_claims(
     old: &[Claim],
     new: &[Claim],
 ) -> Result<(), CheckFault>
-    ensures { (kept : List Claim) → Keeps registry.now (old.now ++ kept) → Tells result (first_clash kept new.now) }
+    ensures { (kept : List Claim) → HoldsClaims registry.now (old.now ++ kept) → Tells result (first_clash kept new.now) }
 {
     let mut seen = Registry::new(alloc);
     for claim in new {
@@ -35,7 +35,7 @@ fn check_claim<'a>(
     old: &[Claim],
     claim: &'a Claim,
 ) -> Result<(), CheckFault>
-    ensures { (kept : List Claim) → Keeps registry.now (old.now ++ kept) → Tells result (first_clash kept (claim.now ∷ [])) }
+    ensures { (kept : List Claim) → HoldsClaims registry.now (old.now ++ kept) → Tells result (first_clash kept (claim.now ∷ [])) }
 {
     match registry.check(old, from_ref(claim)) {
         Ok(()) => Ok(()),

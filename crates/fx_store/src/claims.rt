@@ -7,11 +7,11 @@ ghost use Rattle.fx_model.specs.Claims.{item_text, profile_claims, interface_cla
 
 use fx_base::{KernelName, Memory, Seq, Text};
 use fx_model::{Endpoint, Item, ItemKey, Key, Resources};
-use fx_names::{Answers, Claim, DigestRule, Namer, Prefix};
+use fx_names::{DigestFunction, Claim, DigestRule, Namer, Prefix};
 use std::alloc::Global;
 
 /// What a resource at a key claims on this node.
-pub fn claims_of<R: DigestRule, F: Answers<R> + Drop>(
+pub fn claims_of<R: DigestRule, F: DigestFunction<R> + Drop>(
     alloc: Global,
     node: &Text,
     key: &Key,
@@ -37,7 +37,7 @@ pub fn claims_of<R: DigestRule, F: Answers<R> + Drop>(
 }
 
 /// What the resource at a key claims.
-pub fn claims_at<R: DigestRule, F: Answers<R> + Drop>(
+pub fn claims_at<R: DigestRule, F: DigestFunction<R> + Drop>(
     alloc: Global,
     resources: &Resources,
     key: &Key,
@@ -62,7 +62,7 @@ pub fn claims_at<R: DigestRule, F: Answers<R> + Drop>(
 }
 
 // An endpoint of another node claims nothing.
-fn push_endpoint<R: DigestRule, F: Answers<R> + Drop>(
+fn push_endpoint<R: DigestRule, F: DigestFunction<R> + Drop>(
     alloc: Global,
     node: &Text,
     key: &ItemKey,
@@ -79,7 +79,7 @@ fn push_endpoint<R: DigestRule, F: Answers<R> + Drop>(
     Ok(())
 }
 
-fn push_interface<R: DigestRule, F: Answers<R> + Drop>(
+fn push_interface<R: DigestRule, F: DigestFunction<R> + Drop>(
     alloc: Global,
     key: &ItemKey,
     endpoint: &Endpoint,
@@ -95,7 +95,7 @@ fn push_interface<R: DigestRule, F: Answers<R> + Drop>(
     Ok(())
 }
 
-fn push_profiles<R: DigestRule, F: Answers<R> + Drop>(
+fn push_profiles<R: DigestRule, F: DigestFunction<R> + Drop>(
     alloc: Global,
     names: &Seq<Text>,
     namer: &Namer<R, F>,
@@ -109,7 +109,7 @@ fn push_profiles<R: DigestRule, F: Answers<R> + Drop>(
     Ok(())
 }
 
-fn push_profile<R: DigestRule, F: Answers<R> + Drop>(
+fn push_profile<R: DigestRule, F: DigestFunction<R> + Drop>(
     alloc: Global,
     name: &Text,
     namer: &Namer<R, F>,
@@ -125,7 +125,7 @@ fn push_profile<R: DigestRule, F: Answers<R> + Drop>(
 }
 
 // A claim on a chain.
-fn push_claim<R: DigestRule, F: Answers<R> + Drop>(
+fn push_claim<R: DigestRule, F: DigestFunction<R> + Drop>(
     prefix: Prefix,
     suffix: &[u8],
     holder: Text,

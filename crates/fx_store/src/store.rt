@@ -2,7 +2,7 @@
 ghost use Rattle.std.specs.Prelude.{◌≡◌, false, true, None, OnOk, option_map};
 ghost use Rattle.std.specs.FinMap as map;
 ghost use Rattle.fx_names.specs.Digests.{Digest};
-ghost use Rattle.fx_names.specs.Holding.{Keeps};
+ghost use Rattle.fx_names.specs.Holding.{HoldsClaims};
 ghost use Rattle.fx_model.specs.Resources.{after};
 ghost use Rattle.fx_model.specs.Formed.{is_formed};
 ghost use Rattle.fx_model.specs.Claims.{all_claims, clash};
@@ -15,7 +15,7 @@ use crate::claims::{claims_at, claims_of};
 use crate::fault::CheckFault;
 use fx_base::{Memory, Text};
 use fx_model::{Endpoint, Key, Profile, Resources, Update};
-use fx_names::{Answers, DigestRule, Namer, Registry};
+use fx_names::{DigestFunction, DigestRule, Namer, Registry};
 use std::alloc::Global;
 
 /// The resources of a node and what they claim. After want of memory in `apply` it isn't used again.
@@ -62,7 +62,7 @@ impl Store {
     }
 
     /// Whether an update clashes: the name, and who holds it.
-    pub fn check<R: DigestRule, F: Answers<R> + Drop>(
+    pub fn check<R: DigestRule, F: DigestFunction<R> + Drop>(
         &self,
         update: &Update,
         namer: &Namer<R, F>,
@@ -80,7 +80,7 @@ impl Store {
     }
 
     /// Makes an update that doesn't clash.
-    pub fn apply<R: DigestRule, F: Answers<R> + Drop>(
+    pub fn apply<R: DigestRule, F: DigestFunction<R> + Drop>(
         &mut self,
         update: Update,
         namer: &Namer<R, F>,
@@ -97,7 +97,7 @@ impl Store {
     }
 
     // Puts an update's claims in place of those of what stands at its key.
-    fn swap_claims<R: DigestRule, F: Answers<R> + Drop>(
+    fn swap_claims<R: DigestRule, F: DigestFunction<R> + Drop>(
         &mut self,
         update: &Update,
         namer: &Namer<R, F>,
@@ -106,7 +106,7 @@ impl Store {
         requires free { clash R.digest_of self.old.resources update.now ≡ None }
         requires formed { is_formed update.now ≡ true }
         ensures kept { self.new.resources ≡ self.old.resources }
-        ensures keeps { OnOk result (Keeps self.new.registry (all_claims R.digest_of (after self.old.resources update.now))) }
+        ensures keeps { OnOk result (HoldsClaims self.new.registry (all_claims R.digest_of (after self.old.resources update.now))) }
     {
         match update {
             Update::InSync => {}

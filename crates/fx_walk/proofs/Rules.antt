@@ -22,7 +22,7 @@ use Rattle.fx_model.specs.declared.view_rule.ViewSide.{ViewSide}
 use Rattle.fx_model.specs.Criteria.{address_at, in_net, lies_in, has_ports, icmp_number, proto_is, proto_is_not, is_icmp, icmp_is, icmp_is_not}
 use Rattle.fx_model.specs.Formed.{implies, has_port_protocol, has_icmp_protocol, lists_view_ports, is_given, passes, is_formed_view_rule, is_formed_view_profile_rule}
 use Rattle.fx_model.specs.Tables.{ChainName, Sets, forward}
-use Rattle.fx_model.specs.Rendering.{negative_block, plain, told, set_mark, is_set, accept_mark, pass_mark, one_net, net_blocks, not_net_blocks, net_match, not_net_match, proto_match, icmp_match, PortChoice, port_choices, choice_alternative, port_blocks, in_set_match, listed_match, not_in_set_match, not_listed_match, set_match, blocks_of, block_rules, block_match, nets_match, sets_match, ports_match, main_matches, main_rules, is_void, rendered_rule, rendered_rules}
+use Rattle.fx_model.specs.Rendering.{negative_block, plain, tagged, set_mark, is_set, accept_mark, pass_mark, one_net, net_blocks, not_net_blocks, net_match, not_net_match, proto_match, icmp_match, PortChoice, port_choices, choice_alternative, port_blocks, in_set_match, listed_match, not_in_set_match, not_listed_match, set_match, blocks_of, block_rules, block_match, nets_match, sets_match, ports_match, main_matches, main_rules, is_void, rendered_rule, rendered_rules}
 use Rattle.fx_model.specs.Machine.{holds, hold_all, marked, Reasons, with_reason, last_reason}
 use Rattle.fx_model.specs.Walk.{Onward, Ended, Dropped, Left, Through}
 use Rattle.fx_model.specs.Policy.{Answer, Silent, Passed, Allowed, Denied, answer_of, first_answer}
@@ -249,14 +249,14 @@ module _ (sets : Sets) (a : Packet) (call : ChainName → Onward Reasons) (c : C
   -- ---- the main rule
 
   -- a rule that marks and tells its reason
-  told_hit : (p : ℕ) (ms : List Match) (v k : ℕ) (why : Reason) (rs : List ChainRule) (m : ℕ) (s : Reasons) → hold_all (holds sets a) m ms ≡ true → goes p (told ms (target.Mark v k) why ∷ rs) m s ≡ goes (suc p) rs (marked m v k) (with_reason s.side why s)
+  told_hit : (p : ℕ) (ms : List Match) (v k : ℕ) (why : Reason) (rs : List ChainRule) (m : ℕ) (s : Reasons) → hold_all (holds sets a) m ms ≡ true → goes p (tagged ms (target.Mark v k) why ∷ rs) m s ≡ goes (suc p) rs (marked m v k) (with_reason s.side why s)
   told_hit p ms v k why rs m s h =
-      walk_hit last_reason (holds sets a) call c p (told ms (target.Mark v k) why) rs m s h ∙ ap (λ t. goes (suc p) rs (marked m v k) t) (noted_as sets a call c inner p (told ms (target.Mark v k) why) s)
+      walk_hit last_reason (holds sets a) call c p (tagged ms (target.Mark v k) why) rs m s h ∙ ap (λ t. goes (suc p) rs (marked m v k) t) (noted_as sets a call c inner p (tagged ms (target.Mark v k) why) s)
 
   -- a rule that tells its reason and drops
-  pub told_drop : (p : ℕ) (ms : List Match) (why : Reason) (rs : List ChainRule) (m : ℕ) (s : Reasons) → hold_all (holds sets a) m ms ≡ true → goes p (told ms target.Drop why ∷ rs) m s ≡ Dropped (with_reason s.side why s)
+  pub told_drop : (p : ℕ) (ms : List Match) (why : Reason) (rs : List ChainRule) (m : ℕ) (s : Reasons) → hold_all (holds sets a) m ms ≡ true → goes p (tagged ms target.Drop why ∷ rs) m s ≡ Dropped (with_reason s.side why s)
   told_drop p ms why rs m s h =
-      walk_hit last_reason (holds sets a) call c p (told ms target.Drop why) rs m s h ∙ ap Dropped (noted_as sets a call c inner p (told ms target.Drop why) s)
+      walk_hit last_reason (holds sets a) call c p (tagged ms target.Drop why) rs m s h ∙ ap Dropped (noted_as sets a call c inner p (tagged ms target.Drop why) s)
 
   -- RETURN, where a bit is set
   bit_hit : (p i : ℕ) (rs : List ChainRule) (m : ℕ) (s : Reasons) → bit_at m i ≡ 1 → goes p (plain (is_set (2 ^ i) ∷ []) target.Return ∷ rs) m s ≡ Left m s
@@ -287,11 +287,11 @@ module _ (sets : Sets) (a : Packet) (call : ChainName → Onward Reasons) (c : C
       let one : bit_at n 16 ≡ 1 = set_same m 16 (lit< tt) in
       (n, told_hit p ms accept_mark accept_mark why (plain (is_set accept_mark ∷ []) target.Return ∷ rest) m s h ∙ return_hit (suc p) rest n (with_reason s.side why s) one, one)
   main_step action.Allow ms why false rest p m s ans h z clear after =
-      to_ends _ _ m s ans (miss sets a call c inner p (told ms (set_mark accept_mark) why) (plain (is_set accept_mark ∷ []) target.Return ∷ rest) m s h ∙ return_miss (suc p) rest m s z)
+      to_ends _ _ m s ans (miss sets a call c inner p (tagged ms (set_mark accept_mark) why) (plain (is_set accept_mark ∷ []) target.Return ∷ rest) m s h ∙ return_miss (suc p) rest m s z)
       (after (suc (suc p)) m (keeps_same m))
   main_step action.Deny ms why true rest p m s ans h z clear after = told_drop p ms why rest m s h
   main_step action.Deny ms why false rest p m s ans h z clear after =
-      to_ends _ _ m s ans (miss sets a call c inner p (told ms target.Drop why) rest m s h) (after (suc p) m (keeps_same m))
+      to_ends _ _ m s ans (miss sets a call c inner p (tagged ms target.Drop why) rest m s h) (after (suc p) m (keeps_same m))
   main_step action.Log ms why true rest p m s ans h z clear after =
       to_ends _ _ m s ans (walk_hit last_reason (holds sets a) call c p (log_rule ms) rest m s h ∙ ap (λ t. goes (suc p) rest m t) (noted_as sets a call c inner p (log_rule ms) s))
       (after (suc p) m (keeps_same m))
@@ -307,7 +307,7 @@ module _ (sets : Sets) (a : Packet) (call : ChainName → Onward Reasons) (c : C
         one,
       )
   main_step action.Pass ms why false rest p m s ans h z clear after =
-      to_ends _ _ m s ans (miss sets a call c inner p (told ms (set_mark pass_mark) why) (plain (is_set pass_mark ∷ []) target.Return ∷ rest) m s h ∙ bit_miss (suc p) 17 rest m s clear)
+      to_ends _ _ m s ans (miss sets a call c inner p (tagged ms (set_mark pass_mark) why) (plain (is_set pass_mark ∷ []) target.Return ∷ rest) m s h ∙ bit_miss (suc p) 17 rest m s clear)
       (after (suc (suc p)) m (keeps_same m))
 
   -- the rules of one rule, and then what comes behind them

@@ -28,7 +28,7 @@ use Rattle.fx_model.specs.declared.view.ViewProfile.{ViewProfile}
 use Rattle.fx_model.specs.declared.view.ViewEndpoint.{ViewEndpoint}
 use Rattle.fx_model.specs.Directions.{Direction, Ingress, Egress}
 use Rattle.fx_model.specs.Formed.{passes, is_formed_view_profile_rule}
-use Rattle.fx_model.specs.Rendering.{plain, told, is_set, is_clear, accept_mark, pass_mark, rendered_rules}
+use Rattle.fx_model.specs.Rendering.{plain, tagged, is_set, is_clear, accept_mark, pass_mark, rendered_rules}
 use Rattle.fx_model.specs.Tables.{ChainName, Chains, Sets, forward, policy_chain, policy_rules, policy_jumps, policy_side, profile_chain, profile_rules, profile_jumps, profile_side, present_or_missing, tier_rules, tiers_side, endpoint_chain, endpoint_rules, end_of, root_of, dispatch_rules}
 use Rattle.fx_model.specs.Machine.{holds, hold_all, marked, iface_at, state_in, rules_in, Reasons, with_reason, last_reason}
 use Rattle.fx_model.specs.Walk.{Onward, Ended, Accepted, Dropped, Left, Through, onward, after_jump, after_goto, over_rules, over_chain}
@@ -164,7 +164,7 @@ module _ (a : Packet) (v : View) (chains : Chains) (given : Renders v chains) (f
 
         by_missing : (b : Bool) → rules_in chains (profile_chain d key) ≡ present_or_missing b pr.name (rendered_rules (reason.Profile pr.name) 1 (profile_side d pr)) → ConcludesAs (back_after p rs (call (suc n) (profile_chain d key) m s)) s (profile_verdict (missing_or_there b pr.name (met_view_rules v.sets a (reason.Profile pr.name) 1 (profile_side d pr))) rest)
         by_missing true is =
-            ap (back_after p rs) (called n (profile_chain d key) (told [] target.Drop (reason.MissingProfile pr.name) ∷ []) m s is ∙ told_drop v.sets a (call n) (profile_chain d key) (profile_inner d key) 1 [] (reason.MissingProfile pr.name) [] m s refl)
+            ap (back_after p rs) (called n (profile_chain d key) (tagged [] target.Drop (reason.MissingProfile pr.name) ∷ []) m s is ∙ told_drop v.sets a (call n) (profile_chain d key) (profile_inner d key) 1 [] (reason.MissingProfile pr.name) [] m s refl)
         by_missing false is =
             after_profile p rs (call (suc n) (profile_chain d key) m s) m s (first_answer (met_view_rules v.sets a (reason.Profile pr.name) 1 (profile_side d pr))) rest (never_passed v.sets a (reason.Profile pr.name) 1 (profile_side d pr) there) z
             (subst (λ x. EndsAs x m s (first_answer (met_view_rules v.sets a (reason.Profile pr.name) 1 (profile_side d pr)))) (sym (called n (profile_chain d key) _ m s is))
@@ -186,7 +186,7 @@ module _ (a : Packet) (v : View) (chains : Chains) (given : Renders v chains) (f
     -- ---- tiers
 
     abbrev end_rule : List ℕ → ChainRule
-    end_rule name = told (is_clear pass_mark ∷ []) target.Drop (reason.EndOfTier name)
+    end_rule name = tagged (is_clear pass_mark ∷ []) target.Drop (reason.EndOfTier name)
 
     -- behind a Pass the rest of the tier is gone over
     passed_over : (d : Direction) (name : List ℕ) (keys : List (List ℕ)) (rest : List ChainRule) (p m : ℕ) (s : Reasons) → bit_at m 16 ≡ 0 → bit_at m 17 ≡ 1 → (q : ℕ) × (walk p (policy_jumps d keys ++ end_rule name ∷ rest) m s ≡ walk q rest m s)
@@ -264,8 +264,8 @@ module _ (a : Packet) (v : View) (chains : Chains) (given : Renders v chains) (f
   endpoint_ends n d iface e there new m s =
       concludes_from _ _ s _
       (called (suc n) c (endpoint_rules d e) m s (given.at_endpoint d iface e there)
-      ∙ miss v.sets a (call (suc n)) c inner 1 (told (match.State true ∷ []) target.Accept reason.Established) _ m s (state_misses true m new)
-      ∙ miss v.sets a (call (suc n)) c inner 2 (told (match.State false ∷ []) target.Drop reason.Invalid) _ m s (state_misses false m new)
+      ∙ miss v.sets a (call (suc n)) c inner 1 (tagged (match.State true ∷ []) target.Accept reason.Established) _ m s (state_misses true m new)
+      ∙ miss v.sets a (call (suc n)) c inner 2 (tagged (match.State false ∷ []) target.Drop reason.Invalid) _ m s (state_misses false m new)
       ∙ plain_hit v.sets a (call (suc n)) c inner 3 [] 0 accept_mark (tier_rules d (tiers_side d e) (profile_jumps d e.profiles)) m s refl)
       (tiers_end n c inner d (tiers_side d e) (profile_jumps d e.profiles) (profiles_verdict (map (view_listed v d a) e.profiles)) (profiles_end n c inner d e.profiles) 4 (marked m 0 accept_mark) s (clear_same m 16 (lit< tt)))
     where

@@ -10,7 +10,7 @@ use Rattle.fx_model.specs.declared.chain.Target.TheVariants as target
 use Rattle.fx_model.specs.declared.chain.ChainRule.{ChainRule}
 use Rattle.fx_model.specs.Tables.{ChainName, Chains, forward}
 use Rattle.fx_model.specs.Ranks.{LeadsBelow, AllLeadBelow, IsRanked, rank_of}
-use Rattle.fx_model.specs.Machine.{Test, Notes, hold_all, marked, rules_found, rules_in, Place, Config, Next, Goes, Ends, at_rule, popped, acted, at_next, step, Run, ended, stepped}
+use Rattle.fx_model.specs.Machine.{Test, Notes, hold_all, marked, rules_found, rules_in, Place, Config, Next, Goes, Ends, at_rule, popped, acted, at_next, machine_step, Run, ended, stepped}
 use Rattle.fx_model.specs.Walk.{Onward, Ended, Accepted, Dropped, Left, Through, verdict_of, noted_in, onward, obeyed, over_rule, over_rules, over_chain, after_jump, after_goto}
 
 -- what stands in a list from a place on
@@ -86,7 +86,7 @@ walk-next note a call c i rules r m s low is =
 
 -- one rule more of a walk that is at place i
 pub walk-step : {S : Type 0} (note : Notes S) (a : Test) (call : ChainName → Onward S) (c : ChainName) (i : ℕ) (rules : List ChainRule) (r : ChainRule) (m : ℕ) (s : S) (whole x : Ended S) → whole ≡ over_rules note a call c (i + 1) (drop i rules) m s → i < length rules → r ≡ get_or rules i r → x ≡ over_rule note a call c (i + 1) r m s → whole ≡ onward x (over_rules note a call c (i + 1 + 1) (drop (i + 1) rules))
-walk-step note a call c i rules r m s whole x w low is e =
+walk-machine_step note a call c i rules r m s whole x w low is e =
     w ∙ walk-next note a call c i rules r m s low is ∙ ap (λ y. onward y (over_rules note a call c (i + 1 + 1) (drop (i + 1) rules))) (sym e)
 
 pub walk-over : {S : Type 0} (note : Notes S) (a : Test) (call : ChainName → Onward S) (c : ChainName) (i : ℕ) (rules : List ChainRule) (m : ℕ) (s : S) (whole : Ended S) → whole ≡ over_rules note a call c (i + 1) (drop i rules) m s → length rules ≤ i → Through m s ≡ whole
@@ -108,18 +108,18 @@ Means note a chains (Left m s) stack v t = Leads note a chains (popped stack m s
 Means note a chains (Through m s) stack v t = Leads note a chains (popped stack m s) v t
 
 module _ {S : Type 0} (note : Notes S) (a : Test) (chains : Chains) where
-  run-from : (c : Config S) (v : Verdict) (t : S) (n : Next S) → step note a chains c ≡ n → Leads note a chains n v t → Run S note a chains c v t
+  run-from : (c : Config S) (v : Verdict) (t : S) (n : Next S) → machine_step note a chains c ≡ n → Leads note a chains n v t → Run S note a chains c v t
   run-from c v t (Goes d) e l = stepped e l
   run-from c v t (Ends w s) e l = ended (e ∙ ap (λ x. Ends x s) l.0 ∙ ap (λ x. Ends v x) l.1)
 
-  step-end : (c : ChainName) (p : ℕ) (stack : List Place) (m : ℕ) (s : S) → drop p (rules_in chains c) ≡ [] → step note a chains (at_rule c p stack m s) ≡ popped stack m s
+  step-end : (c : ChainName) (p : ℕ) (stack : List Place) (m : ℕ) (s : S) → drop p (rules_in chains c) ≡ [] → machine_step note a chains (at_rule c p stack m s) ≡ popped stack m s
   step-end c p stack m s e = ap (λ o. at_next note a o c p stack m s) (get-end p (rules_in chains c) e)
 
-  step-hit : (c : ChainName) (p : ℕ) (stack : List Place) (m : ℕ) (s : S) (r : ChainRule) (rest : List ChainRule) (to : Target) → drop p (rules_in chains c) ≡ r ∷ rest → hold_all a m r.matches ≡ true → r.target ≡ to → step note a chains (at_rule c p stack m s) ≡ acted to c p stack m (note c (suc p) r s)
+  step-hit : (c : ChainName) (p : ℕ) (stack : List Place) (m : ℕ) (s : S) (r : ChainRule) (rest : List ChainRule) (to : Target) → drop p (rules_in chains c) ≡ r ∷ rest → hold_all a m r.matches ≡ true → r.target ≡ to → machine_step note a chains (at_rule c p stack m s) ≡ acted to c p stack m (note c (suc p) r s)
   step-hit c p stack m s r rest to e h et =
       ap (λ o. at_next note a o c p stack m s) (get-at p (rules_in chains c) r rest e) ∙ rw (h, at_next) (ap (λ x. acted x c p stack m (note c (suc p) r s)) et)
 
-  step-miss : (c : ChainName) (p : ℕ) (stack : List Place) (m : ℕ) (s : S) (r : ChainRule) (rest : List ChainRule) → drop p (rules_in chains c) ≡ r ∷ rest → hold_all a m r.matches ≡ false → step note a chains (at_rule c p stack m s) ≡ Goes (at_rule c (suc p) stack m s)
+  step-miss : (c : ChainName) (p : ℕ) (stack : List Place) (m : ℕ) (s : S) (r : ChainRule) (rest : List ChainRule) → drop p (rules_in chains c) ≡ r ∷ rest → hold_all a m r.matches ≡ false → machine_step note a chains (at_rule c p stack m s) ≡ Goes (at_rule c (suc p) stack m s)
   step-miss c p stack m s r rest e h =
       ap (λ o. at_next note a o c p stack m s) (get-at p (rules_in chains c) r rest e) ∙ rw (h, at_next) refl
 
@@ -140,7 +140,7 @@ module _ {S : Type 0} (note : Notes S) (a : Test) (chains : Chains) where
   goto-means go (Through m s) stack v t l = l
 
   module _ (call : ChainName → Onward S) (n : ℕ) (called : (d : ChainName) → rank_of d < n → Onto (call d) d 0) where
-    hit-run : (go : Onward S) (c : ChainName) (p : ℕ) → Onto go c (suc p) → (to : Target) → LeadsBelow n to → (m : ℕ) (s s' : S) (stack : List Place) (v : Verdict) (t : S) → step note a chains (at_rule c p stack m s) ≡ acted to c p stack m s' → Means note a chains (onward (obeyed call to m s') go) stack v t → Run S note a chains (at_rule c p stack m s) v t
+    hit-run : (go : Onward S) (c : ChainName) (p : ℕ) → Onto go c (suc p) → (to : Target) → LeadsBelow n to → (m : ℕ) (s s' : S) (stack : List Place) (v : Verdict) (t : S) → machine_step note a chains (at_rule c p stack m s) ≡ acted to c p stack m s' → Means note a chains (onward (obeyed call to m s') go) stack v t → Run S note a chains (at_rule c p stack m s) v t
     hit-run go c p onto target.Accept low m s s' stack v t e l = run-from _ v t (Ends Allow s') e l
     hit-run go c p onto target.Drop low m s s' stack v t e l = run-from _ v t (Ends Deny s') e l
     hit-run go c p onto target.Return low m s s' stack v t e l = run-from _ v t (popped stack m s') e l

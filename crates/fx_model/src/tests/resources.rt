@@ -4,7 +4,7 @@ use crate::{
     effective_labels, is_active, next_message, place_of, take_at, view_of,
 };
 use fx_base::{Counter, Memory, NameKey, Seq, Text};
-use fx_names::{Answers, DigestRule, Namer};
+use fx_names::{DigestFunction, DigestRule, Namer};
 use fx_selector::{Labels, Selector};
 use std::alloc::Global;
 use std::test::Fail;
@@ -19,7 +19,7 @@ impl DigestRule for Flat {
     ghost digest_of = { λ _. replicate 32 0 };
 }
 
-impl Answers<Flat> for Flat {
+impl DigestFunction<Flat> for Flat {
     fn digest(&self, _text: &[u8]) -> [u8; 32] {
         [0; 32]
     }

@@ -1,5 +1,5 @@
 //! Names whose digests and texts another tool has computed.
-use crate::{Answers, Namer, PlainRule, Prefix, Sha256Rule};
+use crate::{DigestFunction, Namer, PlainRule, Prefix, Sha256Rule};
 use fx_base::SetKind;
 use sha2::{Digest, Sha256};
 
@@ -7,7 +7,7 @@ use sha2::{Digest, Sha256};
 #[derive(Drop)]
 struct Hashes;
 
-impl Answers<Sha256Rule> for Hashes {
+impl DigestFunction<Sha256Rule> for Hashes {
     fn digest(&self, text: &[u8]) -> [u8; 32] {
         Sha256::digest(text)
     }

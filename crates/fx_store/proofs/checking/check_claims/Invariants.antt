@@ -1,12 +1,12 @@
 use Rattle.std.proofs.Common.{◌≡◌, List, ◌++◌, take, drop}
 use Rattle.fx_names.specs.declared.claim.Claim.{Claim}
 use Rattle.fx_names.specs.Claims.{first_clash}
-use Rattle.fx_names.specs.Holding.{Keeps}
+use Rattle.fx_names.specs.Holding.{HoldsClaims}
 use Rattle.fx_store.proofs.checking.check_claims.Given as goal
 
 -- the claims so far are seen, and the first clash is that of what is left
 abbrev pub invariant-loop-claim : goal.invariant-loop-claim
 invariant-loop-claim l = record {
-  seen : Keeps l.seen (take l.claim-index l.new);
-  left : (kept : List Claim) → Keeps l.registry (l.old ++ kept) → first_clash kept l.new ≡ first_clash (kept ++ take l.claim-index l.new) (drop l.claim-index l.new);
+  seen : HoldsClaims l.seen (take l.claim-index l.new);
+  left : (kept : List Claim) → HoldsClaims l.registry (l.old ++ kept) → first_clash kept l.new ≡ first_clash (kept ++ take l.claim-index l.new) (drop l.claim-index l.new);
 }

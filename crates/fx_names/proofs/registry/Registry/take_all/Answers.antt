@@ -1,13 +1,13 @@
 use Rattle.std.proofs.Common.{◌++◌, take, sym, ap, ◌∙◌, subst}
 use Rattle.std.proofs.lemmas.List.{append-nil, take_all}
 use Rattle.fx_names.specs.Claims.{first_clash}
-use Rattle.fx_names.specs.Holding.{Keeps}
+use Rattle.fx_names.specs.Holding.{HoldsClaims}
 use Rattle.fx_names.proofs.ClaimLists.{longer, first_clash-free}
 use Rattle.fx_names.proofs.registry.Registry.take_all.Goals as goal
 
 pub loop-claim-init : goal.loop-claim-init
 loop-claim-init c = λ kept k free.
-    (subst (Keeps c.args.self.now) (sym (append-nil kept)) k, ap (λ l. first_clash l c.args.claims.now) (append-nil kept) ∙ free)
+    (subst (HoldsClaims c.args.self.now) (sym (append-nil kept)) k, ap (λ l. first_clash l c.args.claims.now) (append-nil kept) ∙ free)
 
 pub loop-claim-preserved : goal.loop-claim-preserved
 loop-claim-preserved c = λ kept k free.
@@ -15,8 +15,8 @@ loop-claim-preserved c = λ kept k free.
     let cs = c.args.claims.now in
     let here = c.loop-claim.invariant kept k free in
     let next = first_clash-free kept cs i c.claim-item.result c.loop-claim-test.true c.claim-item.is here.1 in
-    (subst (Keeps c.take.new.self) (sym (longer kept cs i c.claim-item.result c.loop-claim-test.true c.claim-item.is)) (c.in_ok-take.ensures (kept ++ take i cs) here.0 next.0), next.1)
+    (subst (HoldsClaims c.take.new.self) (sym (longer kept cs i c.claim-item.result c.loop-claim-test.true c.claim-item.is)) (c.in_ok-take.ensures (kept ++ take i cs) here.0 next.0), next.1)
 
 pub returns : goal.returns
 returns c = λ kept k free.
-    subst (λ l. Keeps c.loop-claim.self (kept ++ l)) (take_all c.loop-claim.claim-index c.args.claims.now c.loop-claim-test.false) (c.loop-claim.invariant kept k free).0
+    subst (λ l. HoldsClaims c.loop-claim.self (kept ++ l)) (take_all c.loop-claim.claim-index c.args.claims.now c.loop-claim-test.false) (c.loop-claim.invariant kept k free).0
