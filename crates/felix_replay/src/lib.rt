@@ -7,8 +7,6 @@ mod chains;
 mod driver;
 mod engine;
 #[cfg(test)]
-mod name_tests;
-#[cfg(test)]
 mod refusal_rows;
 #[cfg(test)]
 mod refusal_tests;
@@ -16,6 +14,8 @@ mod refusal_tests;
 mod rule_rows;
 #[cfg(test)]
 mod rule_tests;
+#[cfg(test)]
+mod run_rows;
 mod sending;
 mod stop;
 #[cfg(test)]
