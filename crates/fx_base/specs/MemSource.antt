@@ -1,5 +1,5 @@
 -- What a source over bytes in memory shows of itself.
-use Rattle.std.specs.Prelude.{ℕ, Bool, List, drop}
+use Rattle.std.specs.Prelude.{ℕ, Bool, List, drop, length, min}
 use Rattle.fx_base.specs.declared.memory_source.SureSource.{SureSource}
 use Rattle.fx_base.specs.declared.memory_source.MemSource.{MemSource}
 
@@ -13,6 +13,14 @@ sure_given s = s.at
 abbrev pub sure_at_end : SureSource → Bool
 sure_at_end s = s.ended
 
+-- how many bytes a call gives at most
+abbrev pub sure_piece : SureSource → ℕ
+sure_piece s = s.piece
+
+-- how many bytes a call gives for a buffer of this length, unless it fails
+abbrev pub given_by : SureSource → ℕ → ℕ
+given_by s room = min (min (length (sure_bytes_left s)) room) (sure_piece s)
+
 -- ---- of a source whose failures are listed
 abbrev pub bytes_left : MemSource → List ℕ
 bytes_left s = sure_bytes_left s.inner
@@ -22,6 +30,9 @@ bytes_given s = sure_given s.inner
 
 abbrev pub is_at_end : MemSource → Bool
 is_at_end s = sure_at_end s.inner
+
+abbrev pub piece_of : MemSource → ℕ
+piece_of s = sure_piece s.inner
 
 -- how often it has failed
 abbrev pub fault_count : MemSource → ℕ

@@ -1,7 +1,7 @@
 //! A sink over bytes in memory.
 ghost use Rattle.std.specs.Prelude.{◌≡◌, ◌↔◌, ◌⊎◌, ◌-◌, min, ◌<◌, ◌≤◌, ◌+◌, ◌^◌, ℕ, List, [], length, Option, Some, IfOk, OnOk, OnErr, IsErr, Contains, vec_len, vec_capacity};
 ghost use Rattle.std.specs.Io.KnownBytes.{Appends};
-ghost use Rattle.fx_base.specs.Streams.{HasCause, AppendsPrefix};
+ghost use Rattle.fx_base.specs.Streams.{CountsFaults, HasCause, AppendsPrefix};
 
 use crate::failing::is_next_listed;
 use crate::memory::Memory;
@@ -58,9 +58,10 @@ impl Sink for MemSink {
         ensures err { OnErr result (AppendsPrefix (Some (held_bytes self.old)) (Some (held_bytes self.new)) bytes.now) }
         ensures cause { HasCause (fault_count self.old) (fault_count self.new) result }
 
-        // Exactly the calls that are listed and those that don't fit fail, and they append nothing.
+        // Exactly the calls that are listed and those that don't fit fail. They append nothing, and each is counted.
         ensures listed { IsErr result ↔ (Contains (failing_puts self.old) (call_count self.old + 1) ⊎ (room_of self.old < length (held_bytes self.old) + length bytes.now)) }
         ensures nothing { OnErr result (held_bytes self.new ≡ held_bytes self.old) }
+        ensures counts { CountsFaults (fault_count self.old) (fault_count self.new) result }
         ensures calls { call_count self.new ≡ min (call_count self.old + 1) (2 ^ 64 - 1) }
         ensures same { (failing_puts self.new ≡ failing_puts self.old) × (room_of self.new ≡ room_of self.old) }
     {
