@@ -35,10 +35,10 @@ AfterDot takes high n byte rest v = (more : List ℕ) × (rest ≡ 46 ∷ more) 
 
 some_dotted : (takes : Bool) (n high : ℕ) → (text : List ℕ) × ((v : ℕ × ℕ) × Dotted takes high n text v)
 some_dotted takes zero high =
-    (decimal 0, ((high * 256 + 0, 32), record { number = 0; front = decimal 0; rest = []; whole = sym (append-nil (decimal 0)); is = record { digits = refl; least = omega arith; most = omega arith }; after = (refl, nothing takes) }))
+    (decimal 0, ((high * 256 + 0, 32), record { number = 0; prefix = decimal 0; rest = []; whole = sym (append-nil (decimal 0)); is = record { digits = refl; least = omega arith; most = omega arith }; after = (refl, nothing takes) }))
 some_dotted takes (suc n) high =
     let s = some_dotted takes n (high * 256 + 0) in
-    (decimal 0 ++ 46 ∷ s.0, (s.1.0, record { number = 0; front = decimal 0; rest = 46 ∷ s.0; whole = refl; is = record { digits = refl; least = omega arith; most = omega arith }; after = (s.0, refl, s.1.1) }))
+    (decimal 0 ++ 46 ∷ s.0, (s.1.0, record { number = 0; prefix = decimal 0; rest = 46 ∷ s.0; whole = refl; is = record { digits = refl; least = omega arith; most = omega arith }; after = (s.0, refl, s.1.1) }))
 
 pub last_can : (takes : Bool) (high : ℕ) → CanFollow 0 255 (AfterLast takes high)
 last_can takes high = record {
@@ -135,10 +135,10 @@ fits_next high byte n small some h =
 
 -- ---- four bytes are an address, and what stands behind it
 pub record IsQuad (takes : Bool) (text : List ℕ) (v : ℕ × ℕ) : Type 0 where
-  pub front : List ℕ
+  pub prefix : List ℕ
   pub rest : List ℕ
-  pub written : text ≡ front ++ rest
-  pub address : IsAddress front v.0
+  pub written : text ≡ prefix ++ rest
+  pub address : IsAddress prefix v.0
   pub behind : Behind takes rest v.1
 
 regroup : (a b c d rest : List ℕ) → (a ++ 46 ∷ (b ++ 46 ∷ (c ++ 46 ∷ d))) ++ rest ≡ a ++ 46 ∷ (b ++ 46 ∷ (c ++ 46 ∷ (d ++ rest)))
@@ -151,12 +151,12 @@ module _ (takes : Bool) (text : List ℕ) (v : ℕ × ℕ) where
       let r = q.after.2 in
       let s = r.after.2 in
       let part : (n : ℕ) (f x m t : List ℕ) → t ≡ f ++ x → f ≡ decimal n → x ≡ 46 ∷ m → t ≡ decimal n ++ 46 ∷ m = λ n f x m t w d e. w ∙ (λ i. d i ++ e i) in
-      let w1 = part p.number p.front p.rest p.after.0 text p.whole p.is.digits p.after.1 in
-      let w2 = part q.number q.front q.rest q.after.0 p.after.0 q.whole q.is.digits q.after.1 in
-      let w3 = part r.number r.front r.rest r.after.0 q.after.0 r.whole r.is.digits r.after.1 in
+      let w1 = part p.number p.prefix p.rest p.after.0 text p.whole p.is.digits p.after.1 in
+      let w2 = part q.number q.prefix q.rest q.after.0 p.after.0 q.whole q.is.digits q.after.1 in
+      let w3 = part r.number r.prefix r.rest r.after.0 q.after.0 r.whole r.is.digits r.after.1 in
       let w4 : r.after.0 ≡ decimal s.number ++ s.rest = s.whole ∙ ap (λ (l : List ℕ). l ++ s.rest) s.is.digits in
       record {
-        front = decimal p.number ++ 46 ∷ (decimal q.number ++ 46 ∷ (decimal r.number ++ 46 ∷ decimal s.number));
+        prefix = decimal p.number ++ 46 ∷ (decimal q.number ++ 46 ∷ (decimal r.number ++ 46 ∷ decimal s.number));
         rest = s.rest;
         written = w1 ∙ ap (λ (l : List ℕ). decimal p.number ++ 46 ∷ l) (w2 ∙ ap (λ (l : List ℕ). decimal q.number ++ 46 ∷ l) (w3 ∙ ap (λ (l : List ℕ). decimal r.number ++ 46 ∷ l) w4)) ∙ sym (regroup (decimal p.number) (decimal q.number) (decimal r.number) (decimal s.number) s.rest);
         address = record {
@@ -177,7 +177,7 @@ module _ (takes : Bool) (text : List ℕ) (v : ℕ × ℕ) where
       let num : (n : ℕ) → n < 256 → IsNumber 0 255 (decimal n) n = λ n less. record { digits = refl; least = omega arith; most = omega arith } in
       record {
         number = a.first;
-        front = decimal a.first;
+        prefix = decimal a.first;
         rest = 46 ∷ (decimal a.second ++ 46 ∷ (decimal a.third ++ 46 ∷ (decimal a.fourth ++ h.rest)));
         whole = h.written ∙ ap (λ (l : List ℕ). l ++ h.rest) a.written ∙ regroup (decimal a.first) (decimal a.second) (decimal a.third) (decimal a.fourth) h.rest;
         is = num a.first a.bytes.0;
@@ -186,7 +186,7 @@ module _ (takes : Bool) (text : List ℕ) (v : ℕ × ℕ) where
           refl,
           record {
             number = a.second;
-            front = decimal a.second;
+            prefix = decimal a.second;
             rest = 46 ∷ (decimal a.third ++ 46 ∷ (decimal a.fourth ++ h.rest));
             whole = refl;
             is = num a.second a.bytes.1;
@@ -195,7 +195,7 @@ module _ (takes : Bool) (text : List ℕ) (v : ℕ × ℕ) where
               refl,
               record {
                 number = a.third;
-                front = decimal a.third;
+                prefix = decimal a.third;
                 rest = 46 ∷ (decimal a.fourth ++ h.rest);
                 whole = refl;
                 is = num a.third a.bytes.2;
@@ -204,7 +204,7 @@ module _ (takes : Bool) (text : List ℕ) (v : ℕ × ℕ) where
                   refl,
                   record {
                     number = a.fourth;
-                    front = decimal a.fourth;
+                    prefix = decimal a.fourth;
                     rest = h.rest;
                     whole = refl;
                     is = num a.fourth a.bytes.3;
@@ -217,7 +217,7 @@ module _ (takes : Bool) (text : List ℕ) (v : ℕ × ℕ) where
         );
       }
 
--- ---- what `dotted` answers, where it read a byte at the front of n bytes
+-- ---- what `dotted` answers, where it read a byte at the prefix of n bytes
 module _ (takes : Bool) (high more : ℕ) (text : List ℕ) (n : ℕ) where
   byte_fits : 255 < 2 ^ 16
   byte_fits = lit< tt
@@ -269,15 +269,15 @@ behind_dot text n some dot = after_mark (take (length text - n) (drop n text)) 4
 -- ---- the two forms
 pub address_alike : Alike (Dotted false 0 3) IsAddress (λ v. v.0) (λ a. (a, 32))
 address_alike = record {
-  to = λ text v h. let q = quad_from_dotted false text v h in subst (λ (t : List ℕ). IsAddress t v.0) (sym (append-nil q.front) ∙ ap (λ (l : List ℕ). q.front ++ l) (sym q.behind.0) ∙ sym q.written) q.address;
-  from = λ text a h. dotted_from_quad false text (a, 32) (record { front = text; rest = []; written = sym (append-nil text); address = h; behind = (refl, refl) });
+  to = λ text v h. let q = quad_from_dotted false text v h in subst (λ (t : List ℕ). IsAddress t v.0) (sym (append-nil q.prefix) ∙ ap (λ (l : List ℕ). q.prefix ++ l) (sym q.behind.0) ∙ sym q.written) q.address;
+  from = λ text a h. dotted_from_quad false text (a, 32) (record { prefix = text; rest = []; written = sym (append-nil text); address = h; behind = (refl, refl) });
   back = λ a. refl;
 }
 
 pub cidr_alike : Alike (Dotted true 0 3) IsCidr (λ v. v) (λ v. v)
 cidr_alike = record {
-  to = λ text v h. let q = quad_from_dotted true text v h in record { front = q.front; rest = q.rest; written = q.written; address = q.address; length = q.behind };
-  from = λ text v h. dotted_from_quad true text v (record { front = h.front; rest = h.rest; written = h.written; address = h.address; behind = h.length });
+  to = λ text v h. let q = quad_from_dotted true text v h in record { prefix = q.prefix; rest = q.rest; written = q.written; address = q.address; length = q.behind };
+  from = λ text v h. dotted_from_quad true text v (record { prefix = h.prefix; rest = h.rest; written = h.written; address = h.address; behind = h.length });
   back = λ v. refl;
 }
 

@@ -54,8 +54,8 @@ after_high n [] h = omega arith
 after_high n (c ∷ ys) h = rw (ten (length ys)) (high_step n (digit_value c) (10 ^ length ys) _ h.0 (after_high (n * 10 + digit_value c) ys h.1))
 
 -- a number that begins with the digits of v and has as many more as e
-pub front_bounds : (y v : ℕ) (e : List ℕ) → y < 2 ^ 64 → v < 2 ^ 64 → decimal v ++ e ≡ decimal y → (v * 10 ^ length e ≤ y) × (y + 1 ≤ (v + 1) * 10 ^ length e)
-front_bounds y v e hy hv p =
+pub prefix_bounds : (y v : ℕ) (e : List ℕ) → y < 2 ^ 64 → v < 2 ^ 64 → decimal v ++ e ≡ decimal y → (v * 10 ^ length e ≤ y) × (y + 1 ≤ (v + 1) * 10 ^ length e)
+prefix_bounds y v e hy hv p =
     let one : y ≡ digits_value_after 10 v e =
     sym (decimal_is_IsNumeral y hy).1 ∙ ap (digits_value 10) (sym p) ∙ after-append 0 (decimal v) e ∙ ap (λ (n : ℕ). digits_value_after 10 n e) (decimal_is_IsNumeral v hv).1 in
     let digits : AllDigits 10 e = AllDigits-back (decimal v) e (subst (AllDigits 10) (sym p) (decimal_is_IsNumeral y hy).0.1) in
@@ -64,14 +64,14 @@ front_bounds y v e hy hv p =
     (omega arith, omega arith)
 
 -- every number between the bounds begins so
-pub front_exists : (k y v : ℕ) → 0 < v → v * 10 ^ k ≤ y → y + 1 ≤ (v + 1) * 10 ^ k → y < 2 ^ 64 → (e : List ℕ) × (decimal v ++ e ≡ decimal y)
-front_exists zero y v pos low high fits = ([], append-nil (decimal v) ∙ ap decimal (omega arith))
-front_exists (suc k) y v pos low high fits =
+pub prefix_exists : (k y v : ℕ) → 0 < v → v * 10 ^ k ≤ y → y + 1 ≤ (v + 1) * 10 ^ k → y < 2 ^ 64 → (e : List ℕ) × (decimal v ++ e ≡ decimal y)
+prefix_exists zero y v pos low high fits = ([], append-nil (decimal v) ∙ ap decimal (omega arith))
+prefix_exists (suc k) y v pos low high fits =
     let p = 10 ^ k in
     let a : v * 10 ^ suc k ≡ 10 * (v * p) = ap (λ (n : ℕ). v * n) (ten k) ∙ sym (mul_assoc v 10 p) ∙ swap_ten v p in
     let b : (v + 1) * 10 ^ suc k ≡ 10 * ((v + 1) * p) = ap (λ (n : ℕ). (v + 1) * n) (ten k) ∙ sym (mul_assoc (v + 1) 10 p) ∙ swap_ten (v + 1) p in
     let one : 1 ≤ v * p = one-le-mul (omega arith) (ten_pos k) in
-    let less = front_exists k (y / 10) v pos (omega arith) (omega arith) (omega arith) in
+    let less = prefix_exists k (y / 10) v pos (omega arith) (omega arith) (omega arith) in
     (less.0 ++ (48 + y % 10) ∷ [], sym (append_assoc (decimal v) less.0 _) ∙ ap (λ (l : List ℕ). l ++ (48 + y % 10) ∷ []) less.1 ∙ sym (decimal_step y (omega arith) fits))
   where
     swap_ten : (m q : ℕ) → m * 10 * q ≡ 10 * (m * q)
@@ -104,7 +104,7 @@ begins_at low high v k range fits pos least greatest =
     let p : 1 ≤ 10 ^ k = ten_pos k in
     let e : (v + 1) * 10 ^ k ≡ v * 10 ^ k + 10 ^ k = next_multiple v (10 ^ k) in
     let y = max low (v * 10 ^ k) in
-    let f = front_exists k y v pos (omega arith) (omega arith) (omega arith) in
+    let f = prefix_exists k y v pos (omega arith) (omega arith) (omega arith) in
     (f.0, (y, record { digits = f.1; least = omega arith; most = omega arith }))
   where
     next_multiple : (m q : ℕ) → (m + 1) * q ≡ m * q + q
@@ -115,7 +115,7 @@ begins_none low high v j fits small below past b =
     let n = b.1.1 in
     let y = b.1.0 in
     let k = length b.0 in
-    let range : (v * 10 ^ k ≤ y) × (y + 1 ≤ (v + 1) * 10 ^ k) = front_bounds y v b.0 (omega (arith, n.most)) small n.digits in
+    let range : (v * 10 ^ k ≤ y) × (y + 1 ≤ (v + 1) * 10 ^ k) = prefix_bounds y v b.0 (omega (arith, n.most)) small n.digits in
     elim (cases_lt k j) [
       | inl less ↦ absurd (omega (arith, below k less, n.least, range.1))
       | inr more ↦
@@ -165,7 +165,7 @@ pub begins_within : (low high v : ℕ) → high < 2 ^ 16 → v < 2 ^ 64 → Begi
 begins_within low high v fits small b =
     let n = b.1.1 in
     let y = b.1.0 in
-    let range : (v * 10 ^ length b.0 ≤ y) × (y + 1 ≤ (v + 1) * 10 ^ length b.0) = front_bounds y v b.0 (omega (arith, n.most)) small n.digits in
+    let range : (v * 10 ^ length b.0 ≤ y) × (y + 1 ≤ (v + 1) * 10 ^ length b.0) = prefix_bounds y v b.0 (omega (arith, n.most)) small n.digits in
     let least : v * 1 ≤ v * 10 ^ length b.0 = mul-le-mul_left v (ten_pos (length b.0)) in
     omega (arith, n.most, range.0)
 
@@ -197,6 +197,6 @@ first_digit c h = decimal_digit (c - 48) (omega arith) ∙ ap (λ (n : ℕ). n �
 
 pub next_digit : (v c : ℕ) → IsInRange 48 57 c → 0 < v → v < 2 ^ 20 → decimal (v * 10 + (c - 48)) ≡ decimal v ++ c ∷ []
 next_digit v c h pos fits =
-    let front : (v * 10 + (c - 48)) / 10 ≡ v = omega arith in
+    let prefix : (v * 10 + (c - 48)) / 10 ≡ v = omega arith in
     let last : 48 + (v * 10 + (c - 48)) % 10 ≡ c = omega arith in
-    decimal_step (v * 10 + (c - 48)) (omega arith) (omega arith) ∙ (λ i. decimal (front i) ++ last i ∷ [])
+    decimal_step (v * 10 + (c - 48)) (omega arith) (omega arith) ∙ (λ i. decimal (prefix i) ++ last i ∷ [])

@@ -28,8 +28,8 @@ leaves_here Form text n g out = record {
 }
 
 module _ (low high : ℕ) (small : high < 2 ^ 16) where
-  one_value : (x y : ℕ) (front text : List ℕ) → front ≡ text → IsNumber low high front x → IsNumber low high text y → y ≡ x
-  one_value x y front text e a b = decimal_injective y x (omega (arith, b.most)) (omega (arith, a.most)) (sym b.digits ∙ sym e ∙ a.digits)
+  one_value : (x y : ℕ) (prefix text : List ℕ) → prefix ≡ text → IsNumber low high prefix x → IsNumber low high text y → y ≡ x
+  one_value x y prefix text e a b = decimal_injective y x (omega (arith, b.most)) (omega (arith, a.most)) (sym b.digits ∙ sym e ∙ a.digits)
 
   pub means_number : (text : List ℕ) (n x : ℕ) → length text ≤ n → IsNumber low high (take n text) x → Means (IsNumber low high) text x
   means_number text n x all a =
@@ -121,9 +121,9 @@ module _ (low high : ℕ) (small : high < 2 ^ 16) where
       ∙ same_byte text w d r k m refl (omega arith) fits p in
       stop (subst (IsInRange 48 57) same (digit_at (decimal z) k (decimal_is_IsNumeral z short).0.1 long))
 
-  -- a front of a number and of the text
-  shared_front : (text w d r : List ℕ) (t m y : ℕ) → IsNumber low high d y → m ≤ length text → take m text ++ w ≡ d ++ r → t ≤ m → t ≤ length d → Begins (IsNumber low high) (take t text)
-  shared_front text w d r t m y num fits p a b =
+  -- a prefix of a number and of the text
+  shared_prefix : (text w d r : List ℕ) (t m y : ℕ) → IsNumber low high d y → m ≤ length text → take m text ++ w ≡ d ++ r → t ≤ m → t ≤ length d → Begins (IsNumber low high) (take t text)
+  shared_prefix text w d r t m y num fits p a b =
       let long : t ≤ length (take m text) = omega (arith, length-take-le m text fits) in
       let e : take t text ≡ take t d = sym (take-take t m text a) ∙ sym (take-append-le t (take m text) w long) ∙ ap (take t) p ∙ take-append-le t d r b in
       (drop t d, (y, subst (λ (l : List ℕ). IsNumber low high l y) (sym (ap (λ (l : List ℕ). l ++ drop t d) e ∙ take-append-drop t d)) num))
@@ -132,7 +132,7 @@ module _ (low high : ℕ) (small : high < 2 ^ 16) where
   ends_there : (text w d r : List ℕ) (n m y : ℕ) → IsNumber low high d y → IsStop r → GoesTo (IsNumber low high) text n → (n < m) ⊎ (length d ≤ m) → n ≤ m → m ≤ length text → take m text ++ w ≡ d ++ r → length d ≡ n
   ends_there text w d r n m y num stop g past below fits p =
       let t = min m (length d) in
-      let most : t ≤ n = g.furthest t (omega arith) (shared_front text w d r t m y num fits p (omega arith) (omega arith)) in
+      let most : t ≤ n = g.furthest t (omega arith) (shared_prefix text w d r t m y num fits p (omega arith) (omega arith)) in
       let least : ¬ (length d < n) = no_shorter text w d r n m y num stop below fits p g.begins in
       elim past [ inl more ↦ omega arith | inr inside ↦ omega arith ]
 
@@ -159,8 +159,8 @@ module _ (low high : ℕ) (small : high < 2 ^ 16) where
     -- what follows, where the number was read
     follows : (text : List ℕ) (n x : ℕ) (value : A) → IsNumber low high (take n text) x → GoesTo (IsNumber low high) text n → NumberThen low high After text value → After x (drop n text) value
     follows text n x value a g h =
-        let s = split_whole text h.front h.rest n h.number h.is (stop_of text value h) g h.whole in
-        let same : h.number ≡ x = one_value low high small x h.number (take n text) h.front (sym s.0) a h.is in
+        let s = split_whole text h.prefix h.rest n h.number h.is (stop_of text value h) g h.whole in
+        let same : h.number ≡ x = one_value low high small x h.number (take n text) h.prefix (sym s.0) a h.is in
         subst (λ (l : List ℕ). After x l value) s.1 (subst (λ (y : ℕ). After y h.rest value) same h.after)
 
     further : (text : List ℕ) (n x : ℕ) → IsNumber low high (take n text) x → GoesTo (IsNumber low high) text n → (m : ℕ) → m ≤ length text → n < m → Begins (NumberThen low high After) (take m text) → Begins (After x) (take (m - n) (drop n text))
@@ -168,9 +168,9 @@ module _ (low high : ℕ) (small : high < 2 ^ 16) where
         let value = b.1.0 in
         let h = b.1.1 in
         let stop : IsStop h.rest = stop_of (take m text ++ b.0) value h in
-        let long : length h.front ≡ n = ends_there text b.0 h.front h.rest n m h.number h.is stop g (inl past) (omega arith) fits h.whole in
-        let s = split text b.0 h.front h.rest n m long (omega arith) fits h.whole in
-        let same : h.number ≡ x = one_value low high small x h.number (take n text) h.front (sym s.0) a h.is in
+        let long : length h.prefix ≡ n = ends_there text b.0 h.prefix h.rest n m h.number h.is stop g (inl past) (omega arith) fits h.whole in
+        let s = split text b.0 h.prefix h.rest n m long (omega arith) fits h.whole in
+        let same : h.number ≡ x = one_value low high small x h.number (take n text) h.prefix (sym s.0) a h.is in
         let sum : n + (m - n) ≡ m = omega arith in
         let rest : drop n (take m text) ≡ take (m - n) (drop n text) = ap (λ (i : ℕ). drop n (take i text)) (sym sum) ∙ drop-take n (m - n) text in
         let left : h.rest ≡ take (m - n) (drop n text) ++ b.0 = s.1 ∙ ap (λ (l : List ℕ). l ++ b.0) rest in
@@ -178,7 +178,7 @@ module _ (low high : ℕ) (small : high < 2 ^ 16) where
 
     pub then_value : (text : List ℕ) (n x : ℕ) (value : A) → IsNumber low high (take n text) x → GoesTo (IsNumber low high) text n → Means (After x) (drop n text) value → Means (NumberThen low high After) text value
     then_value text n x value a g m = record {
-      is = record { number = x; front = take n text; rest = drop n text; whole = sym (take-append-drop n text); is = a; after = m.is };
+      is = record { number = x; prefix = take n text; rest = drop n text; whole = sym (take-append-drop n text); is = a; after = m.is };
       only = λ other h. m.only other (follows text n x other a g h);
     }
 
@@ -190,7 +190,7 @@ module _ (low high : ℕ) (small : high < 2 ^ 16) where
         begins =
             let b = m.goes.begins in
             let whole : take (n + j) text ++ b.0 ≡ take n text ++ (take j (drop n text) ++ b.0) = ap (λ (l : List ℕ). l ++ b.0) (take-add n j text) ∙ append_assoc (take n text) (take j (drop n text)) b.0 in
-            (b.0, (b.1.0, record { number = x; front = take n text; rest = take j (drop n text) ++ b.0; whole = whole; is = a; after = b.1.1 }));
+            (b.0, (b.1.0, record { number = x; prefix = take n text; rest = take j (drop n text) ++ b.0; whole = whole; is = a; after = b.1.1 }));
         furthest = λ i fits b. elim (cases_lt n i) [
           | inl past ↦ let inside : i - n ≤ j = m.goes.furthest (i - n) (omega (arith, length-drop n text)) (further text n x a g i fits past b) in omega arith
           | inr before ↦ omega arith
@@ -201,20 +201,20 @@ module _ (low high : ℕ) (small : high < 2 ^ 16) where
     pub then_none : (text : List ℕ) (n : ℕ) → GoesTo (IsNumber low high) text n → ¬ IsIn (IsNumber low high) (take n text) → Leaves (NumberThen low high After) text n
     then_none text n g out = record {
       none = λ value h.
-          let s = split_whole text h.front h.rest n h.number h.is (stop_of text value h) g h.whole in
+          let s = split_whole text h.prefix h.rest n h.number h.is (stop_of text value h) g h.whole in
           out (h.number, subst (λ (l : List ℕ). IsNumber low high l h.number) s.0 h.is);
       goes = record {
         within = g.within;
         begins =
             let b = g.begins in
             let f = can.some b.1.0 b.1.1.least b.1.1.most in
-            (b.0 ++ f.0, (f.1.0, record { number = b.1.0; front = take n text ++ b.0; rest = f.0; whole = sym (append_assoc (take n text) b.0 f.0); is = b.1.1; after = f.1.1 }));
+            (b.0 ++ f.0, (f.1.0, record { number = b.1.0; prefix = take n text ++ b.0; rest = f.0; whole = sym (append_assoc (take n text) b.0 f.0); is = b.1.1; after = f.1.1 }));
         furthest = λ i fits b. elim (cases_lt n i) [
           | inl past ↦
               let h = b.1.1 in
               let stop : IsStop h.rest = stop_of (take i text ++ b.0) b.1.0 h in
-              let long : length h.front ≡ n = ends_there text b.0 h.front h.rest n i h.number h.is stop g (inl past) (omega arith) fits h.whole in
-              let s = split text b.0 h.front h.rest n i long (omega arith) fits h.whole in
+              let long : length h.prefix ≡ n = ends_there text b.0 h.prefix h.rest n i h.number h.is stop g (inl past) (omega arith) fits h.whole in
+              let s = split text b.0 h.prefix h.rest n i long (omega arith) fits h.whole in
               absurd (out (h.number, subst (λ (l : List ℕ). IsNumber low high l h.number) s.0 h.is))
           | inr before ↦ before
         ];

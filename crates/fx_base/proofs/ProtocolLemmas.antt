@@ -19,7 +19,7 @@ shared_more text name at a b same e =
 -- a byte of a text that is the name
 same_letter : (text name : List ℕ) (n m : ℕ) (rest : List ℕ) → n < m → m ≤ length text → str_to_ascii_lowercase (take m text ++ rest) ≡ name → (n < length name) × (to_ascii_lowercase (get_or text n 0) ≡ get_or name n 0)
 same_letter text name n m rest less fits e =
-    let front : length (take m text) ≡ m = length-take-le m text fits in
+    let prefix : length (take m text) ≡ m = length-take-le m text fits in
     let whole : n < length (take m text ++ rest) = omega (arith, length-append (take m text) rest) in
     let inside : n < length (take m text) = omega arith in
     let long : length (take m text ++ rest) ≡ length name = sym (length-map (take m text ++ rest) to_ascii_lowercase) ∙ ap length e in (

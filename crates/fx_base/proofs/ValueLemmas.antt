@@ -86,7 +86,7 @@ module _ (absent mark low high : ℕ) (small : high < 2 ^ 16) where
   pub optional_computes : Computes (IsOptional absent mark low high) (optional_of absent mark low high)
   optional_computes = record { to = optional_to; from = optional_from }
 
--- ---- the digits at the front
+-- ---- the digits at the prefix
 is_no_digit : (c : ℕ) → ¬ IsInRange 48 57 c → is_digit c ≡ false
 is_no_digit c other = elim (leb_tells 48 c) [
   | inl low ↦ elim (leb_tells c 57) [ inl high ↦ absurd (other (low.1, high.1)) | inr past ↦ λ i. low.0 i && past.0 i ]
@@ -105,11 +105,11 @@ module _ {A : Type 0} (low high : ℕ) (small : high < 2 ^ 16) (After : ℕ → 
   then_to : (text : List ℕ) (v : A) → NumberThen low high After text v → number_then_of low high after text ≡ Some v
   then_to text v h =
       let fits : h.number < 2 ^ 64 = omega (arith, h.is.most) in
-      let digits : AllDigits 10 h.front = subst (AllDigits 10) (sym h.is.digits) (decimal_is_IsNumeral h.number fits).0.1 in
-      let n : prefix_len is_digit text ≡ length h.front = ap (prefix_len is_digit) h.whole ∙ digits_run h.front h.rest digits (can.stops h.number h.rest v h.after) in
-      let front : take (prefix_len is_digit text) text ≡ h.front = (λ i. take (n i) (h.whole i)) ∙ take_at h.front h.rest (length h.front) refl in
-      let rest : drop (prefix_len is_digit text) text ≡ h.rest = (λ i. drop (n i) (h.whole i)) ∙ drop_at h.front h.rest (length h.front) refl in
-      let is : number_of low high (take (prefix_len is_digit text) text) ≡ Some h.number = ap (number_of low high) front ∙ (number_computes low high small).to h.front h.number h.is in
+      let digits : AllDigits 10 h.prefix = subst (AllDigits 10) (sym h.is.digits) (decimal_is_IsNumeral h.number fits).0.1 in
+      let n : prefix_len is_digit text ≡ length h.prefix = ap (prefix_len is_digit) h.whole ∙ digits_run h.prefix h.rest digits (can.stops h.number h.rest v h.after) in
+      let prefix : take (prefix_len is_digit text) text ≡ h.prefix = (λ i. take (n i) (h.whole i)) ∙ take_at h.prefix h.rest (length h.prefix) refl in
+      let rest : drop (prefix_len is_digit text) text ≡ h.rest = (λ i. drop (n i) (h.whole i)) ∙ drop_at h.prefix h.rest (length h.prefix) refl in
+      let is : number_of low high (take (prefix_len is_digit text) text) ≡ Some h.number = ap (number_of low high) prefix ∙ (number_computes low high small).to h.prefix h.number h.is in
       ap (option_and_then (λ number. after number (drop (prefix_len is_digit text) text))) is ∙ ap (after h.number) rest ∙ (afters h.number).to h.rest v h.after
 
   then_from : (text : List ℕ) (v : A) → number_then_of low high after text ≡ Some v → NumberThen low high After text v
@@ -118,7 +118,7 @@ module _ {A : Type 0} (low high : ℕ) (small : high < 2 ^ 16) (After : ℕ → 
       let c = chained (λ number. after number (drop n text)) (number_of low high (take n text)) v e in
       record {
         number = c.0;
-        front = take n text;
+        prefix = take n text;
         rest = drop n text;
         whole = sym (take-append-drop n text);
         is = (number_computes low high small).from (take n text) c.0 c.1;

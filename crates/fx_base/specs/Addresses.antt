@@ -17,10 +17,10 @@ pub record IsAddress (text : List ℕ) (value : ℕ) : Type 0 where
 
 -- an address and its length in bits, which is 32 where none is written
 pub record IsCidr (text : List ℕ) (value : ℕ × ℕ) : Type 0 where
-  pub front : List ℕ
+  pub prefix : List ℕ
   pub rest : List ℕ
-  pub written : text ≡ front ++ rest
-  pub address : IsAddress front value.0
+  pub written : text ≡ prefix ++ rest
+  pub address : IsAddress prefix value.0
   pub length : IsOptional 32 47 0 32 rest value.1
 
 -- the address with its bits behind the first ones cleared

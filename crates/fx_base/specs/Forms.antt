@@ -8,9 +8,9 @@ IsIn {A = A} Form text = (value : A) × Form text value
 
 -- a text with which some text of the form begins
 abbrev pub Begins : {A : Type 0} → (List ℕ → A → Type 0) → List ℕ → Type 0
-Begins Form front = (rest : List ℕ) × IsIn Form (front ++ rest)
+Begins Form prefix = (rest : List ℕ) × IsIn Form (prefix ++ rest)
 
--- the longest front of the text with which some text of the form begins has this length
+-- the longest prefix of the text with which some text of the form begins has this length
 pub record GoesTo {A : Type 0} (Form : List ℕ → A → Type 0) (text : List ℕ) (at : ℕ) : Type 0 where
   pub within : at ≤ length text
   pub begins : Begins Form (take at text)
@@ -43,10 +43,10 @@ IsOptional absent mark low high text value = ((text ≡ []) × (value ≡ absent
 -- a number of a range, and what follows it by its value
 pub record NumberThen {A : Type 0} (low high : ℕ) (Then : ℕ → List ℕ → A → Type 0) (text : List ℕ) (value : A) : Type 0 where
   pub number : ℕ
-  pub front : List ℕ
+  pub prefix : List ℕ
   pub rest : List ℕ
-  pub whole : text ≡ front ++ rest
-  pub is : IsNumber low high front number
+  pub whole : text ≡ prefix ++ rest
+  pub is : IsNumber low high prefix number
   pub after : Then number rest value
 
 -- the digits that were read so far

@@ -37,9 +37,9 @@ impl ChainName {
         ensures { result ≡ prefix.now ++ rest.now }
     {
         let mut held = [0; 28];
-        let (front, back) = held.split_at_mut(prefix.len());
-        front.copy_from_slice(prefix);
-        back[..rest.len()].copy_from_slice(rest);
+        let (head, tail) = held.split_at_mut(prefix.len());
+        head.copy_from_slice(prefix);
+        tail[..rest.len()].copy_from_slice(rest);
         ChainName {
             held,
             len: (prefix.len() + rest.len()) as u8,

@@ -8,7 +8,7 @@ pub struct Memory;
 /// A text isn't in the form that was asked for.
 #[derive(Clone, Copy, Debug, PartialEq, Eq)]
 pub struct BadText {
-    /// The length of the text's longest front with which some text of the form begins.
+    /// The length of the text's longest prefix with which some text of the form begins.
     pub at: u32,
 }
 

@@ -1,4 +1,4 @@
-//! Decimal numbers at the front of a text.
+//! Decimal numbers at the prefix of a text.
 ghost use Rattle.std.specs.Prelude.{◌≡◌, ◌↔◌, ◌≤◌, ◌<◌, ◌^◌, ◌∷◌, ◌++◌, [], IsTrue, IfOk, IfErr, IfSome, IfNone, take, length};
 ghost use Rattle.std.specs.Fmt.{decimal};
 ghost use Rattle.fx_base.specs.Forms.{Begins, GoesTo, IsIn, IsNumber, IsOptional, Reads, digits_of};
@@ -60,8 +60,8 @@ fn longer(read: Option<u32>, digit: u8, low: u32, high: u32) -> Option<u32>
     }
 }
 
-/// The longest front of the text with which some number of the range begins, where it is such a number: the number and
-/// its length, and else the front's length.
+/// The longest prefix of the text with which some number of the range begins, where it is such a number: the number and
+/// its length, and else the prefix's length.
 pub(crate) fn number(text: &[u8], low: u32, high: u32) -> Result<(u32, usize), usize>
     requires range { (low ≤ high) × (high < 2 ^ 16) }
     ensures ok { IfOk result (λ found. IsNumber low high (take found.1 text.now) found.0 × GoesTo (IsNumber low high) text.now found.1) }

@@ -62,7 +62,7 @@ fn named(text: &[u8], name: &[u8], number: u8) -> Result<u8, usize>
     }
 }
 
-/// How many bytes the text and the name share at their fronts.
+/// How many bytes the text and the name share at their beginnings.
 fn shared(text: &[u8], name: &[u8]) -> usize
     ensures within { (result ≤ length text.now) × (result ≤ length name.now) }
     ensures same { str_to_ascii_lowercase (take result text.now) ≡ take result name.now }
