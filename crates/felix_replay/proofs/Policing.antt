@@ -28,7 +28,7 @@ use Rattle.fx_model.proofs.ClaimsApart.{clash_free_after, clash_free_none}
 use Rattle.fx_model.proofs.FormedLemmas.{are_formed-after}
 use Rattle.fx_model.proofs.Leading.{ranked-tables}
 use Rattle.fx_model.proofs.ViewClosed.{view_of-closed}
-use Rattle.fx_walk.proofs.Agree.{policy_is_kept, traced_decides, run_has_one_end}
+use Rattle.fx_walk.proofs.Agree.{policy_is_kept, traced_decides, run_has_one_end, walk_is_run}
 use Rattle.fx_walk.proofs.Families.{first_there}
 use Rattle.fx_walk.proofs.Servable.{lone_local}
 use Rattle.fx_walk.proofs.Walks.{ended-run, one-end}
@@ -46,7 +46,8 @@ use Rattle.felix_replay.specs.declared.engine.Engine.{Engine}
 use Rattle.felix_replay.specs.Run.{state_after}
 use Rattle.felix_replay.specs.PacketRuns.{nothing_traced, packet_run, packet_text}
 use Rattle.felix_replay.specs.Output.{State, start, is_second_local, unless_taken, checked, accepted, answer_of, after_answer, next, answer_text}
-use Rattle.felix_replay.specs.Policed.{TellsPolicy, KeepsPolicy}
+use Rattle.felix_replay.specs.Policed.{TellsRun, PathsAreRuns, TellsPolicy, KeepsPolicy}
+use Rattle.felix_replay.proofs.ClosingLemmas.{run_closed}
 use Rattle.felix_replay.proofs.EmptyView.{start-formed}
 use Rattle.felix_replay.proofs.Lone.{lone-after}
 
@@ -91,7 +92,7 @@ start-safe dg node = record {
   free = clash_free_none dg (start dg node).resources refl refl;
 }
 
-untaken-safe : (s : State) → IsSafe s.digest s.resources → (u : Update) → is_formed u ≡ true → is_second_local s.resources u ≡ false → (o : Option Clash) → clash s.digest s.resources u ≡ o → IsSafe s.digest (step s (unless_taken o u)).resources
+untaken-safe : (s : State) → IsSafe s.digest s.resources → (u : Update) → is_formed u ≡ true → is_second_local s.resources u ≡ false → (o : Option Clash) → clash s.digest s.resources u ≡ o → IsSafe s.digest (after_answer s (unless_taken o u)).resources
 untaken-safe s safe u formed first (Some c) is = safe
 untaken-safe s safe u formed first None is = record {
   formed = are_formed-after s.resources safe.formed u formed;
@@ -99,11 +100,11 @@ untaken-safe s safe u formed first None is = record {
   free = clash_free_after s.digest s.resources u formed safe.free is;
 }
 
-updated-safe : (s : State) → IsSafe s.digest s.resources → (u : Update) → is_formed u ≡ true → (b : Bool) → is_second_local s.resources u ≡ b → IsSafe s.digest (step s (if b then Err (Read (Unsupported (codes "spec.node"))) else unless_taken (clash s.digest s.resources u) u)).resources
+updated-safe : (s : State) → IsSafe s.digest s.resources → (u : Update) → is_formed u ≡ true → (b : Bool) → is_second_local s.resources u ≡ b → IsSafe s.digest (after_answer s (if b then Err (Read (Unsupported (codes "spec.node"))) else unless_taken (clash s.digest s.resources u) u)).resources
 updated-safe s safe u formed true is = safe
 updated-safe s safe u formed false is = untaken-safe s safe u formed is (clash s.digest s.resources u) refl
 
-stepped-safe : (s : State) → IsSafe s.digest s.resources → (said : Result Command Refusal) → IfOk said (λ c. is_formed_command c ≡ true) → IsSafe s.digest (step s (checked s.digest s.resources said)).resources
+stepped-safe : (s : State) → IsSafe s.digest s.resources → (said : Result Command Refusal) → IfOk said (λ c. is_formed_command c ≡ true) → IsSafe s.digest (after_answer s (checked s.digest s.resources said)).resources
 stepped-safe s safe (Ok command.Blank) formed = safe
 stepped-safe s safe (Ok command.Tables) formed = safe
 stepped-safe s safe (Ok command.Flush) formed = safe
@@ -132,28 +133,48 @@ unfolding state_after
 along-safe s [] safe = safe
 along-safe s (line ∷ lines) safe = along-safe (next s line) lines (next-safe s safe line)
 
+-- ---- the run of a packet
+
+-- the walk that the text is made from is the machine's run
+told_run : (s : State) → IsClosedView s.sent → (line : List ℕ) (a : Packet) → answer_of s line ≡ Ok (command.Packet a) → TellsRun s line a
+told_run s closed line a said =
+    let run : Ended Trace = packet_run (tables_of s.sent) a in
+    record {
+      path = (noted_in run).hops;
+      verdict = verdict_of run;
+      egress = (noted_in run).reasons.egress;
+      ingress = (noted_in run).reasons.ingress;
+      run = walk_is_run (tables_of s.sent) a [] (ranked-tables s.sent closed);
+      output = ap (answer_text s) said;
+    }
+
+pub paths_are_runs : (dg : Digest) (node : List ℕ) → PathsAreRuns dg node
+paths_are_runs dg node lines line a said = told_run (state_after next (start dg node) lines) (run_closed dg node lines) line a said
+
 -- ---- after a flush
 
-told_policy : (s : State) → IsSafe s.digest s.resources → (line : List ℕ) (a : Packet) → answer_of s line ≡ Ok (command.Packet a) → a.state ≡ New → s.sent ≡ view_of s.digest s.resources → TellsPolicy s line a
-told_policy s safe line a said new same =
-    let run : Ended Trace = packet_run (tables_of s.sent) a in
-    let noted : Trace = noted_in run in
+-- the run comes to what the policy reference says
+told_policy : (s : State) → IsSafe s.digest s.resources → IsClosedView s.sent → (line : List ℕ) (a : Packet) → answer_of s line ≡ Ok (command.Packet a) → a.state ≡ New → s.sent ≡ view_of s.digest s.resources → TellsPolicy s line a
+told_policy s safe closed line a said new same =
+    let r : TellsRun s line a = told_run s closed line a said in
     let answer : Outcome = packet_verdict s.resources a in
-    let ranked : IsRanked (tables_of s.sent).chains = subst (λ (v : View). IsRanked (tables_of v).chains) (sym same) (ranked-tables (view_of s.digest s.resources) (view_of-closed s.digest s.resources)) in
-    let traces : Traces (tables_of s.sent) a [] noted.hops (verdict_of run) noted.reasons.egress noted.reasons.ingress =
-    (noted.reasons.side, ended-run hops_and_reasons (holds (tables_of s.sent).sets a) (tables_of s.sent).chains ranked nothing_traced) in
-    let decides : Decides (tables_of s.sent) a (verdict_of run) noted.reasons.egress noted.reasons.ingress =
-    traced_decides (tables_of s.sent) a ranked [] noted.hops (verdict_of run) noted.reasons.egress noted.reasons.ingress traces in
+    let decides : Decides (tables_of s.sent) a r.verdict r.egress r.ingress =
+    traced_decides (tables_of s.sent) a (ranked-tables s.sent closed) [] r.path r.verdict r.egress r.ingress r.run in
     let wanted : Decides (tables_of s.sent) a answer.verdict answer.egress answer.ingress =
     subst (λ (v : View). Decides (tables_of v) a answer.verdict answer.egress answer.ingress) (sym same) (policy_is_kept s.digest s.resources a (lone_local s.digest s.resources safe.formed safe.lone safe.free) new) in
-    let one = run_has_one_end (tables_of s.sent) a (verdict_of run) answer.verdict noted.reasons.egress answer.egress noted.reasons.ingress answer.ingress decides wanted in
+    let one = run_has_one_end (tables_of s.sent) a r.verdict answer.verdict r.egress answer.egress r.ingress answer.ingress decides wanted in
     record {
-      path = noted.hops;
-      told = ap (answer_text s) said
-          ∙ ap (λ (v : Verdict). concat (packet_lines noted.hops a.iface_in a.iface_out noted.reasons.egress noted.reasons.ingress v)) one.0
-          ∙ ap (λ (e : Option Reason). concat (packet_lines noted.hops a.iface_in a.iface_out e noted.reasons.ingress answer.verdict)) one.1
-          ∙ ap (λ (i : Option Reason). concat (packet_lines noted.hops a.iface_in a.iface_out answer.egress i answer.verdict)) one.2;
+      path = r.path;
+      run =
+          subst (λ i. Traces (tables_of s.sent) a [] r.path answer.verdict answer.egress i) one.2
+          (subst (λ e. Traces (tables_of s.sent) a [] r.path answer.verdict e r.ingress) one.1
+          (subst (λ v. Traces (tables_of s.sent) a [] r.path v r.egress r.ingress) one.0 r.run));
+      output = r.output
+          ∙ ap (λ (v : Verdict). concat (packet_lines r.path a.iface_in a.iface_out r.egress r.ingress v)) one.0
+          ∙ ap (λ (e : Option Reason). concat (packet_lines r.path a.iface_in a.iface_out e r.ingress answer.verdict)) one.1
+          ∙ ap (λ (i : Option Reason). concat (packet_lines r.path a.iface_in a.iface_out answer.egress i answer.verdict)) one.2;
     }
 
 pub keeps_policy : (dg : Digest) (node : List ℕ) → KeepsPolicy dg node
-keeps_policy dg node lines line a said new same = told_policy (state_after next (start dg node) lines) (along-safe (start dg node) lines (start-safe dg node)) line a said new same
+keeps_policy dg node lines line a said new same =
+    told_policy (state_after next (start dg node) lines) (along-safe (start dg node) lines (start-safe dg node)) (run_closed dg node lines) line a said new same

@@ -9,7 +9,7 @@ ghost use Rattle.std.specs.List.{AllByRecursion};
 ghost use Rattle.fx_lines.specs.Lines.{lines_of};
 ghost use Rattle.felix_replay.specs.Output.{output, start};
 ghost use Rattle.felix_replay.specs.Closing.{IsWhole, views_along};
-ghost use Rattle.felix_replay.specs.Policed.{KeepsPolicy};
+ghost use Rattle.felix_replay.specs.Policed.{KeepsPolicy, PathsAreRuns};
 
 use crate::engine::Engine;
 use crate::stop::Stop;
@@ -35,7 +35,7 @@ pub enum Status {
 /// The words are those after the program's name: `--node` and a name of 1 to 253 bytes of `[A-Za-z0-9_.]` and, behind the
 /// first, `-`. A line is a JSON object with one member; each output line is written with its newline by one put. Names in the
 /// kernel that are too long are made by the namer's digest rule.
-#[tactic(auto, using(fx_base::proofs::AtKey::reads, crate::proofs::ClosingLemmas::run_stays_whole, crate::proofs::Policing::keeps_policy))]
+#[tactic(auto, using(fx_base::proofs::AtKey::reads, crate::proofs::ClosingLemmas::run_stays_whole, crate::proofs::Policing::keeps_policy, crate::proofs::Policing::paths_are_runs))]
 pub fn felix_replay<S: Source, K: Sink, R: DigestRule, F: DigestFunction<R> + Drop>(
     alloc: Global,
     words: &[Text],
@@ -58,6 +58,9 @@ pub fn felix_replay<S: Source, K: Sink, R: DigestRule, F: DigestFunction<R> + Dr
 
     // After each single message nothing that is named is missing, in the sent view and in its tables.
     ensures closed { (input : List ℕ) → AllByRecursion IsWhole (views_along (start R.digest_of (node_name words.now)) (lines_of input)) }
+
+    // A packet's line tells the path, the reasons and the verdict of the machine's run over the tables of what was sent.
+    ensures path { PathsAreRuns R.digest_of (node_name words.now) }
 
     // A line with a first packet is answered as the policy reference says, where each accepted update was flushed.
     ensures policy { KeepsPolicy R.digest_of (node_name words.now) }

@@ -10,6 +10,7 @@ use Rattle.fx_model.specs.Machine.{holds, Reasons, Trace, nothing_noted, last_re
 use Rattle.fx_model.specs.Walk.{Ended, Accepted, Dropped, Left, Through, verdict_of, noted_in, over_chain}
 use Rattle.fx_model.specs.Policy.{Outcome}
 use Rattle.fx_model.specs.ViewPolicy.{TablesAgree, IsPolicyAnswer, PolicyIsKept}
+use Rattle.fx_walk.specs.PacketPaths.{WalkIsRun, PacketHasOnePath, first_walk}
 use Rattle.fx_model.proofs.Leading.{ranked-tables}
 use Rattle.fx_model.proofs.ViewClosed.{view_of-closed}
 use Rattle.fx_walk.proofs.Walks.{ended-run, one-end}
@@ -22,6 +23,21 @@ pub run_has_one_end : RunHasOneEnd
 run_has_one_end tables a v w e f i j x y =
     let q = one-end {S = Reasons} last_reason (holds tables.sets a) tables.chains x.1 y.1 in
     (q.0, ap (λ (s : Reasons). s.egress) q.1, ap (λ (s : Reasons). s.ingress) q.1)
+
+pub walk_is_run : WalkIsRun
+walk_is_run tables a before ranked =
+    let start : Trace = record { hops = before; reasons = nothing_noted } in
+    let e : Ended Trace = first_walk tables a before in
+    ((noted_in e).reasons.side, ended-run hops_and_reasons (holds tables.sets a) tables.chains ranked start)
+
+pub one_path : PacketHasOnePath
+one_path tables a before after other v w e f i j x y =
+    let q = one-end {S = Trace} hops_and_reasons (holds tables.sets a) tables.chains x.1 y.1 in (
+      ap (λ (t : Trace). t.hops) q.1,
+      q.0,
+      ap (λ (t : Trace). t.reasons.egress) q.1,
+      ap (λ (t : Trace). t.reasons.ingress) q.1,
+    )
 
 pub tables_agree : TablesAgree
 tables_agree v a closed on formed new = machine_agrees a v (tables_of v).chains (tables_render v) formed new on (ranked-tables v closed)

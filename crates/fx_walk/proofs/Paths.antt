@@ -8,7 +8,7 @@ use Rattle.fx_model.specs.declared.chain.ChainRule.{ChainRule}
 use Rattle.fx_model.specs.Tables.{ChainName, Chains}
 use Rattle.fx_model.specs.Machine.{Test, Trace, hops_and_reasons, is_shown, hold_all, rules_in}
 use Rattle.fx_model.specs.Walk.{Onward, Ended, Accepted, Dropped, Left, Through, onward, obeyed, after_jump, after_goto, over_rule, over_rules, over_chain}
-use Rattle.fx_walk.specs.Stops.{hops_in, IsCut}
+use Rattle.fx_walk.specs.WalkEnds.{hops_in, IsPathPrefix}
 use Rattle.fx_walk.proofs.Walks.{rule_hit, rule_miss}
 
 abbrev pub Extends : List (ChainName × ℕ) → List (ChainName × ℕ) → Type 0
@@ -80,13 +80,13 @@ module _ (test : Test) where
   chain_grows chains (suc n) c m t = rules_grow (over_chain hops_and_reasons test chains n) (chain_grows chains n) c 1 (rules_in chains c) m t
 
   -- a rule at which the walk broke off, before anything of it was written
-  pub cut_before : (chains : Chains) (n : ℕ) (c : ChainName) (p : ℕ) (r : ChainRule) (m : ℕ) (t : Trace) (cut : List (ChainName × ℕ)) → cut ≡ t.hops → IsCut t.hops cut (over_rule hops_and_reasons test (over_chain hops_and_reasons test chains n) c p r m t)
+  pub cut_before : (chains : Chains) (n : ℕ) (c : ChainName) (p : ℕ) (r : ChainRule) (m : ℕ) (t : Trace) (cut : List (ChainName × ℕ)) → cut ≡ t.hops → IsPathPrefix t.hops cut (over_rule hops_and_reasons test (over_chain hops_and_reasons test chains n) c p r m t)
   cut_before chains n c p r m t cut e =
       let x = rule_grows (over_chain hops_and_reasons test chains n) (chain_grows chains n) c p r m t in
       record { more = []; grown = e ∙ sym (append-nil t.hops); rest = x.0; whole = x.1 ∙ ap (λ l. l ++ x.0) (sym e) }
 
   -- a walk that broke off within a rule, where other rules follow
-  pub cut_within : (chains : Chains) (n : ℕ) (c : ChainName) (p : ℕ) (rs : List ChainRule) (x whole : Ended Trace) (first before cut : List (ChainName × ℕ)) → Extends first before → whole ≡ onward x (over_rules hops_and_reasons test (over_chain hops_and_reasons test chains n) c p rs) → IsCut before cut x → IsCut first cut whole
+  pub cut_within : (chains : Chains) (n : ℕ) (c : ChainName) (p : ℕ) (rs : List ChainRule) (x whole : Ended Trace) (first before cut : List (ChainName × ℕ)) → Extends first before → whole ≡ onward x (over_rules hops_and_reasons test (over_chain hops_and_reasons test chains n) c p rs) → IsPathPrefix before cut x → IsPathPrefix first cut whole
   cut_within chains n c p rs x whole first before cut from e h =
       let y = onward_extends x (over_rules hops_and_reasons test (over_chain hops_and_reasons test chains n) c p rs) (rules_grow (over_chain hops_and_reasons test chains n) (chain_grows chains n) c p rs) in
       record {
@@ -103,7 +103,7 @@ module _ (test : Test) where
       extends_on first t.hops (hops_in x) from (y.0, ap hops_in e ∙ y.1)
 
 -- a rule that noted more on the path before it broke off
-pub cut_noted : (before noted cut : List (ChainName × ℕ)) (x : Ended Trace) → Extends before noted → IsCut noted cut x → IsCut before cut x
+pub cut_noted : (before noted cut : List (ChainName × ℕ)) (x : Ended Trace) → Extends before noted → IsPathPrefix noted cut x → IsPathPrefix before cut x
 cut_noted before noted cut x from h = record {
   more = from.0 ++ h.more;
   grown = h.grown ∙ ap (λ l. l ++ h.more) from.1 ∙ append_assoc before from.0 h.more;
@@ -112,11 +112,11 @@ cut_noted before noted cut x from h = record {
 }
 
 -- a walk that broke off behind a rule that matched
-pub cut_hit : (test : Test) (call : ChainName → Onward Trace) (c : ChainName) (p : ℕ) (r : ChainRule) (m k : ℕ) (t u : Trace) (cut : List (ChainName × ℕ)) → hold_all test m r.matches ≡ true → k ≡ m → u ≡ hops_and_reasons c p r t → IsCut u.hops cut (obeyed call r.target k u) → IsCut t.hops cut (over_rule hops_and_reasons test call c p r m t)
+pub cut_hit : (test : Test) (call : ChainName → Onward Trace) (c : ChainName) (p : ℕ) (r : ChainRule) (m k : ℕ) (t u : Trace) (cut : List (ChainName × ℕ)) → hold_all test m r.matches ≡ true → k ≡ m → u ≡ hops_and_reasons c p r t → IsPathPrefix u.hops cut (obeyed call r.target k u) → IsPathPrefix t.hops cut (over_rule hops_and_reasons test call c p r m t)
 cut_hit test call c p r m k t u cut holds same is h =
     let from = note_extends c p r t in
-    let at : IsCut (hops_and_reasons c p r t).hops cut (obeyed call r.target m (hops_and_reasons c p r t)) = subst (λ (x : Trace). IsCut x.hops cut (obeyed call r.target m x)) is (subst (λ (n : ℕ). IsCut u.hops cut (obeyed call r.target n u)) same h) in
-    subst (λ e. IsCut t.hops cut e) (sym (rule_hit hops_and_reasons test call c p r m t holds)) (cut_noted t.hops (hops_and_reasons c p r t).hops cut _ from at)
+    let at : IsPathPrefix (hops_and_reasons c p r t).hops cut (obeyed call r.target m (hops_and_reasons c p r t)) = subst (λ (x : Trace). IsPathPrefix x.hops cut (obeyed call r.target m x)) is (subst (λ (n : ℕ). IsPathPrefix u.hops cut (obeyed call r.target n u)) same h) in
+    subst (λ e. IsPathPrefix t.hops cut e) (sym (rule_hit hops_and_reasons test call c p r m t holds)) (cut_noted t.hops (hops_and_reasons c p r t).hops cut _ from at)
 
 pub on_err : {A E : Type 0} (r : Result A E) (P : Type 0) → P → OnErr r P
 on_err (Ok x) P h = tt

@@ -19,6 +19,8 @@ use Rattle.fx_model.specs.Formed.{is_formed_endpoint, is_formed_profile, are_for
 use Rattle.fx_names.specs.Digests.{Digest}
 use Rattle.fx_model.specs.Claims.{IsClashFree}
 use Rattle.fx_model.specs.ViewPolicy.{HasLoneLocal, IsServable}
+use Rattle.fx_walk.specs.Serving.{is_endpoint_key, HasEndpointKeys}
+use Rattle.fx_walk.proofs.Interfaces.{same_key, one_interface}
 
 each : {A : Type 0} (p : A → Bool) (xs : List A) → list_all p xs ≡ true → AllByRecursion (λ x. p x ≡ true) xs
 each p [] h = tt
@@ -45,3 +47,16 @@ lone_local dg R formed lone free = record {
   apart = λ k l e f at there s t same. lone k l e f at there (both_pass R.in_sync (is_local R e) s).1 (both_pass R.in_sync (is_local R f) t).1;
   keys_apart = keys_apart dg R free;
 }
+
+-- as keys are told by their texts, endpoints on one interface are one
+pub clash_free_servable : (dg : Digest) (R : Resources) → are_formed R ≡ true → HasEndpointKeys R → IsClashFree dg R → IsServable dg R
+clash_free_servable dg R formed keys free = record {
+  rules = rules_formed R formed;
+  on_workloads = λ k e at s. on_workload R formed k e at;
+  apart = λ k l e f at there s t same. same_key k l (key_formed k e at) (key_formed l f there)
+      (one_interface dg R free k l e f at there (both_pass R.in_sync (is_local R e) s).1 (both_pass R.in_sync (is_local R f) t).1 same);
+  keys_apart = keys_apart dg R free;
+}
+  where
+    key_formed : (k : ItemKey) (e : Endpoint) → maps.get R.endpoints k ≡ Some e → is_endpoint_key k ≡ true
+    key_formed k e at = of_entries item_total exact_item (λ x. is_endpoint_key x.0 ≡ true) R.endpoints k e (each (λ x. is_endpoint_key x.0) (maps.entries R.endpoints) keys) at

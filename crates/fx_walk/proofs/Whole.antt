@@ -8,9 +8,9 @@ use Rattle.fx_model.specs.Ranks.{IsRanked}
 use Rattle.fx_model.specs.Machine.{Notes, Reasons, Trace, holds, last_reason, hops_and_reasons, nothing_noted, Run, at_rule, Decides, Traces, CutsRun}
 use Rattle.fx_model.specs.Walk.{Ended, verdict_of, noted_in, over_chain}
 use Rattle.fx_walk.specs.declared.outcome.Hop.{Hop}
-use Rattle.fx_walk.specs.declared.notes.Stop.{Stop}
-use Rattle.fx_walk.specs.declared.notes.Stop.TheVariants.{Accepted, Dropped, Left, Through}
-use Rattle.fx_walk.specs.Stops.{chain_walk, chain_trace, ended_of, traced, hops_of, hops_in, IsCut}
+use Rattle.fx_walk.specs.declared.notes.WalkEnd.{WalkEnd}
+use Rattle.fx_walk.specs.declared.notes.WalkEnd.TheVariants.{Accepted, Dropped, Left, Through}
+use Rattle.fx_walk.specs.WalkEnds.{chain_walk, chain_trace, ended_of, traced, hops_of, hops_in, IsPathPrefix}
 use Rattle.fx_walk.proofs.Walks.{ended-run, one-end}
 
 module _ {S : Type 0} (note : Notes S) (tables : Tables) (a : Packet) (ranked : IsRanked tables.chains) where
@@ -25,13 +25,13 @@ module _ (tables : Tables) (a : Packet) (ranked : IsRanked tables.chains) (c : C
   decides_run e walk v egress ingress ev ee ei =
       ((noted_in e).side, rw (ev, ee, ei) (run_of last_reason tables a ranked c is nothing_noted e (walk ∙ ap (λ k. chain_walk tables a 5 c k first) zero ∙ ap (chain_walk tables a 5 c 0) none)))
 
-  same_verdict : (path : List Hop) (e : Stop) → verdict_of (traced path e) ≡ verdict_of (ended_of e)
+  same_verdict : (path : List Hop) (e : WalkEnd) → verdict_of (traced path e) ≡ verdict_of (ended_of e)
   same_verdict path (Accepted s) = refl
   same_verdict path (Dropped s) = refl
   same_verdict path (Left s) = refl
   same_verdict path (Through s) = refl
 
-  same_notes : (path : List Hop) (e : Stop) → noted_in (traced path e) ≡ record { hops = hops_of path; reasons = noted_in (ended_of e) }
+  same_notes : (path : List Hop) (e : WalkEnd) → noted_in (traced path e) ≡ record { hops = hops_of path; reasons = noted_in (ended_of e) }
   same_notes path (Accepted s) = refl
   same_notes path (Dropped s) = refl
   same_notes path (Left s) = refl
@@ -43,7 +43,7 @@ module _ (tables : Tables) (a : Packet) (ranked : IsRanked tables.chains) (c : C
   abbrev from : List Hop → Trace
   from before = start nothing_noted before
 
-  pub traces_run : (before after : List Hop) (e : Stop) → traced after e ≡ chain_trace tables a 5 c m (start first before) → (v : Verdict) (egress ingress : Option Reason) → v ≡ verdict_of (ended_of e) → egress ≡ (noted_in (ended_of e)).egress → ingress ≡ (noted_in (ended_of e)).ingress → Traces tables a (hops_of before) (hops_of after) v egress ingress
+  pub traces_run : (before after : List Hop) (e : WalkEnd) → traced after e ≡ chain_trace tables a 5 c m (start first before) → (v : Verdict) (egress ingress : Option Reason) → v ≡ verdict_of (ended_of e) → egress ≡ (noted_in (ended_of e)).egress → ingress ≡ (noted_in (ended_of e)).ingress → Traces tables a (hops_of before) (hops_of after) v egress ingress
   traces_run before after e walk v egress ingress ev ee ei = (
     (noted_in (ended_of e)).side,
     rw (ev, ee, ei) (subst (λ w. Run Trace hops_and_reasons (holds tables.sets a) tables.chains (at_rule forward 0 [] 0 (from before)) w (record { hops = hops_of after; reasons = noted_in (ended_of e) })) (same_verdict after e)
@@ -51,7 +51,7 @@ module _ (tables : Tables) (a : Packet) (ranked : IsRanked tables.chains) (c : C
         (run_of hops_and_reasons tables a ranked c is (from before) (traced after e) (walk ∙ ap (λ k. chain_trace tables a 5 c k (start first before)) zero ∙ ap (λ s. chain_trace tables a 5 c 0 (start s before)) none)))),
   )
 
-  pub cuts_run : (before cut : List Hop) → IsCut (hops_of before) (hops_of cut) (chain_trace tables a 5 c m (start first before)) → CutsRun tables a (hops_of before) (hops_of cut)
+  pub cuts_run : (before cut : List Hop) → IsPathPrefix (hops_of before) (hops_of cut) (chain_trace tables a 5 c m (start first before)) → CutsRun tables a (hops_of before) (hops_of cut)
   cuts_run before cut h = (
     (h.more, h.grown),
     λ after v egress ingress run. (

@@ -10,10 +10,22 @@ ghost use Rattle.fx_model.specs.Machine.{RunHasOneEnd};
 ghost use Rattle.fx_model.specs.Tables.{forward, tables_of};
 ghost use Rattle.fx_model.specs.ViewPolicy.{HasLoneLocal, IsServable, PolicyIsKept, TablesAgree};
 ghost use Rattle.fx_walk.specs.Endings.{RulesEndAsTheySay};
+ghost use Rattle.fx_walk.specs.PacketPaths.{PacketHasOnePath, WalkIsRun};
+ghost use Rattle.fx_walk.specs.Serving.{HasEndpointKeys};
 
 /// A run has one end.
 pub fn run_has_one_end()
     ensures { RunHasOneEnd }
+{}
+
+/// The walk of the first chain gives the path, the verdict and the reasons of the run by single steps.
+pub fn walk_is_a_run()
+    ensures { WalkIsRun }
+{}
+
+/// A packet has one path.
+pub fn packet_has_one_path()
+    ensures { PacketHasOnePath }
 {}
 
 /// The rendered rules of a policy or a profile do with each packet what the rules say.
@@ -39,4 +51,9 @@ pub fn first_chain_is_there()
 /// Resources with at most one local endpoint, whose claims don't clash, can be served.
 pub fn lone_local_is_servable()
     ensures { (dg : Digest) (R : Resources) → are_formed R ≡ true → HasLoneLocal R → IsClashFree dg R → IsServable dg R }
+{}
+
+/// Resources whose endpoints are told apart by their keys' texts, and whose claims don't clash, can be served.
+pub fn clash_free_is_servable()
+    ensures { (dg : Digest) (R : Resources) → are_formed R ≡ true → HasEndpointKeys R → IsClashFree dg R → IsServable dg R }
 {}

@@ -7,10 +7,10 @@ ghost use Rattle.fx_model.specs.Ranks.{IsRanked};
 ghost use Rattle.fx_model.specs.Machine.{CutsRun, Traces, holds, hops_and_reasons};
 ghost use Rattle.fx_model.specs.Walk.{obeyed, over_rule, over_rules};
 ghost use Rattle.fx_model.specs.ViewPolicy.{IsPolicyAnswer};
-ghost use Rattle.fx_walk.specs.Stops.{IsCut, chain_trace, hops_of, trace_of, traced};
+ghost use Rattle.fx_walk.specs.WalkEnds.{IsPathPrefix, chain_trace, hops_of, trace_of, traced};
 
 use crate::matches::{all_hold, with_mark};
-use crate::notes::{DEEPEST, Seen, Stop, first_chain, is_on_path, noted, nothing_seen, outcome_of};
+use crate::notes::{DEEPEST, Seen, WalkEnd, first_chain, is_on_path, noted, nothing_seen, outcome_of};
 use crate::outcome::{Hop, Outcome};
 use fx_base::{ChainName, Memory};
 use fx_model::{ChainRule, Packet, Target};
@@ -43,27 +43,27 @@ fn follow<'a>(
     target: &Target,
     seen: Seen<'a>,
     path: &mut Vec<Hop>,
-) -> Result<Stop<'a>, Memory>
-    ensures ok { IfOk result (λ stop. traced path.new.items stop ≡ obeyed (chain_trace tables.entry.now packet.now depth) target.now seen.entry.mark (trace_of path.old.items seen.entry)) }
-    ensures err { OnErr result (IsCut (hops_of path.old.items) (hops_of path.new.items) (obeyed (chain_trace tables.entry.now packet.now depth) target.now seen.entry.mark (trace_of path.old.items seen.entry))) }
+) -> Result<WalkEnd<'a>, Memory>
+    ensures ok { IfOk result (λ end. traced path.new.items end ≡ obeyed (chain_trace tables.entry.now packet.now depth) target.now seen.entry.mark (trace_of path.old.items seen.entry)) }
+    ensures err { OnErr result (IsPathPrefix (hops_of path.old.items) (hops_of path.new.items) (obeyed (chain_trace tables.entry.now packet.now depth) target.now seen.entry.mark (trace_of path.old.items seen.entry))) }
 {
     match target {
-        Target::Accept => Ok(Stop::Accepted(seen)),
-        Target::Drop => Ok(Stop::Dropped(seen)),
-        Target::Return => Ok(Stop::Left(seen)),
+        Target::Accept => Ok(WalkEnd::Accepted(seen)),
+        Target::Drop => Ok(WalkEnd::Dropped(seen)),
+        Target::Return => Ok(WalkEnd::Left(seen)),
         Target::Jump(to) => match trace_chain(tables, packet, depth, *to, seen, path)? {
-            Stop::Left(back) => Ok(Stop::Through(back)),
+            WalkEnd::Left(back) => Ok(WalkEnd::Through(back)),
             other => Ok(other),
         },
         Target::Goto(to) => match trace_chain(tables, packet, depth, *to, seen, path)? {
-            Stop::Through(back) => Ok(Stop::Left(back)),
+            WalkEnd::Through(back) => Ok(WalkEnd::Left(back)),
             other => Ok(other),
         },
-        Target::Mark { value, mask } => Ok(Stop::Through(Seen {
+        Target::Mark { value, mask } => Ok(WalkEnd::Through(Seen {
             mark: with_mark(seen.mark, *value, *mask),
             ..seen
         })),
-        Target::Log => Ok(Stop::Through(seen)),
+        Target::Log => Ok(WalkEnd::Through(seen)),
     }
 }
 
@@ -78,15 +78,15 @@ fn trace_rule<'a>(
     rule: &'a ChainRule,
     seen: Seen<'a>,
     path: &mut Vec<Hop>,
-) -> Result<Stop<'a>, Memory>
-    ensures ok { IfOk result (λ stop. traced path.new.items stop ≡ over_rule hops_and_reasons (holds tables.entry.now.sets packet.now) (chain_trace tables.entry.now packet.now depth) hop.chain hop.place rule.entry.now seen.entry.mark (trace_of path.old.items seen.entry)) }
-    ensures err { OnErr result (IsCut (hops_of path.old.items) (hops_of path.new.items) (over_rule hops_and_reasons (holds tables.entry.now.sets packet.now) (chain_trace tables.entry.now packet.now depth) hop.chain hop.place rule.entry.now seen.entry.mark (trace_of path.old.items seen.entry))) }
+) -> Result<WalkEnd<'a>, Memory>
+    ensures ok { IfOk result (λ end. traced path.new.items end ≡ over_rule hops_and_reasons (holds tables.entry.now.sets packet.now) (chain_trace tables.entry.now packet.now depth) hop.chain hop.place rule.entry.now seen.entry.mark (trace_of path.old.items seen.entry)) }
+    ensures err { OnErr result (IsPathPrefix (hops_of path.old.items) (hops_of path.new.items) (over_rule hops_and_reasons (holds tables.entry.now.sets packet.now) (chain_trace tables.entry.now packet.now depth) hop.chain hop.place rule.entry.now seen.entry.mark (trace_of path.old.items seen.entry))) }
 {
     if all_hold(tables.sets(), packet, seen.mark, rule.matches.as_slice()) {
         let now = note_on_path(&hop, rule, seen, path)?;
         follow(tables, packet, depth, &rule.target, now, path)
     } else {
-        Ok(Stop::Through(seen))
+        Ok(WalkEnd::Through(seen))
     }
 }
 
@@ -100,9 +100,9 @@ fn trace_rules<'a>(
     rules: &'a [ChainRule],
     before: Seen<'a>,
     path: &mut Vec<Hop>,
-) -> Result<Stop<'a>, Memory>
-    ensures ok { IfOk result (λ stop. traced path.new.items stop ≡ over_rules hops_and_reasons (holds tables.entry.now.sets packet.now) (chain_trace tables.entry.now packet.now depth) chain 1 rules.entry.now before.entry.mark (trace_of path.old.items before.entry)) }
-    ensures err { OnErr result (IsCut (hops_of path.old.items) (hops_of path.new.items) (over_rules hops_and_reasons (holds tables.entry.now.sets packet.now) (chain_trace tables.entry.now packet.now depth) chain 1 rules.entry.now before.entry.mark (trace_of path.old.items before.entry))) }
+) -> Result<WalkEnd<'a>, Memory>
+    ensures ok { IfOk result (λ end. traced path.new.items end ≡ over_rules hops_and_reasons (holds tables.entry.now.sets packet.now) (chain_trace tables.entry.now packet.now depth) chain 1 rules.entry.now before.entry.mark (trace_of path.old.items before.entry)) }
+    ensures err { OnErr result (IsPathPrefix (hops_of path.old.items) (hops_of path.new.items) (over_rules hops_and_reasons (holds tables.entry.now.sets packet.now) (chain_trace tables.entry.now packet.now depth) chain 1 rules.entry.now before.entry.mark (trace_of path.old.items before.entry))) }
 {
     let mut seen = before;
     for (i, rule) in rules.iter().enumerate() {
@@ -116,11 +116,11 @@ fn trace_rules<'a>(
             seen,
             path,
         )? {
-            Stop::Through(after) => seen = after,
+            WalkEnd::Through(after) => seen = after,
             other => return Ok(other),
         }
     }
-    Ok(Stop::Through(seen))
+    Ok(WalkEnd::Through(seen))
 }
 
 /// The walk of a chain, where rules lead at most `depth` chains deep.
@@ -132,16 +132,16 @@ fn trace_chain<'a>(
     chain: ChainName,
     seen: Seen<'a>,
     path: &mut Vec<Hop>,
-) -> Result<Stop<'a>, Memory>
-    ensures ok { IfOk result (λ stop. traced path.new.items stop ≡ chain_trace tables.entry.now packet.now depth chain seen.entry.mark (trace_of path.old.items seen.entry)) }
-    ensures err { OnErr result (IsCut (hops_of path.old.items) (hops_of path.new.items) (chain_trace tables.entry.now packet.now depth chain seen.entry.mark (trace_of path.old.items seen.entry))) }
+) -> Result<WalkEnd<'a>, Memory>
+    ensures ok { IfOk result (λ end. traced path.new.items end ≡ chain_trace tables.entry.now packet.now depth chain seen.entry.mark (trace_of path.old.items seen.entry)) }
+    ensures err { OnErr result (IsPathPrefix (hops_of path.old.items) (hops_of path.new.items) (chain_trace tables.entry.now packet.now depth chain seen.entry.mark (trace_of path.old.items seen.entry))) }
     ensures ranked { IsRanked tables.entry.now.chains }
 {
     let Some(rules) = tables.chain(chain) else {
-        return Ok(Stop::Through(seen));
+        return Ok(WalkEnd::Through(seen));
     };
     if depth == 0 {
-        return Ok(Stop::Through(seen));
+        return Ok(WalkEnd::Through(seen));
     }
     trace_rules(
         tables,
@@ -167,6 +167,6 @@ pub fn trace<'a>(
     // On want of memory the path has grown by a prefix of the hops.
     ensures err { OnErr result (CutsRun tables.entry.now packet.now (hops_of path.old.items) (hops_of path.new.items)) }
 {
-    let stop = trace_chain(tables, packet, DEEPEST, first_chain(), nothing_seen(), path)?;
-    Ok(outcome_of(stop))
+    let end = trace_chain(tables, packet, DEEPEST, first_chain(), nothing_seen(), path)?;
+    Ok(outcome_of(end))
 }

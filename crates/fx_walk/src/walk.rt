@@ -7,10 +7,10 @@ ghost use Rattle.fx_model.specs.Ranks.{IsRanked};
 ghost use Rattle.fx_model.specs.Machine.{Decides, holds, last_reason};
 ghost use Rattle.fx_model.specs.Walk.{obeyed, over_rule, over_rules};
 ghost use Rattle.fx_model.specs.ViewPolicy.{IsPolicyAnswer};
-ghost use Rattle.fx_walk.specs.Stops.{chain_walk, ended_of, reasons_of};
+ghost use Rattle.fx_walk.specs.WalkEnds.{chain_walk, ended_of, reasons_of};
 
 use crate::matches::{all_hold, with_mark};
-use crate::notes::{DEEPEST, Seen, Stop, first_chain, noted, nothing_seen, outcome_of};
+use crate::notes::{DEEPEST, Seen, WalkEnd, first_chain, noted, nothing_seen, outcome_of};
 use crate::outcome::{Hop, Outcome};
 use fx_base::ChainName;
 use fx_model::{ChainRule, Packet, Target};
@@ -24,26 +24,26 @@ fn follow<'a>(
     depth: u8,
     target: &Target,
     seen: Seen<'a>,
-) -> Stop<'a>
+) -> WalkEnd<'a>
     ensures { ended_of result ≡ obeyed (chain_walk tables.entry.now packet.now depth) target.now seen.entry.mark (reasons_of seen.entry) }
 {
     match target {
-        Target::Accept => Stop::Accepted(seen),
-        Target::Drop => Stop::Dropped(seen),
-        Target::Return => Stop::Left(seen),
+        Target::Accept => WalkEnd::Accepted(seen),
+        Target::Drop => WalkEnd::Dropped(seen),
+        Target::Return => WalkEnd::Left(seen),
         Target::Jump(to) => match walk_chain(tables, packet, depth, *to, seen) {
-            Stop::Left(back) => Stop::Through(back),
+            WalkEnd::Left(back) => WalkEnd::Through(back),
             other => other,
         },
         Target::Goto(to) => match walk_chain(tables, packet, depth, *to, seen) {
-            Stop::Through(back) => Stop::Left(back),
+            WalkEnd::Through(back) => WalkEnd::Left(back),
             other => other,
         },
-        Target::Mark { value, mask } => Stop::Through(Seen {
+        Target::Mark { value, mask } => WalkEnd::Through(Seen {
             mark: with_mark(seen.mark, *value, *mask),
             ..seen
         }),
-        Target::Log => Stop::Through(seen),
+        Target::Log => WalkEnd::Through(seen),
     }
 }
 
@@ -57,14 +57,14 @@ fn walk_rule<'a>(
     hop: Hop,
     rule: &'a ChainRule,
     seen: Seen<'a>,
-) -> Stop<'a>
+) -> WalkEnd<'a>
     ensures { ended_of result ≡ over_rule last_reason (holds tables.entry.now.sets packet.now) (chain_walk tables.entry.now packet.now depth) hop.chain hop.place rule.entry.now seen.entry.mark (reasons_of seen.entry) }
 {
     if all_hold(tables.sets(), packet, seen.mark, rule.matches.as_slice()) {
         let now = noted(hop, rule, seen);
         follow(tables, packet, depth, &rule.target, now)
     } else {
-        Stop::Through(seen)
+        WalkEnd::Through(seen)
     }
 }
 
@@ -77,18 +77,18 @@ fn walk_rules<'a>(
     chain: ChainName,
     rules: &'a [ChainRule],
     before: Seen<'a>,
-) -> Stop<'a>
+) -> WalkEnd<'a>
     ensures { ended_of result ≡ over_rules last_reason (holds tables.entry.now.sets packet.now) (chain_walk tables.entry.now packet.now depth) chain 1 rules.entry.now before.entry.mark (reasons_of before.entry) }
 {
     let mut seen = before;
     for (i, rule) in rules.iter().enumerate() {
         let place = i as u64 + 1;
         match walk_rule(tables, packet, depth, Hop { chain, place }, rule, seen) {
-            Stop::Through(after) => seen = after,
+            WalkEnd::Through(after) => seen = after,
             other => return other,
         }
     }
-    Stop::Through(seen)
+    WalkEnd::Through(seen)
 }
 
 /// The walk of a chain, where rules lead at most `depth` chains deep.
@@ -99,15 +99,15 @@ fn walk_chain<'a>(
     depth: u8,
     chain: ChainName,
     seen: Seen<'a>,
-) -> Stop<'a>
+) -> WalkEnd<'a>
     ensures walk { ended_of result ≡ chain_walk tables.entry.now packet.now depth chain seen.entry.mark (reasons_of seen.entry) }
     ensures ranked { IsRanked tables.entry.now.chains }
 {
     let Some(rules) = tables.chain(chain) else {
-        return Stop::Through(seen);
+        return WalkEnd::Through(seen);
     };
     if depth == 0 {
-        return Stop::Through(seen);
+        return WalkEnd::Through(seen);
     }
     walk_rules(tables, packet, depth - 1, chain, rules.as_slice(), seen)
 }
@@ -118,6 +118,6 @@ pub fn decide<'a>(tables: &'a Tables, packet: &Packet) -> Outcome<'a>
     ensures machine { Decides tables.entry.now packet.now result.verdict (option_copied result.egress) (option_copied result.ingress) }
     ensures policy { IsPolicyAnswer tables.entry.now packet.now result.verdict (option_copied result.egress) (option_copied result.ingress) }
 {
-    let stop = walk_chain(tables, packet, DEEPEST, first_chain(), nothing_seen());
-    outcome_of(stop)
+    let end = walk_chain(tables, packet, DEEPEST, first_chain(), nothing_seen());
+    outcome_of(end)
 }

@@ -1,7 +1,7 @@
 use Rattle.std.proofs.Common.{◌≡◌, ◌+◌, ◌*◌, drop}
 use Rattle.fx_model.specs.Machine.{holds, hops_and_reasons}
 use Rattle.fx_model.specs.Walk.{over_rules}
-use Rattle.fx_walk.specs.Stops.{chain_trace, trace_of, hops_of}
+use Rattle.fx_walk.specs.WalkEnds.{chain_trace, trace_of, hops_of}
 use Rattle.fx_walk.proofs.Paths.{Extends}
 use Rattle.fx_walk.proofs.path.+path.Given as goal
 

@@ -1,7 +1,7 @@
 use Rattle.std.proofs.Common.{◌≡◌, ◌+◌, ◌*◌, drop}
 use Rattle.fx_model.specs.Machine.{holds, last_reason}
 use Rattle.fx_model.specs.Walk.{over_rules}
-use Rattle.fx_walk.specs.Stops.{chain_walk, reasons_of}
+use Rattle.fx_walk.specs.WalkEnds.{chain_walk, reasons_of}
 use Rattle.fx_walk.proofs.walk.+walk.Given as goal
 
 abbrev pub decreases-follow : goal.decreases-follow
