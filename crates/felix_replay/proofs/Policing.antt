@@ -40,7 +40,7 @@ use Rattle.fx_lines.specs.declared.commands.Command.TheVariants as command
 use Rattle.fx_lines.specs.Commands.{command_of}
 use Rattle.fx_lines.specs.Formed.{is_formed_command}
 use Rattle.fx_lines.proofs.Kept.{command_of-formed}
-use Rattle.fx_print.specs.PacketTexts.{packet_lines}
+use Rattle.fx_model.specs.PacketTexts.{packet_lines}
 use Rattle.felix_replay.specs.Engine.{IsRendered}
 use Rattle.felix_replay.specs.declared.engine.Engine.{Engine}
 use Rattle.felix_replay.specs.Run.{state_after}

@@ -5,7 +5,7 @@ use Rattle.fx_model.specs.declared.view.View.{View}
 use Rattle.fx_model.specs.Messages.{Change, flush, next_message, step, step_by, differences}
 use Rattle.fx_model.proofs.Flushes.{flush-none, flush-some}
 use Rattle.fx_model.proofs.Nearer.{no_message, step-nearer}
-use Rattle.fx_print.specs.MessageTexts.{message_line}
+use Rattle.fx_model.specs.MessageTexts.{message_line}
 use Rattle.felix_replay.specs.Output.{first_text, messages_text}
 
 -- the first message's line and those of the rest

@@ -11,7 +11,7 @@ ghost use Rattle.fx_model.specs.contracts.ids.ItemKeyPartialEq.TheImpl as item_e
 ghost use Rattle.fx_print.specs.Texts.{refusal_line, flushed_line};
 ghost use Rattle.fx_lines.specs.Formed.{is_formed_command};
 ghost use Rattle.felix_replay.specs.Output.{start, next, text, checked, update_answer, after_answer, answer_text, is_second_local, flush_text};
-ghost use Rattle.fx_print.specs.TableTexts.{table_lines};
+ghost use Rattle.fx_model.specs.TableTexts.{table_lines};
 ghost use Rattle.felix_replay.specs.PacketRuns.{packet_text};
 ghost use Rattle.felix_replay.specs.Fitting.{Fits};
 ghost use Rattle.fx_lines.specs.Commands.{command_of};
