@@ -1,11 +1,10 @@
 -- Local endpoints on one interface are one endpoint, where no claims clash and no namespace has a `/`.
-use Rattle.std.proofs.Common.{◌≡◌, ℕ, ◌<◌, ◌+◌, Bool, true, false, not, ◌&&◌, List, [], ◌∷◌, ◌++◌, Some, refl, sym, ap, ◌∙◌, subst, arith}
+use Rattle.std.proofs.Common.{◌≡◌, ℕ, ◌<◌, true, false, not, ◌&&◌, List, [], ◌∷◌, ◌++◌, Some, refl, sym, ap, ◌∙◌, arith}
 use Rattle.std.specs.Prelude.{codes, nat_eq, if◌then◌else◌}
 use Rattle.std.proofs.lemmas.Bool.{not-false}
 use Rattle.std.proofs.lemmas.List.{append_cancel_left}
-use Rattle.std.specs.List.{list_all, flat_map}
+use Rattle.std.specs.List.{flat_map}
 use Rattle.std.specs.Str.{bytes_eq}
-use Rattle.std.specs.Cmp.{unsigned_Decides}
 use Rattle.std.specs.FinMap as maps
 use Rattle.fx_base.specs.Same.{same_bytes, both_pass}
 use Rattle.fx_base.specs.declared.kernel_name.KernelName.TheVariants.{Chain}
@@ -20,8 +19,8 @@ use Rattle.fx_model.specs.declared.ids.ItemKey.TheVariants as item_key
 use Rattle.fx_model.specs.declared.ids.Key.TheVariants as key
 use Rattle.fx_model.specs.declared.resources.Endpoint.{Endpoint}
 use Rattle.fx_model.specs.declared.resources.Resources.{Resources}
-use Rattle.fx_model.specs.Resources.{is_local, after_delete}
-use Rattle.fx_model.specs.Claims.{item_text, interface_claims, profile_claims, endpoint_claims, listed_claims, claims_at, all_claims, IsClashFree}
+use Rattle.fx_model.specs.Resources.{is_local}
+use Rattle.fx_model.specs.Claims.{item_text, interface_claims, profile_claims, listed_claims, claims_at, all_claims, IsClashFree}
 use Rattle.fx_model.proofs.ClaimsCounted.{times-at}
 use Rattle.fx_walk.specs.Serving.{has_no_slash, is_endpoint_key}
 

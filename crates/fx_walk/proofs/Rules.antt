@@ -24,7 +24,7 @@ use Rattle.fx_model.specs.Formed.{implies, has_port_protocol, has_icmp_protocol,
 use Rattle.fx_model.specs.Tables.{ChainName, Sets, forward}
 use Rattle.fx_model.specs.Rendering.{negative_block, plain, tagged, set_mark, is_set, accept_mark, pass_mark, one_net, net_blocks, not_net_blocks, net_match, not_net_match, proto_match, icmp_match, PortChoice, port_choices, choice_alternative, port_blocks, in_set_match, listed_match, not_in_set_match, not_listed_match, set_match, blocks_of, block_rules, block_match, nets_match, sets_match, ports_match, main_matches, main_rules, is_void, rendered_rule, rendered_rules}
 use Rattle.fx_model.specs.Machine.{holds, hold_all, marked, Reasons, with_reason, last_reason}
-use Rattle.fx_model.specs.Walk.{Onward, Ended, Dropped, Left, Through}
+use Rattle.fx_model.specs.Walk.{Onward, Ended, Dropped, Left}
 use Rattle.fx_model.specs.Policy.{Answer, Silent, Passed, Allowed, Denied, answer_of, first_answer}
 use Rattle.fx_model.specs.ViewPolicy.{view_side_matches, view_rule_matches, met_view_rules}
 use Rattle.fx_walk.specs.Endings.{KeepsBits, EndsAs, IsClearFor, AllClearFor}

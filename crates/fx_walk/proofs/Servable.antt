@@ -1,6 +1,6 @@
 -- Formed resources with at most one local endpoint, whose claims don't clash, can be served.
 use Rattle.std.proofs.Common.{◌≡◌, ℕ, Bool, true, List, [], ◌∷◌, Some}
-use Rattle.std.specs.Prelude.{◌&&◌, nat_le, length}
+use Rattle.std.specs.Prelude.{nat_le, length}
 use Rattle.std.specs.List.{list_all, AllByRecursion}
 use Rattle.std.specs.Cmp.Lexicographic.{nat_list_cmp_total}
 use Rattle.std.specs.FinMap as maps

@@ -1,9 +1,10 @@
 -- What the code's values of a walk mean, in the terms of the packet machine by iptables(8).
-use Rattle.std.specs.Prelude.{◌≡◌, ℕ, List, ◌++◌, map, Option, Some, None, option_copied}
+use Rattle.std.specs.Prelude.{◌≡◌, ℕ, List, map, Option, Some, None, option_copied}
 use Rattle.fx_model.specs.declared.packet.Packet.{Packet}
 use Rattle.fx_model.specs.Directions.{Direction, Ingress, Egress}
 use Rattle.fx_model.specs.Tables.{ChainName, Tables}
-use Rattle.fx_model.specs.Machine.{Reasons, Trace, holds, last_reason, hops_and_reasons}
+use Rattle.fx_model.specs.declared.chain.ChainRule.{ChainRule}
+use Rattle.fx_model.specs.Machine.{Notes, Reasons, Trace, holds}
 use Rattle.fx_model.specs.Walk.{Onward, Ended, Accepted, Dropped, Left, Through, noted_in, over_chain}
 use Rattle.fx_walk.specs.declared.outcome.Hop.{Hop}
 use Rattle.fx_walk.specs.declared.notes.Direction.{Direction as WalkDirection}
@@ -20,41 +21,38 @@ direction_of (Some direction.Ingress) = Some Ingress
 abbrev pub reasons_of : Seen → Reasons
 reasons_of s = record { side = direction_of s.side; egress = option_copied s.egress; ingress = option_copied s.ingress }
 
-abbrev pub ended_of : WalkEnd → Ended Reasons
-ended_of (walk_end.Accepted s) = Accepted (reasons_of s)
-ended_of (walk_end.Dropped s) = Dropped (reasons_of s)
-ended_of (walk_end.Left s) = Left s.mark (reasons_of s)
-ended_of (walk_end.Through s) = Through s.mark (reasons_of s)
+-- how a walk ended, where `f` tells what was noted by the last reasons
+abbrev pub ended_by : {S : Type 0} → (Reasons → S) → WalkEnd → Ended S
+ended_by f (walk_end.Accepted s) = Accepted (f (reasons_of s))
+ended_by f (walk_end.Dropped s) = Dropped (f (reasons_of s))
+ended_by f (walk_end.Left s) = Left s.mark (f (reasons_of s))
+ended_by f (walk_end.Through s) = Through s.mark (f (reasons_of s))
 
--- the walk of a chain for its reasons
-abbrev pub chain_walk : Tables → Packet → ℕ → ChainName → Onward Reasons
-chain_walk tables a depth = over_chain last_reason (holds tables.sets a) tables.chains depth
+-- for the reasons alone
+abbrev pub ended_of : WalkEnd → Ended Reasons
+ended_of end = ended_by (λ s. s) end
+
+-- the walk of a chain
+abbrev pub chain_walk : {S : Type 0} → Notes S → Tables → Packet → ℕ → ChainName → Onward S
+chain_walk note tables a depth = over_chain note (holds tables.sets a) tables.chains depth
+
+-- ---- a walk that broke off
+
+-- what may have been noted of rules that matched behind `s`
+pub data Follows (S : Type 0) (note : Notes S) : S → S → Type 0 where
+  here : {s t : S} → s ≡ t → Follows S note s t
+  behind : {s t u : S} (c : ChainName) (p : ℕ) (r : ChainRule) → Follows S note s t → u ≡ note c p r t → Follows S note s u
+
+-- it noted a first part of what the whole walk notes
+pub record BreaksOff (S : Type 0) (note : Notes S) (f : Reasons → S) (before : S) (whole : Ended S) : Type 0 where
+  pub reasons : Reasons
+  pub begun : Follows S note before (f reasons)
+  pub rest : Follows S note (f reasons) (noted_in whole)
 
 -- ---- with the path
 
 abbrev pub hops_of : List Hop → List (ChainName × ℕ)
 hops_of path = map (λ h. (h.chain, h.place)) path
 
-abbrev pub trace_of : List Hop → Seen → Trace
-trace_of path s = record { hops = hops_of path; reasons = reasons_of s }
-
--- how a walk ended that wrote its path
-abbrev pub traced : List Hop → WalkEnd → Ended Trace
-traced path (walk_end.Accepted s) = Accepted (trace_of path s)
-traced path (walk_end.Dropped s) = Dropped (trace_of path s)
-traced path (walk_end.Left s) = Left s.mark (trace_of path s)
-traced path (walk_end.Through s) = Through s.mark (trace_of path s)
-
--- the walk of a chain for its path and its reasons
-abbrev pub chain_trace : Tables → Packet → ℕ → ChainName → Onward Trace
-chain_trace tables a depth = over_chain hops_and_reasons (holds tables.sets a) tables.chains depth
-
-abbrev pub hops_in : Ended Trace → List (ChainName × ℕ)
-hops_in e = (noted_in e).hops
-
--- a path that broke off: it begins with what stood before the walk, and the walk's path begins with it
-pub record IsPathPrefix (before cut : List (ChainName × ℕ)) (e : Ended Trace) : Type 0 where
-  pub more : List (ChainName × ℕ)
-  pub grown : cut ≡ before ++ more
-  pub rest : List (ChainName × ℕ)
-  pub whole : hops_in e ≡ cut ++ rest
+abbrev pub trace_of : List Hop → Reasons → Trace
+trace_of path s = record { hops = hops_of path; reasons = s }

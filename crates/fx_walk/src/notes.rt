@@ -4,12 +4,12 @@ ghost use Rattle.std.specs.Option.{option_copied};
 ghost use Rattle.std.specs.Str.{bytes_eq};
 ghost use Rattle.fx_model.specs.Tables.{forward};
 ghost use Rattle.fx_model.specs.Walk.{noted_in, verdict_of};
-ghost use Rattle.fx_model.specs.Machine.{is_shown, last_reason, nothing_noted, side_at, with_reason, with_tag};
+ghost use Rattle.fx_model.specs.Machine.{last_reason, nothing_noted, side_at, with_reason, with_tag};
 ghost use Rattle.fx_walk.specs.WalkEnds.{direction_of, ended_of, reasons_of};
 
 use crate::outcome::{Hop, Outcome};
 use fx_base::ChainName;
-use fx_model::{ChainRule, Reason, Tag, Target, Verdict};
+use fx_model::{ChainRule, Reason, Tag, Verdict};
 
 const FORWARD: &[u8; 12] = b"cali-FORWARD";
 
@@ -30,6 +30,27 @@ pub struct Seen<'a> {
     pub side: Option<Direction>,
     pub egress: Option<&'a Reason>,
     pub ingress: Option<&'a Reason>,
+}
+
+/// What is noted of the rules that match, beside the last reasons.
+pub trait Notes {
+    ghost use Rattle.std.specs.Prelude.{◌≡◌, ℕ, OnOk, OnErr};
+    ghost use Rattle.fx_model.specs.declared.chain.ChainRule.{ChainRule};
+    ghost use Rattle.fx_model.specs.Tables.{ChainName};
+    ghost use Rattle.fx_model.specs.Machine.{Reasons, last_reason};
+
+    type Fault;
+
+    /// What stands noted, with the last reasons.
+    ghost State: { Type 0 };
+
+    ghost note: { ChainName → ℕ → ChainRule → State → State };
+
+    ghost noted: { Self → Reasons → State };
+
+    fn note(&mut self, hop: &Hop, rule: &ChainRule) -> Result<(), Self::Fault>
+        ensures ok { OnOk result ((s : Reasons) → noted self.new (last_reason hop.now.chain hop.now.place rule.now s) ≡ note hop.now.chain hop.now.place rule.now (noted self.old s)) }
+        ensures err { OnErr result ((s : Reasons) → noted self.new s ≡ noted self.old s) };
 }
 
 /// How the walk of a chain's rules ended: `Left` by RETURN, `Through` at their end.
@@ -136,19 +157,4 @@ pub fn noted<'a>(hop: Hop, rule: &'a ChainRule, seen: Seen<'a>) -> Seen<'a>
     } else {
         tagged(&rule.tag, seen)
     }
-}
-
-/// Whether a rule that matched is shown on the path.
-pub fn is_on_path(rule: &ChainRule) -> bool
-    ensures { result ≡ is_shown rule.now }
-{
-    let is_shown_target = match &rule.target {
-        Target::Accept | Target::Drop | Target::Jump(_) | Target::Goto(_) | Target::Log => true,
-        Target::Return | Target::Mark { .. } => false,
-    };
-    let is_tagged = match &rule.tag {
-        Tag::Plain => false,
-        Tag::Log | Tag::Why(_) => true,
-    };
-    is_shown_target || is_tagged
 }

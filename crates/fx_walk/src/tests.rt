@@ -252,11 +252,26 @@ fn decides_and_traces(rt: HostRuntime) -> Result<(), Fail> {
     for row in &ROWS {
         let packet = packet(alloc, row.iface.as_bytes(), row.state)?;
         let decided = decide(&tables, &packet);
-        assert!(rt; is_wanted(&decided, row), "decided at {} {:?}", row.iface, row.state);
+        assert!(rt;
+            is_wanted(&decided, row),
+            "decided at {} {:?}",
+            row.iface,
+            row.state
+        );
         let mut path = vec![in alloc]?;
         let traced = trace(&tables, &packet, &mut path)?;
-        assert!(rt; is_wanted(&traced, row), "traced at {} {:?}", row.iface, row.state);
-        assert!(rt; is_path(&path, row.path), "path at {} {:?}", row.iface, row.state);
+        assert!(rt;
+            is_wanted(&traced, row),
+            "traced at {} {:?}",
+            row.iface,
+            row.state
+        );
+        assert!(rt;
+            is_path(&path, row.path),
+            "path at {} {:?}",
+            row.iface,
+            row.state
+        );
     }
     Ok(())
 }

@@ -144,8 +144,16 @@ fn matches_hold_or_not(rt: HostRuntime) -> Result<(), Fail> {
     ];
     for (number, (asked, not, for_tcp, for_icmp)) in rows.into_iter().enumerate() {
         let matches = vec![in alloc; match_of(alloc, asked, not)?]?;
-        assert_eq!(rt; all_hold(&sets, &tcp, 0, matches.as_slice()), for_tcp, "TCP in row {number}");
-        assert_eq!(rt; all_hold(&sets, &icmp, 0, matches.as_slice()), for_icmp, "ICMP in row {number}");
+        assert_eq!(rt;
+            all_hold(&sets, &tcp, 0, matches.as_slice()),
+            for_tcp,
+            "TCP in row {number}"
+        );
+        assert_eq!(rt;
+            all_hold(&sets, &icmp, 0, matches.as_slice()),
+            for_icmp,
+            "ICMP in row {number}"
+        );
     }
     Ok(())
 }
