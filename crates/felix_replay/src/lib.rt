@@ -16,8 +16,8 @@ mod refusal_tests;
 mod rule_rows;
 #[cfg(test)]
 mod rule_tests;
+mod run_fault;
 mod sending;
-mod stop;
 #[cfg(test)]
 mod tests;
 mod top;

@@ -1,4 +1,4 @@
-//! Names that two resources want, under the rule by which texts with one front have one digest.
+//! Names that two resources want, under the rule by which texts with one prefix have one digest.
 use crate::Status;
 use crate::tests::{joined, replayed};
 use std::test::Fail;
