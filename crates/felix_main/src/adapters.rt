@@ -2,6 +2,7 @@
 ghost use Rattle.std.specs.Prelude.{◌≡◌, ◌<◌, ◌+◌, ◌^◌, ℕ, List, length, take, Option, None, false, IfOk, OnOk, OnErr};
 ghost use Rattle.std.specs.Io.KnownBytes.{Keeps, Consumes, Appends};
 ghost use Rattle.fx_base.specs.Streams.{HasCause, ReadsSome, ReadsNone, AppendsPrefix};
+ghost use Rattle.felix_main.specs.Silent.{silent_source};
 ghost use Rattle.fx_base.proofs.Compose.{Appends-none, Appends-more, AppendsPrefix-none, AppendsPrefix-all, AppendsPrefix-after};
 
 use fx_base::{Failed, Sink, Source};
@@ -31,19 +32,13 @@ impl<R: Read + Drop> ReadSource<R> {
 }
 
 impl<R: Read + Drop> Source for ReadSource<R> {
-    ghost left = { λ _. None };
-
-    ghost given = { λ s. s.given };
-
-    ghost ended = { λ s. s.ended };
-
-    ghost faults = { λ s. s.faults };
+    ghost state = { λ s. silent_source s.given s.ended s.faults };
 
     fn read(&mut self, buf: &mut [u8]) -> Result<usize, Failed>
         requires room { 0 < length buf.old }
         requires fits { self.old.given + length buf.old < 2 ^ 64 }
-        ensures ok { IfOk result (λ n. ReadsSome None None (self.old.given) (self.new.given) (self.new.ended) buf.new n) }
-        ensures err { OnErr result (ReadsNone None None (self.old.given) (self.new.given) (self.old.ended) (self.new.ended)) }
+        ensures ok { IfOk result (λ n. ReadsSome (silent_source self.old.given self.old.ended self.old.faults) (silent_source self.new.given self.new.ended self.new.faults) buf.new n) }
+        ensures err { OnErr result (ReadsNone (silent_source self.old.given self.old.ended self.old.faults) (silent_source self.new.given self.new.ended self.new.faults)) }
         ensures cause { HasCause (self.old.faults) (self.new.faults) result }
 
         // What is given is what the reader gave.
@@ -83,18 +78,16 @@ impl<W: Write + Drop> WriteSink<W> {
 }
 
 impl<W: Write + Drop> Sink for WriteSink<W> {
-    ghost held = { λ _. None };
-
-    ghost faults = { λ s. s.faults };
+    ghost state = { λ s. record { held = None; faults = s.faults } };
 
     fn put(&mut self, bytes: &[u8]) -> Result<(), Failed>
         ensures ok { OnOk result (Appends None None bytes.now) }
         ensures err { OnErr result (AppendsPrefix None None bytes.now) }
         ensures cause { HasCause (self.old.faults) (self.new.faults) result }
 
-        // The writer takes them all, or a front of them.
+        // The writer takes them all, or a prefix of them.
         ensures written { OnOk result (Appends (W.contents self.old.writer) (W.contents self.new.writer) bytes.now) }
-        ensures front { OnErr result (AppendsPrefix (W.contents self.old.writer) (W.contents self.new.writer) bytes.now) }
+        ensures prefix { OnErr result (AppendsPrefix (W.contents self.old.writer) (W.contents self.new.writer) bytes.now) }
     {
         let result = write_whole(&mut self.writer, bytes);
         if result.is_err() {
@@ -107,7 +100,7 @@ impl<W: Write + Drop> Sink for WriteSink<W> {
 // std's `write_all` says nothing of what it wrote before it failed, and tries an interrupted write again.
 fn write_whole<W: Write>(writer: &mut W, bytes: &[u8]) -> Result<(), Failed>
     ensures written { OnOk result (Appends (W.contents writer.old) (W.contents writer.new) bytes.now) }
-    ensures front { OnErr result (AppendsPrefix (W.contents writer.old) (W.contents writer.new) bytes.now) }
+    ensures prefix { OnErr result (AppendsPrefix (W.contents writer.old) (W.contents writer.new) bytes.now) }
 {
     let mut rest = bytes;
     while !rest.is_empty() {

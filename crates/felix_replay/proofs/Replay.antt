@@ -4,7 +4,7 @@ use Rattle.std.specs.Io.KnownBytes.{Appends}
 use Rattle.std.proofs.Common.{Bool, true, refl, Result, Ok, Err, ◌+◌}
 use Rattle.fx_lines.specs.Lines.{lines_of, answerable}
 use Rattle.std.proofs.lemmas.List.{append-nil}
-use Rattle.fx_base.specs.Streams.{Gives, AppendsPrefix}
+use Rattle.fx_base.specs.Streams.{SourceState, SinkState, Gives, AppendsPrefix}
 use Rattle.fx_base.proofs.Compose.{Appends-more, AppendsPrefix-all, AppendsPrefix-after, AppendsPrefix-longer, Gives-more, Gives-none}
 use Rattle.fx_lines.specs.Reading.{HasRead}
 use Rattle.fx_lines.proofs.Cuts.{answerable-lines, nothing_given}
@@ -29,40 +29,40 @@ module _ (dg : Digest) (node : List ℕ) (lines : List (List ℕ)) (line bytes :
       ∙ sym (written-push next text (start dg node) lines line) in
       subst (Appends a c) e (Appends-more a b c (written next text (start dg node) lines) (text s bytes) p q)
 
--- what the lines write is a front of what bytes with these lines at their front write
-front_of : (dg : Digest) (node : List ℕ) (bytes : List ℕ) (lines rest : List (List ℕ)) (before now : Option (List ℕ)) → lines_of bytes ≡ lines ++ rest → AppendsPrefix before now (written next text (start dg node) lines) → AppendsPrefix before now (output dg node bytes)
-front_of dg node bytes lines rest before now is wrote =
+-- what the lines write is a prefix of what bytes that begin with these lines write
+prefix_of : (dg : Digest) (node : List ℕ) (bytes : List ℕ) (lines rest : List (List ℕ)) (before now : Option (List ℕ)) → lines_of bytes ≡ lines ++ rest → AppendsPrefix before now (written next text (start dg node) lines) → AppendsPrefix before now (output dg node bytes)
+prefix_of dg node bytes lines rest before now is wrote =
     subst (AppendsPrefix before now) (sym (ap (λ (l : List (List ℕ)). written next text (start dg node) l) is ∙ written-append next text (start dg node) lines rest))
     (AppendsPrefix-longer before now (written next text (start dg node) lines) (written next text (state_after next (start dg node) lines) rest) wrote)
 
 -- a run that ends with a fault of the reader, which took one more piece
-pub stopped_between : (dg : Digest) (node : List ℕ) (left_before left left_now : Option (List ℕ)) (given_before given given_now : ℕ) (held : List ℕ) (ended ended_now : Bool) (lines : List (List ℕ)) (piece : List ℕ) (out_before out_now : Option (List ℕ))
-    → HasRead left_before left given_before given held ended lines → Gives left left_now given given_now piece → (ended ≡ true → (given_now ≡ given) × (ended_now ≡ true)) → Appends out_before out_now (written next text (start dg node) lines)
-    → Stopped dg node left_before left_now given_before given_now ended_now out_before out_now
-stopped_between dg node left_before left left_now given_before given given_now held ended ended_now lines piece out_before out_now was gives quiet wrote =
-    let more = answerable-lines was.taken held piece ended ended_now lines was.cut (λ end. (nothing_given left left_now given given_now piece gives (quiet end).0, (quiet end).1)) in
+pub stopped_between : (dg : Digest) (node : List ℕ) (r s t : SourceState) (held : List ℕ) (ended : Bool) (lines : List (List ℕ)) (piece : List ℕ) (out_before out_now : SinkState)
+    → HasRead r s held ended lines → Gives s t piece → (ended ≡ true → (t.given ≡ s.given) × (t.ended ≡ true)) → Appends out_before.held out_now.held (written next text (start dg node) lines)
+    → Stopped dg node r t out_before out_now
+stopped_between dg node r s t held ended lines piece out_before out_now was gives quiet wrote =
+    let more = answerable-lines was.taken held piece ended t.ended lines was.cut (λ end. (nothing_given s t piece gives (quiet end).0, (quiet end).1)) in
     record {
       taken = was.taken ++ piece;
-      gives = Gives-more left_before left left_now given_before given given_now was.taken piece was.gives gives;
-      output = front_of dg node (answerable ended_now (was.taken ++ piece)) lines more.0 out_before out_now more.1
-          (subst (AppendsPrefix out_before out_now) (append-nil (written next text (start dg node) lines)) (AppendsPrefix-all out_before out_now (written next text (start dg node) lines) [] wrote));
+      gives = Gives-more r s t was.taken piece was.gives gives;
+      output = prefix_of dg node (answerable t.ended (was.taken ++ piece)) lines more.0 out_before.held out_now.held more.1
+          (subst (AppendsPrefix out_before.held out_now.held) (append-nil (written next text (start dg node) lines)) (AppendsPrefix-all out_before.held out_now.held (written next text (start dg node) lines) [] wrote));
     }
 
 -- a run that ends within the answer to a line
-pub stopped_within : (dg : Digest) (node : List ℕ) (left_before left_now : Option (List ℕ)) (given_before given_now : ℕ) (held : List ℕ) (ended ended_now : Bool) (lines : List (List ℕ)) (line bytes : List ℕ) (s : State) (out_before out out_now : Option (List ℕ))
-    → HasRead left_before left_now given_before given_now held ended (lines ++ line ∷ []) → ended_now ≡ ended → s ≡ state_after next (start dg node) lines → bytes ≡ line
-    → Appends out_before out (written next text (start dg node) lines) → AppendsPrefix out out_now (text s bytes) → Stopped dg node left_before left_now given_before given_now ended_now out_before out_now
-stopped_within dg node left_before left_now given_before given_now held ended ended_now lines line bytes s out_before out out_now was now is same wrote stop =
-    let more = answerable-lines was.taken held [] ended ended_now (lines ++ line ∷ []) was.cut (λ end. (refl, now ∙ end)) in
+pub stopped_within : (dg : Digest) (node : List ℕ) (r t : SourceState) (held : List ℕ) (ended : Bool) (lines : List (List ℕ)) (line bytes : List ℕ) (s : State) (out_before out out_now : SinkState)
+    → HasRead r t held ended (lines ++ line ∷ []) → t.ended ≡ ended → s ≡ state_after next (start dg node) lines → bytes ≡ line
+    → Appends out_before.held out.held (written next text (start dg node) lines) → AppendsPrefix out.held out_now.held (text s bytes) → Stopped dg node r t out_before out_now
+stopped_within dg node r t held ended lines line bytes s out_before out out_now was now is same wrote stop =
+    let more = answerable-lines was.taken held [] ended t.ended (lines ++ line ∷ []) was.cut (λ end. (refl, now ∙ end)) in
     let e : written next text (start dg node) lines ++ text s bytes ≡ written next text (start dg node) (lines ++ line ∷ []) =
     ap (λ (b : List ℕ). written next text (start dg node) lines ++ text s b) same
     ∙ ap (λ (t : State). written next text (start dg node) lines ++ text t line) is
     ∙ sym (written-push next text (start dg node) lines line) in
     record {
       taken = was.taken ++ [];
-      gives = Gives-more left_before left_now left_now given_before given_now given_now was.taken [] was.gives (Gives-none left_now given_now);
-      output = front_of dg node (answerable ended_now (was.taken ++ [])) (lines ++ line ∷ []) more.0 out_before out_now more.1
-          (subst (AppendsPrefix out_before out_now) e (AppendsPrefix-after out_before out out_now (written next text (start dg node) lines) (text s bytes) wrote stop));
+      gives = Gives-more r t t was.taken [] was.gives (Gives-none t);
+      output = prefix_of dg node (answerable t.ended (was.taken ++ [])) (lines ++ line ∷ []) more.0 out_before.held out_now.held more.1
+          (subst (AppendsPrefix out_before.held out_now.held) e (AppendsPrefix-after out_before.held out.held out_now.held (written next text (start dg node) lines) (text s bytes) wrote stop));
     }
 
 -- each line is counted

@@ -3,7 +3,7 @@ pub mod Words
 pub mod Run
 pub mod PacketRuns
 pub mod Output
-pub mod Stops
+pub mod RunFaults
 pub mod Writing
 pub mod Engine
 pub mod Fitting

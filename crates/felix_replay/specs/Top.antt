@@ -1,7 +1,7 @@
 -- What a run of the program did.
-use Rattle.std.specs.Prelude.{if◌then◌else◌, ◌≡◌, ℕ, List, Bool, true, Option}
+use Rattle.std.specs.Prelude.{if◌then◌else◌, ◌≡◌, ◌⊎◌, ◌++◌, ℕ, List, Bool, true, Some}
 use Rattle.std.specs.Io.KnownBytes.{Appends, IsAtEnd}
-use Rattle.fx_base.specs.Streams.{Gives, AppendsPrefix}
+use Rattle.fx_base.specs.Streams.{SourceState, SinkState, Rose, Gives, AppendsPrefix}
 use Rattle.felix_replay.specs.declared.top.Status.{Status}
 use Rattle.felix_replay.specs.declared.top.Status.TheVariants.{Done, Refused, Usage, ReadFault, WriteFault, Memory, InputTooLong}
 use Rattle.fx_lines.specs.Lines.{answerable}
@@ -9,29 +9,29 @@ use Rattle.fx_names.specs.Digests.{Digest}
 use Rattle.felix_replay.specs.Output.{output, is_refused}
 
 -- The input was read to its end, and the output is the definition's. The input is all that the source had left, where it tells.
-pub record Ran (dg : Digest) (node : List ℕ) (left_before left_now : Option (List ℕ)) (given_before given_now : ℕ) (ended : Bool) (held_before held_now : Option (List ℕ)) (refused : Bool) : Type 0 where
+pub record Ran (dg : Digest) (node : List ℕ) (source_before source_now : SourceState) (sink_before sink_now : SinkState) (refused : Bool) : Type 0 where
   pub input : List ℕ
-  pub gives : Gives left_before left_now given_before given_now input
-  pub end : ended ≡ true
-  pub all : IsAtEnd left_now
-  pub output : Appends held_before held_now (output dg node input)
+  pub gives : Gives source_before source_now input
+  pub end : source_now.ended ≡ true
+  pub all : IsAtEnd source_now.left
+  pub output : Appends sink_before.held sink_now.held (output dg node input)
   pub status : refused ≡ is_refused dg node input
 
--- The run ended early. The output is a front of the definition's: for all that was taken once the end was met, else for its whole lines.
-pub record Stopped (dg : Digest) (node : List ℕ) (left_before left_now : Option (List ℕ)) (given_before given_now : ℕ) (ended : Bool) (held_before held_now : Option (List ℕ)) : Type 0 where
+-- The run ended early. The output is a prefix of the definition's: for all that was taken once the end was met, else for its whole lines.
+pub record Stopped (dg : Digest) (node : List ℕ) (source_before source_now : SourceState) (sink_before sink_now : SinkState) : Type 0 where
   pub taken : List ℕ
-  pub gives : Gives left_before left_now given_before given_now taken
-  pub output : AppendsPrefix held_before held_now (output dg node (answerable ended taken))
+  pub gives : Gives source_before source_now taken
+  pub output : AppendsPrefix sink_before.held sink_now.held (output dg node (answerable source_now.ended taken))
 
 -- the statuses of a run that ended early
-abbrev pub IsStop : Status → Type 0
-IsStop Done = ⊥
-IsStop Refused = ⊥
-IsStop Usage = ⊥
-IsStop ReadFault = Unit {0}
-IsStop WriteFault = Unit {0}
-IsStop Memory = Unit {0}
-IsStop InputTooLong = Unit {0}
+abbrev pub EndedEarly : Status → Type 0
+EndedEarly Done = ⊥
+EndedEarly Refused = ⊥
+EndedEarly Usage = ⊥
+EndedEarly ReadFault = Unit {0}
+EndedEarly WriteFault = Unit {0}
+EndedEarly Memory = Unit {0}
+EndedEarly InputTooLong = Unit {0}
 
 -- the statuses of a run that read its input to the end
 abbrev pub HasRun : Status → Type 0
@@ -46,3 +46,20 @@ HasRun InputTooLong = ⊥
 -- how a run over these bytes ends
 abbrev pub output_status : Digest → List ℕ → List ℕ → Status
 output_status dg node input = if is_refused dg node input then Refused else Done
+
+-- where the source tells what is left and the sink what it holds, the output and the status are the definition's
+abbrev pub IsAsDefined : Digest → List ℕ → SourceState → SinkState → SinkState → Status → Type 0
+IsAsDefined dg node source before now status = (input held : List ℕ) → source.left ≡ Some input → before.held ≡ Some held
+    → (now.held ≡ Some (held ++ output dg node input)) × (status ≡ output_status dg node input)
+
+-- the run read its input to the end, or there was no memory
+abbrev pub HasRunOrMemory : Status → Type 0
+HasRunOrMemory status = HasRun status ⊎ (status ≡ Memory)
+
+-- a source failed between two moments
+abbrev pub SourceFailed : SourceState → SourceState → Type 0
+SourceFailed before now = Rose before.faults now.faults
+
+-- a sink failed between two moments
+abbrev pub SinkFailed : SinkState → SinkState → Type 0
+SinkFailed before now = Rose before.faults now.faults

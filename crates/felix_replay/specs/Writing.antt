@@ -1,20 +1,20 @@
 -- How a call writes a text to a sink.
-use Rattle.std.specs.Prelude.{◌≤◌, ℕ, List, Option, Result, MatchResult, OnOk, OnErr, ⊤}
+use Rattle.std.specs.Prelude.{◌≤◌, ℕ, List, Result, MatchResult, OnOk, OnErr, ⊤}
 use Rattle.std.specs.Io.KnownBytes.{Appends}
-use Rattle.fx_base.specs.Streams.{Rose, AppendsPrefix}
-use Rattle.felix_replay.specs.declared.stop.Stop.{Stop}
-use Rattle.felix_replay.specs.declared.stop.Stop.TheVariants as stop
+use Rattle.fx_base.specs.Streams.{SinkState, Rose, AppendsPrefix}
+use Rattle.felix_replay.specs.declared.run_fault.RunFault.{RunFault}
+use Rattle.felix_replay.specs.declared.run_fault.RunFault.TheVariants as fault
 
--- a call that only writes stops for want of memory, or where the sink's count of faults rose
-abbrev pub IsOutStop : ℕ → ℕ → Stop → Type 0
-IsOutStop before now stop.Memory = ⊤
-IsOutStop before now stop.WriteFault = Rose before now
-IsOutStop before now stop.ReadFault = ⊥
-IsOutStop before now stop.InputTooLong = ⊥
+-- a call that only writes fails for want of memory, or where the sink's count of faults rose
+abbrev pub IsWritingFault : SinkState → SinkState → RunFault → Type 0
+IsWritingFault before now fault.Memory = ⊤
+IsWritingFault before now fault.WriteFault = Rose before.faults now.faults
+IsWritingFault before now fault.ReadFault = ⊥
+IsWritingFault before now fault.InputTooLong = ⊥
 
--- the text was written whole, or a front of it and there is a cause
-pub record Writes {T : Type 0} (held_before held_now : Option (List ℕ)) (faults_before faults_now : ℕ) (text : List ℕ) (result : Result T Stop) : Type 0 where
-  pub whole : OnOk result (Appends held_before held_now text)
-  pub front : OnErr result (AppendsPrefix held_before held_now text)
-  pub later : faults_before ≤ faults_now
-  pub cause : MatchResult result (λ _. ⊤) (IsOutStop faults_before faults_now)
+-- the text was written whole, or a prefix of it and there is a cause
+pub record Writes {T : Type 0} (before now : SinkState) (text : List ℕ) (result : Result T RunFault) : Type 0 where
+  pub whole : OnOk result (Appends before.held now.held text)
+  pub prefix : OnErr result (AppendsPrefix before.held now.held text)
+  pub later : before.faults ≤ now.faults
+  pub cause : MatchResult result (λ _. ⊤) (IsWritingFault before now)

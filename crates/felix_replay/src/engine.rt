@@ -19,7 +19,7 @@ ghost use Rattle.felix_replay.specs.Writing.{Writes};
 
 use crate::driver::tables_of;
 use crate::sending::{put_all, put_one, send};
-use crate::stop::Stop;
+use crate::run_fault::RunFault;
 use fx_base::{Memory, Sink, Text};
 use fx_json::{ReadFault, Refusal};
 use fx_lines::{Command, read_command};
@@ -67,12 +67,12 @@ impl Engine {
         line: &[u8],
         namer: &Namer<R, F>,
         sink: &mut K,
-    ) -> Result<(), Stop>
+    ) -> Result<(), RunFault>
         requires kept { IsKept R.digest_of self.old }
         requires few { self.old.lines < 2 ^ 64 - 1 }
         ensures kept { OnOk result (IsKept R.digest_of self.new) }
         ensures state { OnOk result (state_of R.digest_of self.new ≡ next (state_of R.digest_of self.old) line.now) }
-        ensures writes { Writes (K.held sink.old) (K.held sink.new) (K.faults sink.old) (K.faults sink.new) (text (state_of R.digest_of self.old) line.now) result }
+        ensures writes { Writes (K.state sink.old) (K.state sink.new) (text (state_of R.digest_of self.old) line.now) result }
     {
         let said = command_in(self.alloc, line)?;
         let answer = checked(self.alloc, &self.store, said, namer)?;
@@ -84,13 +84,13 @@ impl Engine {
         answer: Result<Command, Refusal>,
         namer: &Namer<R, F>,
         sink: &mut K,
-    ) -> Result<(), Stop>
+    ) -> Result<(), RunFault>
         requires kept { IsKept R.digest_of self.old }
         requires few { self.old.lines < 2 ^ 64 - 1 }
         requires fits { IfOk answer (Fits R.digest_of self.old.store.resources) }
         ensures kept { OnOk result (IsKept R.digest_of self.new) }
         ensures state { OnOk result (state_of R.digest_of self.new ≡ after_answer (state_of R.digest_of self.old) answer) }
-        ensures writes { Writes (K.held sink.old) (K.held sink.new) (K.faults sink.old) (K.faults sink.new) (answer_text (state_of R.digest_of self.old) answer) result }
+        ensures writes { Writes (K.state sink.old) (K.state sink.new) (answer_text (state_of R.digest_of self.old) answer) result }
     {
         self.lines += 1;
         match answer {
@@ -117,17 +117,17 @@ impl Engine {
         Ok(())
     }
 
-    fn put_tables<K: Sink>(&self, sink: &mut K) -> Result<(), Stop>
+    fn put_tables<K: Sink>(&self, sink: &mut K) -> Result<(), RunFault>
         requires rendered { IsRendered self.now }
-        ensures writes { Writes (K.held sink.old) (K.held sink.new) (K.faults sink.old) (K.faults sink.new) (concat (table_lines (tables_of self.now.sent))) result }
+        ensures writes { Writes (K.state sink.old) (K.state sink.new) (concat (table_lines (tables_of self.now.sent))) result }
     {
         let lines = tables_text(self.alloc, self.tables.sets(), self.tables.chains())?;
         put_all(&lines, sink)
     }
 
-    fn put_packet<K: Sink>(&self, packet: &Packet, sink: &mut K) -> Result<(), Stop>
+    fn put_packet<K: Sink>(&self, packet: &Packet, sink: &mut K) -> Result<(), RunFault>
         requires rendered { IsRendered self.now }
-        ensures writes { Writes (K.held sink.old) (K.held sink.new) (K.faults sink.old) (K.faults sink.new) (packet_text (tables_of self.now.sent) packet.now) result }
+        ensures writes { Writes (K.state sink.old) (K.state sink.new) (packet_text (tables_of self.now.sent) packet.now) result }
     {
         let lines = self.decided(packet)?;
         put_all(&lines, sink)
@@ -151,9 +151,9 @@ impl Engine {
         )
     }
 
-    fn refuse<K: Sink>(&mut self, refusal: &Refusal, sink: &mut K) -> Result<(), Stop>
+    fn refuse<K: Sink>(&mut self, refusal: &Refusal, sink: &mut K) -> Result<(), RunFault>
         ensures same { OnOk result (self.new ≡ record self.old { refused = true }) }
-        ensures writes { Writes (K.held sink.old) (K.held sink.new) (K.faults sink.old) (K.faults sink.new) (refusal_line self.old.lines refusal.now) result }
+        ensures writes { Writes (K.state sink.old) (K.state sink.new) (refusal_line self.old.lines refusal.now) result }
     {
         self.refused = true;
         let line = refusal_text(self.alloc, self.lines, refusal)?;
@@ -166,11 +166,11 @@ impl Engine {
         &mut self,
         namer: &Namer<R, F>,
         sink: &mut K,
-    ) -> Result<(), Stop>
+    ) -> Result<(), RunFault>
         requires kept { IsKept R.digest_of self.old }
         ensures kept { OnOk result (IsKept R.digest_of self.new) }
         ensures state { OnOk result (state_of R.digest_of self.new ≡ record (state_of R.digest_of self.old) { sent = view_of R.digest_of self.old.store.resources }) }
-        ensures writes { Writes (K.held sink.old) (K.held sink.new) (K.faults sink.old) (K.faults sink.new) (flush_text self.old.sent (view_of R.digest_of self.old.store.resources)) result }
+        ensures writes { Writes (K.state sink.old) (K.state sink.new) (flush_text self.old.sent (view_of R.digest_of self.old.store.resources)) result }
     {
         let wanted = view_of(self.alloc, self.store.resources(), namer)?;
         let tables = tables_of(self.alloc, &wanted)?;
@@ -180,8 +180,8 @@ impl Engine {
     }
 }
 
-fn put_count<K: Sink>(alloc: Global, count: u64, sink: &mut K) -> Result<(), Stop>
-    ensures writes { Writes (K.held sink.old) (K.held sink.new) (K.faults sink.old) (K.faults sink.new) (flushed_line count) result }
+fn put_count<K: Sink>(alloc: Global, count: u64, sink: &mut K) -> Result<(), RunFault>
+    ensures writes { Writes (K.state sink.old) (K.state sink.new) (flushed_line count) result }
 {
     let line = flushed_text(alloc, count)?;
     put_one(&line, sink)

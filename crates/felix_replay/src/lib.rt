@@ -14,10 +14,10 @@ mod refusal_tests;
 mod rule_rows;
 #[cfg(test)]
 mod rule_tests;
+mod run_fault;
 #[cfg(test)]
 mod run_rows;
 mod sending;
-mod stop;
 #[cfg(test)]
 mod tests;
 mod top;

@@ -5,23 +5,23 @@ ghost use Rattle.fx_model.specs.Messages.{next_message, step};
 ghost use Rattle.felix_replay.specs.Output.{messages_text, told_count, first_text};
 ghost use Rattle.felix_replay.specs.Writing.{Writes};
 
-use crate::stop::Stop;
+use crate::run_fault::RunFault;
 use fx_base::{Sink, Text};
 use fx_model::{View, next_message, place_of, take_at};
 use fx_print::message_text;
 use std::alloc::Global;
 
 /// Writes a line by one put.
-pub fn put_one<K: Sink>(line: &Text, sink: &mut K) -> Result<(), Stop>
-    ensures writes { Writes (K.held sink.old) (K.held sink.new) (K.faults sink.old) (K.faults sink.new) line.now result }
+pub fn put_one<K: Sink>(line: &Text, sink: &mut K) -> Result<(), RunFault>
+    ensures writes { Writes (K.state sink.old) (K.state sink.new) line.now result }
 {
     sink.put(line.bytes())?;
     Ok(())
 }
 
 /// Writes each line by one put.
-pub fn put_all<K: Sink>(lines: &[Text], sink: &mut K) -> Result<(), Stop>
-    ensures writes { Writes (K.held sink.old) (K.held sink.new) (K.faults sink.old) (K.faults sink.new) (concat lines.now) result }
+pub fn put_all<K: Sink>(lines: &[Text], sink: &mut K) -> Result<(), RunFault>
+    ensures writes { Writes (K.state sink.old) (K.state sink.new) (concat lines.now) result }
 {
     for line in lines {
         put_one(line, sink)?;
@@ -35,10 +35,10 @@ fn send_next<K: Sink>(
     sent: &mut View,
     wanted: &View,
     sink: &mut K,
-) -> Result<bool, Stop>
+) -> Result<bool, RunFault>
     ensures found { IfOk result (λ found. found ≡ is_some (next_message sent.old wanted.now)) }
     ensures step { OnOk result (sent.new ≡ step sent.old wanted.now) }
-    ensures writes { Writes (K.held sink.old) (K.held sink.new) (K.faults sink.old) (K.faults sink.new) (first_text (next_message sent.old wanted.now)) result }
+    ensures writes { Writes (K.state sink.old) (K.state sink.new) (first_text (next_message sent.old wanted.now)) result }
 {
     let Some(message) = next_message(sent, wanted) else {
         return Ok(false);
@@ -56,10 +56,10 @@ pub fn send<K: Sink>(
     sent: &mut View,
     wanted: &View,
     sink: &mut K,
-) -> Result<u64, Stop>
+) -> Result<u64, RunFault>
     ensures count { IfOk result (λ count. count ≡ told_count sent.old wanted.now) }
     ensures reached { OnOk result (sent.new ≡ wanted.now) }
-    ensures writes { Writes (K.held sink.old) (K.held sink.new) (K.faults sink.old) (K.faults sink.new) (messages_text sent.old wanted.now) result }
+    ensures writes { Writes (K.state sink.old) (K.state sink.new) (messages_text sent.old wanted.now) result }
 {
     let mut count: u64 = 0;
     while send_next(alloc, sent, wanted, sink)? {

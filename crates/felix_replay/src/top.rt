@@ -1,18 +1,19 @@
 //! The top call: from the bytes of a source to the bytes of a sink.
-ghost use Rattle.std.specs.Prelude.{List, ℕ, ◌++◌, Some, ◌≡◌, ◌⊎◌, ◌+◌, ◌^◌, ◌<◌, ◌≤◌, IfOk, OnOk, OnErr, IsErrOf, IsSome, None, false, true};
-ghost use Rattle.std.specs.Io.KnownBytes.{Appends, Keeps};
-ghost use Rattle.fx_base.specs.Streams.{Rose, AppendsPrefix};
+ghost use Rattle.std.specs.Prelude.{List, ℕ, ◌≡◌, ◌⊎◌, ◌^◌, ◌<◌, ◌≤◌, IfOk, OnOk, OnErr, IsErrOf, IsSome, None, false, true};
+ghost use Rattle.std.specs.Io.KnownBytes.{Appends};
+ghost use Rattle.fx_base.specs.Streams.{AppendsPrefix};
 ghost use Rattle.felix_replay.specs.Words.{node_of, node_name};
 ghost use Rattle.fx_print.specs.Texts.{usage_line};
-ghost use Rattle.felix_replay.specs.Top.{Ran, Stopped, IsStop, HasRun, output_status};
+ghost use Rattle.felix_replay.specs.Top.{Ran, Stopped, EndedEarly, HasRun, HasRunOrMemory, IsAsDefined, SourceFailed, SinkFailed};
 ghost use Rattle.std.specs.List.{AllByRecursion};
 ghost use Rattle.fx_lines.specs.Lines.{lines_of};
-ghost use Rattle.felix_replay.specs.Output.{output, start};
+ghost use Rattle.fx_lines.specs.Reading.{HasFailedRead, IsTooLong};
+ghost use Rattle.felix_replay.specs.Output.{start};
 ghost use Rattle.felix_replay.specs.Closing.{IsWhole, views_along};
 ghost use Rattle.felix_replay.specs.Policed.{KeepsPolicy, PathsAreRuns};
 
 use crate::engine::Engine;
-use crate::stop::Stop;
+use crate::run_fault::RunFault;
 use crate::words::node_word;
 use fx_base::{Sink, Source, Text};
 use fx_lines::LineReader;
@@ -43,18 +44,19 @@ pub fn felix_replay<S: Source, K: Sink, R: DigestRule, F: DigestFunction<R> + Dr
     sink: &mut K,
     namer: Namer<R, F>,
 ) -> Status
-    requires fresh { S.given source.old ≡ 0 }
-    requires unended { S.ended source.old ≡ false }
+    requires fresh { (S.state source.old).given ≡ 0 }
+    requires unended { (S.state source.old).ended ≡ false }
 
     // The input was read to its end, and the output is the definition's.
-    ensures done { result ≡ Status.Done → IsSome (node_of words.now)
-        × Ran R.digest_of (node_name words.now) (S.left source.old) (S.left source.new) (S.given source.old) (S.given source.new) (S.ended source.new) (K.held sink.old) (K.held sink.new) false }
-    ensures refused { result ≡ Status.Refused → IsSome (node_of words.now)
-        × Ran R.digest_of (node_name words.now) (S.left source.old) (S.left source.new) (S.given source.old) (S.given source.new) (S.ended source.new) (K.held sink.old) (K.held sink.new) true }
+    ensures named { HasRun result → IsSome (node_of words.now) }
+    ensures done { result ≡ Status.Done
+        → Ran R.digest_of (node_name words.now) (S.state source.old) (S.state source.new) (K.state sink.old) (K.state sink.new) false }
+    ensures refused { result ≡ Status.Refused
+        → Ran R.digest_of (node_name words.now) (S.state source.old) (S.state source.new) (K.state sink.old) (K.state sink.new) true }
 
     // The same where the source tells what is left and the sink what it holds.
-    ensures told { (input : List ℕ) (held : List ℕ) → S.left source.old ≡ Some input → K.held sink.old ≡ Some held → HasRun result
-        → (K.held sink.new ≡ Some (held ++ output R.digest_of (node_name words.now) input)) × (result ≡ output_status R.digest_of (node_name words.now) input) }
+    ensures told { HasRun result
+        → IsAsDefined R.digest_of (node_name words.now) (S.state source.old) (K.state sink.old) (K.state sink.new) result }
 
     // After each single message nothing that is named is missing, in the sent view and in its tables.
     ensures closed { (input : List ℕ) → AllByRecursion IsWhole (views_along (start R.digest_of (node_name words.now)) (lines_of input)) }
@@ -66,23 +68,33 @@ pub fn felix_replay<S: Source, K: Sink, R: DigestRule, F: DigestFunction<R> + Dr
     ensures policy { KeepsPolicy R.digest_of (node_name words.now) }
 
     // Without a fault it is never anything else but want of memory.
-    ensures complete { IsSome (node_of words.now) → ¬ Rose (S.faults source.old) (S.faults source.new) → ¬ Rose (K.faults sink.old) (K.faults sink.new)
-        → S.given source.new < 2 ^ 32 → HasRun result ⊎ (result ≡ Status.Memory) }
+    ensures complete { IsSome (node_of words.now)
+        → ¬ SourceFailed (S.state source.old) (S.state source.new) → ¬ SinkFailed (K.state sink.old) (K.state sink.new)
+        → (S.state source.new).given < 2 ^ 32 → HasRunOrMemory result }
+
+    // Nor where the end was met, whatever a read behind it does.
+    ensures read_whole { IsSome (node_of words.now) → (S.state source.new).ended ≡ true
+        → ¬ SinkFailed (K.state sink.old) (K.state sink.new) → HasRunOrMemory result }
 
     // The words aren't in the grammar.
-    ensures usage { result ≡ Status.Usage → (node_of words.now ≡ None)
-        × Appends (K.held sink.old) (K.held sink.new) usage_line }
+    ensures usage { result ≡ Status.Usage → node_of words.now ≡ None }
+    ensures usage_told { result ≡ Status.Usage → Appends (K.state sink.old).held (K.state sink.new).held usage_line }
     ensures only_usage { node_of words.now ≡ None → (result ≡ Status.Usage) ⊎ (result ≡ Status.WriteFault) }
 
-    // What a run that ended early has written is a front of the output.
-    ensures stopped { IsSome (node_of words.now) → IsStop result
-        → Stopped R.digest_of (node_name words.now) (S.left source.old) (S.left source.new) (S.given source.old) (S.given source.new) (S.ended source.new) (K.held sink.old) (K.held sink.new) }
-    ensures no_usage { node_of words.now ≡ None → AppendsPrefix (K.held sink.old) (K.held sink.new) usage_line }
+    // What a run that ended early has written is a prefix of the output.
+    ensures stopped { IsSome (node_of words.now) → EndedEarly result
+        → Stopped R.digest_of (node_name words.now) (S.state source.old) (S.state source.new) (K.state sink.old) (K.state sink.new) }
+    ensures no_usage { node_of words.now ≡ None → AppendsPrefix (K.state sink.old).held (K.state sink.new).held usage_line }
 
     // Each other end has its cause.
-    ensures read_fault { result ≡ Status.ReadFault → Rose (S.faults source.old) (S.faults source.new) }
-    ensures write_fault { result ≡ Status.WriteFault → Rose (K.faults sink.old) (K.faults sink.new) }
-    ensures too_long { result ≡ Status.InputTooLong → (S.given source.new ≡ 2 ^ 32) × (S.ended source.new ≡ false) }
+    ensures read_fault { result ≡ Status.ReadFault → SourceFailed (S.state source.old) (S.state source.new) }
+    ensures write_fault { result ≡ Status.WriteFault → SinkFailed (K.state sink.old) (K.state sink.new) }
+    ensures too_long { result ≡ Status.InputTooLong → IsTooLong (S.state source.new) }
+
+    // At the limit it is never anything else but want of memory, whatever failed before.
+    ensures limit { IsSome (node_of words.now) → IsTooLong (S.state source.new)
+        → (result ≡ Status.InputTooLong) ⊎ (result ≡ Status.Memory) }
+    ensures limited { (S.state source.new).given ≤ 2 ^ 32 }
 {
     let Some(node) = node_word(words) else {
         return tell_usage(sink);
@@ -90,18 +102,18 @@ pub fn felix_replay<S: Source, K: Sink, R: DigestRule, F: DigestFunction<R> + Dr
     match replay(alloc, node, source, sink, &namer) {
         Ok(false) => Status::Done,
         Ok(true) => Status::Refused,
-        Err(Stop::ReadFault) => Status::ReadFault,
-        Err(Stop::WriteFault) => Status::WriteFault,
-        Err(Stop::Memory) => Status::Memory,
-        Err(Stop::InputTooLong) => Status::InputTooLong,
+        Err(RunFault::ReadFault) => Status::ReadFault,
+        Err(RunFault::WriteFault) => Status::WriteFault,
+        Err(RunFault::Memory) => Status::Memory,
+        Err(RunFault::InputTooLong) => Status::InputTooLong,
     }
 }
 
 fn tell_usage<K: Sink>(sink: &mut K) -> Status
-    ensures told { result ≡ Status.Usage → Appends (K.held sink.old) (K.held sink.new) usage_line }
+    ensures told { result ≡ Status.Usage → Appends (K.state sink.old).held (K.state sink.new).held usage_line }
     ensures only { (result ≡ Status.Usage) ⊎ (result ≡ Status.WriteFault) }
-    ensures front { AppendsPrefix (K.held sink.old) (K.held sink.new) usage_line }
-    ensures cause { result ≡ Status.WriteFault → Rose (K.faults sink.old) (K.faults sink.new) }
+    ensures prefix { AppendsPrefix (K.state sink.old).held (K.state sink.new).held usage_line }
+    ensures cause { result ≡ Status.WriteFault → SinkFailed (K.state sink.old) (K.state sink.new) }
 {
     match sink.put(b"usage: felix-replay --node NAME [--soak SEED --count N]\n") {
         Ok(()) => Status::Usage,
@@ -116,15 +128,17 @@ fn replay<S: Source, K: Sink, R: DigestRule, F: DigestFunction<R> + Drop>(
     source: &mut S,
     sink: &mut K,
     namer: &Namer<R, F>,
-) -> Result<bool, Stop>
-    requires fresh { S.given source.old ≡ 0 }
-    requires unended { S.ended source.old ≡ false }
-    ensures ran { IfOk result (Ran R.digest_of node.now (S.left source.old) (S.left source.new) (S.given source.old) (S.given source.new) (S.ended source.new) (K.held sink.old) (K.held sink.new)) }
-    ensures stopped { OnErr result (Stopped R.digest_of node.now (S.left source.old) (S.left source.new) (S.given source.old) (S.given source.new) (S.ended source.new) (K.held sink.old) (K.held sink.new)) }
-    ensures read_fault { IsErrOf result Stop.ReadFault → Rose (S.faults source.old) (S.faults source.new) }
-    ensures write_fault { IsErrOf result Stop.WriteFault → Rose (K.faults sink.old) (K.faults sink.new) }
-    ensures too_long { IsErrOf result Stop.InputTooLong → (S.given source.new ≡ 2 ^ 32) × (S.ended source.new ≡ false) }
-    ensures short { OnOk result (S.given source.new < 2 ^ 32) }
+) -> Result<bool, RunFault>
+    requires fresh { (S.state source.old).given ≡ 0 }
+    requires unended { (S.state source.old).ended ≡ false }
+    ensures ran { IfOk result (Ran R.digest_of node.now (S.state source.old) (S.state source.new) (K.state sink.old) (K.state sink.new)) }
+    ensures stopped { OnErr result (Stopped R.digest_of node.now (S.state source.old) (S.state source.new) (K.state sink.old) (K.state sink.new)) }
+    ensures read_fault { IsErrOf result RunFault.ReadFault → HasFailedRead (S.state source.old) (S.state source.new) }
+    ensures write_fault { IsErrOf result RunFault.WriteFault → SinkFailed (K.state sink.old) (K.state sink.new) }
+    ensures write_short { IsErrOf result RunFault.WriteFault → (S.state source.new).given < 2 ^ 32 }
+    ensures too_long { IsErrOf result RunFault.InputTooLong → IsTooLong (S.state source.new) }
+    ensures short { OnOk result ((S.state source.new).given < 2 ^ 32) }
+    ensures limited { (S.state source.new).given ≤ 2 ^ 32 }
 {
     let mut reader = LineReader::new(alloc);
     let mut engine = Engine::new(alloc, node.clone()?)?;

@@ -1,4 +1,4 @@
--- How lines are cut off the front of some bytes.
+-- How lines are cut off the beginning of some bytes.
 use Rattle.std.proofs.Common.{◌≡◌, ◌≢◌, ◌⊎◌, inl, inr, ⊎_elim, ◌<◌, ◌≤◌, ◌+◌, ℕ, suc, List, [], ◌∷◌, ◌++◌, length, slice_index, Bool, true, false, Option, Some, None, refl, sym, ◌∙◌, ap, subst, arith, length-append, append_assoc}
 use Rattle.std.proofs.Common.{cond, Result, Ok, Err, OnErr}
 use Rattle.std.proofs.lemmas.List.{append-nil, get_or_append_left}
@@ -7,9 +7,9 @@ use Rattle.std.proofs.lemmas.Bool.Decides.{nat_tests}
 use Rattle.fx_base.specs.Streams.{SourceState, Gives}
 use Rattle.fx_base.proofs.Compose.{Gives-more, Gives-none}
 use Rattle.fx_lines.specs.Lines.{lines_of, HasNoNewline, has_newline, to_last_newline, answerable}
-use Rattle.fx_lines.specs.Reading.{IsNext, line_if, AreLines, IsCut, HasRead}
+use Rattle.fx_lines.specs.Reading.{IsNext, line_if, AreLines, IsCutIntoLines, HasRead}
 
--- a front without a newline, by its places
+-- a prefix without a newline, by its places
 pub HasNoNewline-from_places : (bytes : List ℕ) → ((k : ℕ) → k < length bytes → slice_index bytes k ≢ 10) → HasNoNewline bytes
 HasNoNewline-from_places [] none = tt
 HasNoNewline-from_places (b ∷ bytes) none = (none 0 (omega arith), HasNoNewline-from_places bytes (λ k small. none (suc k) (omega arith)))
@@ -45,16 +45,16 @@ pub none_before : (held bytes : List ℕ) (from at : ℕ) → bytes ≡ held →
 none_before held bytes from at same below above =
     places_below (λ k. slice_index held k ≢ 10) from at below (subst (λ (l : List ℕ). (k : ℕ) → from ≤ k → k < at → slice_index l k ≢ 10) same above)
 
-pub none_in_front : (line rest : List ℕ) → NoneBefore (line ++ rest) (length line) → HasNoNewline line
-none_in_front [] rest none = tt
-none_in_front (b ∷ line) rest none = (none 0 (omega arith), none_in_front line rest (λ k small. none (suc k) (omega arith)))
+pub none_in_prefix : (line rest : List ℕ) → NoneBefore (line ++ rest) (length line) → HasNoNewline line
+none_in_prefix [] rest none = tt
+none_in_prefix (b ∷ line) rest none = (none 0 (omega arith), none_in_prefix line rest (λ k small. none (suc k) (omega arith)))
 
 pub none_goes_on : (bytes more : List ℕ) (at : ℕ) → at ≤ length bytes → NoneBefore bytes at → NoneBefore (bytes ++ more) at
 none_goes_on bytes more at within none k small = subst (λ (x : ℕ). x ≢ 10) (sym (get_or_append_left bytes more 0 k (omega arith))) (none k small)
 
 pub line_is_next : (before piece held line now : List ℕ) (ended : Bool) (at : ℕ) → held ≡ before ++ piece → held ≡ line ++ 10 ∷ now → length line ≡ at → NoneBefore held at → IsNext before piece (Some line) now ended
 line_is_next before piece held line now ended at whole is long none = (
-  none_in_front line (10 ∷ now) (subst (λ (n : ℕ). NoneBefore (line ++ 10 ∷ now) n) (sym long) (subst (λ (l : List ℕ). NoneBefore l at) is none)),
+  none_in_prefix line (10 ∷ now) (subst (λ (n : ℕ). NoneBefore (line ++ 10 ∷ now) n) (sym long) (subst (λ (l : List ℕ). NoneBefore l at) is none)),
   inl (sym whole ∙ is),
 )
 
@@ -82,44 +82,44 @@ to_last_newline-line (b ∷ line) more =
     ap (λ (t : Bool). cond t (b ∷ to_last_newline (line ++ 10 ∷ more)) []) (has_newline-line (b ∷ line) more)
     ∙ ap (λ (l : List ℕ). b ∷ l) (to_last_newline-line line more)
 
-AreLines-more : (front line : List ℕ) (lines : List (List ℕ)) → AreLines front lines → HasNoNewline line → AreLines (front ++ (line ++ 10 ∷ [])) (lines ++ line ∷ [])
-AreLines-more front line lines was none = record {
+AreLines-more : (prefix line : List ℕ) (lines : List (List ℕ)) → AreLines prefix lines → HasNoNewline line → AreLines (prefix ++ (line ++ 10 ∷ [])) (lines ++ line ∷ [])
+AreLines-more prefix line lines was none = record {
   goes = λ m.
-      ap lines_of (append_assoc front (line ++ 10 ∷ []) m)
+      ap lines_of (append_assoc prefix (line ++ 10 ∷ []) m)
       ∙ was.goes ((line ++ 10 ∷ []) ++ m)
       ∙ ap (λ (l : List ℕ). lines ++ lines_of l) (append_assoc line (10 ∷ []) m)
       ∙ ap (λ (l : List (List ℕ)). lines ++ l) (lines_of-first line m none)
       ∙ sym (append_assoc lines (line ∷ []) (lines_of m));
   whole = λ m.
-      ap to_last_newline (append_assoc front (line ++ 10 ∷ []) m)
+      ap to_last_newline (append_assoc prefix (line ++ 10 ∷ []) m)
       ∙ was.whole ((line ++ 10 ∷ []) ++ m)
-      ∙ ap (λ (l : List ℕ). front ++ to_last_newline l) (append_assoc line (10 ∷ []) m)
-      ∙ ap (λ (l : List ℕ). front ++ l) (to_last_newline-line line m ∙ sym (append_assoc line (10 ∷ []) (to_last_newline m)))
-      ∙ sym (append_assoc front (line ++ 10 ∷ []) (to_last_newline m));
+      ∙ ap (λ (l : List ℕ). prefix ++ to_last_newline l) (append_assoc line (10 ∷ []) m)
+      ∙ ap (λ (l : List ℕ). prefix ++ l) (to_last_newline-line line m ∙ sym (append_assoc line (10 ∷ []) (to_last_newline m)))
+      ∙ sym (append_assoc prefix (line ++ 10 ∷ []) (to_last_newline m));
 }
 
 -- before the first line
 pub HasRead-none : (s : SourceState) (ended : Bool) → HasRead s s [] ended []
-HasRead-none s ended = record { taken = []; gives = Gives-none s; cut = record { front = []; whole = refl; cut = inl AreLines-none } }
+HasRead-none s ended = record { taken = []; gives = Gives-none s; cut = record { prefix = []; whole = refl; cut = inl AreLines-none } }
 
 -- one line more
-pub IsCut-more : (taken held piece : List ℕ) (ended ended_now : Bool) (lines : List (List ℕ)) (line now : List ℕ) → IsCut taken held ended lines → (ended ≡ true → piece ≡ []) → IsNext held piece (Some line) now ended_now
-    → IsCut (taken ++ piece) now ended_now (lines ++ line ∷ [])
-IsCut-more taken held piece ended ended_now lines line now was quiet (none, next) = more was.cut next
+pub IsCutIntoLines-more : (taken held piece : List ℕ) (ended ended_now : Bool) (lines : List (List ℕ)) (line now : List ℕ) → IsCutIntoLines taken held ended lines → (ended ≡ true → piece ≡ []) → IsNext held piece (Some line) now ended_now
+    → IsCutIntoLines (taken ++ piece) now ended_now (lines ++ line ∷ [])
+IsCutIntoLines-more taken held piece ended ended_now lines line now was quiet (none, next) = more was.cut next
   where
-    joined : taken ++ piece ≡ was.front ++ (held ++ piece)
-    joined = ap (λ (l : List ℕ). l ++ piece) was.whole ∙ append_assoc was.front held piece
+    joined : taken ++ piece ≡ was.prefix ++ (held ++ piece)
+    joined = ap (λ (l : List ℕ). l ++ piece) was.whole ∙ append_assoc was.prefix held piece
 
-    more : AreLines was.front lines ⊎ ((lines_of was.front ≡ lines) × (held ≡ []) × (ended ≡ true))
-        → (held ++ piece ≡ line ++ 10 ∷ now) ⊎ ((held ++ piece ≡ line) × (0 < length line) × (now ≡ []) × (ended_now ≡ true)) → IsCut (taken ++ piece) now ended_now (lines ++ line ∷ [])
+    more : AreLines was.prefix lines ⊎ ((lines_of was.prefix ≡ lines) × (held ≡ []) × (ended ≡ true))
+        → (held ++ piece ≡ line ++ 10 ∷ now) ⊎ ((held ++ piece ≡ line) × (0 < length line) × (now ≡ []) × (ended_now ≡ true)) → IsCutIntoLines (taken ++ piece) now ended_now (lines ++ line ∷ [])
     more (inl cut) (inl is) = record {
-      front = was.front ++ (line ++ 10 ∷ []);
-      whole = joined ∙ ap (λ (l : List ℕ). was.front ++ l) (is ∙ sym (append_assoc line (10 ∷ []) now)) ∙ sym (append_assoc was.front (line ++ 10 ∷ []) now);
-      cut = inl (AreLines-more was.front line lines cut none);
+      prefix = was.prefix ++ (line ++ 10 ∷ []);
+      whole = joined ∙ ap (λ (l : List ℕ). was.prefix ++ l) (is ∙ sym (append_assoc line (10 ∷ []) now)) ∙ sym (append_assoc was.prefix (line ++ 10 ∷ []) now);
+      cut = inl (AreLines-more was.prefix line lines cut none);
     }
     more (inl cut) (inr last) = record {
-      front = was.front ++ line;
-      whole = joined ∙ ap (λ (l : List ℕ). was.front ++ l) last.0 ∙ sym (append-nil (was.front ++ line)) ∙ ap (λ (l : List ℕ). (was.front ++ line) ++ l) (sym last.2);
+      prefix = was.prefix ++ line;
+      whole = joined ∙ ap (λ (l : List ℕ). was.prefix ++ l) last.0 ∙ sym (append-nil (was.prefix ++ line)) ∙ ap (λ (l : List ℕ). (was.prefix ++ line) ++ l) (sym last.2);
       cut = inr (cut.goes line ∙ ap (λ (l : List (List ℕ)). lines ++ l) (lines_of-last line none last.1), last.2, last.3);
     }
     more (inr (all, empty, end)) (inl is) =
@@ -130,37 +130,37 @@ IsCut-more taken held piece ended ended_now lines line now was quiet (none, next
         absurd (omega (arith, last.1, ap length last.0, ap length nothing))
 
 -- What is answerable of what was taken by now begins with the lines.
-pub answerable-lines : (taken held piece : List ℕ) (ended ended_now : Bool) (lines : List (List ℕ)) → IsCut taken held ended lines → (ended ≡ true → (piece ≡ []) × (ended_now ≡ true))
+pub answerable-lines : (taken held piece : List ℕ) (ended ended_now : Bool) (lines : List (List ℕ)) → IsCutIntoLines taken held ended lines → (ended ≡ true → (piece ≡ []) × (ended_now ≡ true))
     → (rest : List (List ℕ)) × (lines_of (answerable ended_now (taken ++ piece)) ≡ lines ++ rest)
 answerable-lines taken held piece ended ended_now lines was quiet = by_cut was.cut
   where
-    joined : taken ++ piece ≡ was.front ++ (held ++ piece)
-    joined = ap (λ (l : List ℕ). l ++ piece) was.whole ∙ append_assoc was.front held piece
+    joined : taken ++ piece ≡ was.prefix ++ (held ++ piece)
+    joined = ap (λ (l : List ℕ). l ++ piece) was.whole ∙ append_assoc was.prefix held piece
 
-    at_end : (e : Bool) → AreLines was.front lines → (rest : List (List ℕ)) × (lines_of (answerable e (was.front ++ (held ++ piece))) ≡ lines ++ rest)
+    at_end : (e : Bool) → AreLines was.prefix lines → (rest : List (List ℕ)) × (lines_of (answerable e (was.prefix ++ (held ++ piece))) ≡ lines ++ rest)
     at_end true cut = (lines_of (held ++ piece), cut.goes (held ++ piece))
     at_end false cut = (lines_of (to_last_newline (held ++ piece)), ap lines_of (cut.whole (held ++ piece)) ∙ cut.goes (to_last_newline (held ++ piece)))
 
-    by_cut : AreLines was.front lines ⊎ ((lines_of was.front ≡ lines) × (held ≡ []) × (ended ≡ true)) → (rest : List (List ℕ)) × (lines_of (answerable ended_now (taken ++ piece)) ≡ lines ++ rest)
+    by_cut : AreLines was.prefix lines ⊎ ((lines_of was.prefix ≡ lines) × (held ≡ []) × (ended ≡ true)) → (rest : List (List ℕ)) × (lines_of (answerable ended_now (taken ++ piece)) ≡ lines ++ rest)
     by_cut (inl cut) = subst (λ (l : List ℕ). (rest : List (List ℕ)) × (lines_of (answerable ended_now l) ≡ lines ++ rest)) (sym joined) (at_end ended_now cut)
     by_cut (inr (all, empty, end)) =
         let is = quiet end in
-        let whole : taken ++ piece ≡ was.front = joined ∙ ap (λ (l : List ℕ). was.front ++ (l ++ piece)) empty ∙ ap (λ (l : List ℕ). was.front ++ l) is.0 ∙ append-nil was.front in
+        let whole : taken ++ piece ≡ was.prefix = joined ∙ ap (λ (l : List ℕ). was.prefix ++ (l ++ piece)) empty ∙ ap (λ (l : List ℕ). was.prefix ++ l) is.0 ∙ append-nil was.prefix in
         ([], ap (λ (e : Bool). lines_of (answerable e (taken ++ piece))) is.1 ∙ ap lines_of whole ∙ all ∙ sym (append-nil lines))
 
--- the front is these lines
-pub lines_of-front : (taken held : List ℕ) (ended : Bool) (lines : List (List ℕ)) (was : IsCut taken held ended lines) → lines_of was.front ≡ lines
+-- the prefix is these lines
+pub lines_of-prefix : (taken held : List ℕ) (ended : Bool) (lines : List (List ℕ)) (was : IsCutIntoLines taken held ended lines) → lines_of was.prefix ≡ lines
 unfolding lines_of
-lines_of-front taken held ended lines was = elim was.cut as (λ _. lines_of was.front ≡ lines) [
-  | inl cut ↦ ap lines_of (sym (append-nil was.front)) ∙ cut.goes [] ∙ append-nil lines
+lines_of-prefix taken held ended lines was = elim was.cut as (λ _. lines_of was.prefix ≡ lines) [
+  | inl cut ↦ ap lines_of (sym (append-nil was.prefix)) ∙ cut.goes [] ∙ append-nil lines
   | inr all ↦ all.0
 ]
 
 -- the end
-pub IsCut-end : (taken held piece : List ℕ) (ended ended_now : Bool) (lines : List (List ℕ)) (now : List ℕ) → IsCut taken held ended lines → IsNext held piece None now ended_now → lines_of (taken ++ piece) ≡ lines
-IsCut-end taken held piece ended ended_now lines now was is =
-    ap lines_of (ap (λ (l : List ℕ). l ++ piece) was.whole ∙ append_assoc was.front held piece ∙ ap (λ (l : List ℕ). was.front ++ l) is.0 ∙ append-nil was.front)
-    ∙ lines_of-front taken held ended lines was
+pub IsCutIntoLines-end : (taken held piece : List ℕ) (ended ended_now : Bool) (lines : List (List ℕ)) (now : List ℕ) → IsCutIntoLines taken held ended lines → IsNext held piece None now ended_now → lines_of (taken ++ piece) ≡ lines
+IsCutIntoLines-end taken held piece ended ended_now lines now was is =
+    ap lines_of (ap (λ (l : List ℕ). l ++ piece) was.whole ∙ append_assoc was.prefix held piece ∙ ap (λ (l : List ℕ). was.prefix ++ l) is.0 ∙ append-nil was.prefix)
+    ∙ lines_of-prefix taken held ended lines was
 
 -- a reader that has met the end takes nothing
 pub nothing_given : (s t : SourceState) (piece : List ℕ) → Gives s t piece → t.given ≡ s.given → piece ≡ []
@@ -173,7 +173,7 @@ module _ (r s t : SourceState) (held piece now : List ℕ) (ended ended_now : Bo
   HasRead-more line was gives quiet next = record {
     taken = was.taken ++ piece;
     gives = Gives-more r s t was.taken piece was.gives gives;
-    cut = IsCut-more was.taken held piece ended ended_now lines line now was.cut (λ end. nothing_given s t piece gives (quiet end)) next;
+    cut = IsCutIntoLines-more was.taken held piece ended ended_now lines line now was.cut (λ end. nothing_given s t piece gives (quiet end)) next;
   }
 
   pub HasRead-end : HasRead r s held ended lines → Gives s t piece → IsNext held piece None now ended_now
@@ -181,7 +181,7 @@ module _ (r s t : SourceState) (held piece now : List ℕ) (ended ended_now : Bo
   HasRead-end was gives next = (
     was.taken ++ piece,
     Gives-more r s t was.taken piece was.gives gives,
-    IsCut-end was.taken held piece ended ended_now lines now was.cut next,
+    IsCutIntoLines-end was.taken held piece ended ended_now lines now was.cut next,
     next.2,
   )
 

@@ -1,8 +1,8 @@
 //! Reads a source piece by piece, and cuts what it gives into lines.
 ghost use Rattle.std.specs.Prelude.{◌≡◌, ◌≢◌, ◌<◌, ◌≤◌, ◌+◌, ◌-◌, ◌^◌, ◌==◌, ℕ, List, [], ◌∷◌, ◌++◌, length, slice_index, vec_len, IfOk, OnOk, OnErr, IsErrOf, false, true};
 ghost use Rattle.std.specs.Io.KnownBytes.{IsAtEnd};
-ghost use Rattle.fx_base.specs.Streams.{Gives, Rose};
-ghost use Rattle.fx_lines.specs.Reading.{IsNext, line_if};
+ghost use Rattle.fx_base.specs.Streams.{Gives};
+ghost use Rattle.fx_lines.specs.Reading.{IsNext, HasFailedRead, IsTooLong, line_if};
 ghost use Rattle.fx_lines.specs.declared.lines.LineFault.TheVariants as fault;
 
 use fx_base::Source;
@@ -85,9 +85,10 @@ impl LineReader {
         ensures later { (S.state source.old).faults ≤ (S.state source.new).faults }
 
         // Each fault has its cause.
-        ensures read_fault { IsErrOf result LineFault.ReadFault → Rose (S.state source.old).faults (S.state source.new).faults × ((S.state source.new).given < 2 ^ 32) }
-        ensures too_long { IsErrOf result LineFault.InputTooLong → ((S.state source.new).given ≡ 2 ^ 32) × ((S.state source.new).ended ≡ false) }
+        ensures read_fault { IsErrOf result LineFault.ReadFault → HasFailedRead (S.state source.old) (S.state source.new) }
+        ensures too_long { IsErrOf result LineFault.InputTooLong → IsTooLong (S.state source.new) }
         ensures short { OnOk result ((S.state source.new).given < 2 ^ 32) }
+        ensures limited { (S.state source.new).given ≤ 2 ^ 32 }
     {
         let mut seen = 0;
         loop {
@@ -140,9 +141,10 @@ impl LineReader {
         self.line < self.end
     }
 
-    // Takes one more piece. What is left moves to the front first, once for a line, however long it grows.
+    // Takes one more piece. What is left moves to the buffer's beginning first, once for a line, however long it grows.
     fn fill<S: Source>(&mut self, source: &mut S) -> Result<(), LineFault>
         requires given { (S.state source.old).given ≡ self.old.taken }
+        requires unended { (S.state source.old).ended ≡ false }
         requires below { self.old.taken < 2 ^ 32 }
         ensures ok { OnOk result ((piece : List ℕ) × (rest_of self.new ≡ rest_of self.old ++ piece)
             × Gives (S.state source.old) (S.state source.new) piece
@@ -151,7 +153,7 @@ impl LineReader {
         ensures given { (S.state source.new).given ≡ self.new.taken }
         ensures ended { OnOk result ((S.state source.new).ended ≡ self.new.ended) }
         ensures later { (S.state source.old).faults ≤ (S.state source.new).faults }
-        ensures read_fault { IsErrOf result LineFault.ReadFault → Rose (S.state source.old).faults (S.state source.new).faults × ((S.state source.new).given < 2 ^ 32) }
+        ensures read_fault { IsErrOf result LineFault.ReadFault → HasFailedRead (S.state source.old) (S.state source.new) }
         ensures not_too_long { IsErrOf result LineFault.InputTooLong → ⊥ }
     {
         self.compact();

@@ -19,5 +19,5 @@ returns-in_err-put_one g c =
     let w = c.in_err-put_one.ensures.writes in
     record {
       writes = rw (p.1, p.2, concat-split c.args.lines.now c.loop-line.line-index c.line-item.result (omega arith) c.line-item.is)
-          (Writes-stopped _ _ _ _ _ _ _ _ _ _ c.loop-line.invariant.output c.loop-line.invariant.later w.front w.later w.cause);
+          (Writes-stopped (g.K.Sink.state c.args.sink.now) (g.K.Sink.state c.loop-line.sink) _ _ _ _ _ c.loop-line.invariant.output c.loop-line.invariant.later w.prefix w.later w.cause);
     }

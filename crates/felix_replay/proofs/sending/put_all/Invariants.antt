@@ -5,6 +5,6 @@ use Rattle.felix_replay.proofs.sending.put_all.Given as goal
 
 abbrev pub invariant-loop-line : goal.invariant-loop-line
 invariant-loop-line g l = record {
-  output : Appends (g.K.Sink.held l.fn.sink) (g.K.Sink.held l.sink) (concat (take l.line-index l.lines));
-  later : g.K.Sink.faults l.fn.sink ≤ g.K.Sink.faults l.sink;
+  output : Appends (g.K.Sink.state l.fn.sink).held (g.K.Sink.state l.sink).held (concat (take l.line-index l.lines));
+  later : (g.K.Sink.state l.fn.sink).faults ≤ (g.K.Sink.state l.sink).faults;
 }

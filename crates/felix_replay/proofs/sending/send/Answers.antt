@@ -45,7 +45,7 @@ returns-in_err-send_next-clause-writes g c =
     let first = first_text (next_message c.loop-count.sent w) in
     let whole : i.output.0 ++ (first ++ messages_text (step c.loop-count.sent w) w) ≡ messages_text c.args.sent.now w =
     ap (λ (l : List ℕ). i.output.0 ++ l) (sym (messages_step c.loop-count.sent w)) ∙ i.output.2 in
-    rw (p.1, p.2, ← whole) (Writes-stopped _ _ _ _ _ _ i.output.0 first (messages_text (step c.loop-count.sent w) w) _ i.output.1 i.later s.front s.later s.cause)
+    rw (p.1, p.2, ← whole) (Writes-stopped (g.K.Sink.state c.args.sink.now) (g.K.Sink.state c.loop-count.sink) _ i.output.0 first (messages_text (step c.loop-count.sent w) w) _ i.output.1 i.later s.prefix s.later s.cause)
 
 pub returns-clause-count : goal.returns-clause-count
 returns-clause-count g c =
@@ -69,7 +69,7 @@ returns-clause-writes g c =
     ap (λ (l : List ℕ). i.output.0 ++ l) (nothing_told c.loop-count.sent w none ∙ sym (messages_end c.loop-count.sent w none)) ∙ i.output.2 in
     record {
       whole = rw (← whole) (Appends-more _ _ _ i.output.0 (first_text (next_message c.loop-count.sent w)) i.output.1 s.writes.whole);
-      front = tt;
+      prefix = tt;
       later = omega (arith, s.writes.later, i.later);
       cause = tt;
     }

@@ -7,10 +7,10 @@ use Rattle.felix_replay.proofs.sending.send.Given as goal
 -- what was written and what is left to write are all messages
 abbrev pub invariant-loop-count : goal.invariant-loop-count
 invariant-loop-count g l = record {
-  output : (piece : List ℕ) × Appends (g.K.Sink.held l.fn.sink) (g.K.Sink.held l.sink) piece × (piece ++ messages_text l.sent l.wanted ≡ messages_text l.fn.sent l.wanted);
+  output : (piece : List ℕ) × Appends (g.K.Sink.state l.fn.sink).held (g.K.Sink.state l.sink).held piece × (piece ++ messages_text l.sent l.wanted ≡ messages_text l.fn.sent l.wanted);
   count : min (l.count + length (flush l.sent l.wanted)) (2 ^ 64 - 1) ≡ told_count l.fn.sent l.wanted;
   fits : l.count ≤ 2 ^ 64 - 1;
-  later : g.K.Sink.faults l.fn.sink ≤ g.K.Sink.faults l.sink;
+  later : (g.K.Sink.state l.fn.sink).faults ≤ (g.K.Sink.state l.sink).faults;
 }
 
 abbrev pub decreases-loop-count : goal.decreases-loop-count

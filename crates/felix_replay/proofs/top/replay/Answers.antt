@@ -17,9 +17,9 @@ loop-engine-init g c =
     record {
       ran = (
         [],
-        subst (λ (held : List ℕ). HasRead (g.S.Source.left c.args.source.now) (g.S.Source.left c.args.source.now) (g.S.Source.given c.args.source.now) (g.S.Source.given c.args.source.now) held c.new-reader.result.ended []) (sym empty)
-            (HasRead-none (g.S.Source.left c.args.source.now) (g.S.Source.given c.args.source.now) c.new-reader.result.ended),
-        Appends-none (g.K.Sink.held c.args.sink.now),
+        subst (λ (held : List ℕ). HasRead (g.S.Source.state c.args.source.now) (g.S.Source.state c.args.source.now) held c.new-reader.result.ended []) (sym empty)
+            (HasRead-none (g.S.Source.state c.args.source.now) c.new-reader.result.ended),
+        Appends-none (g.K.Sink.state c.args.sink.now).held,
         c.in_ok-engine.ensures.state g.R.DigestRule.digest_of ∙ ap (start g.R.DigestRule.digest_of) c.in_ok-clone.ensures.cases,
       );
       given = c.requires.fresh ∙ sym c.new-reader.ensures.1;
@@ -34,7 +34,7 @@ pub loop-engine-smaller : goal.loop-engine-smaller
 loop-engine-smaller g c =
     let found = c.in_ok-advance.ensures.next in
     let is = next_line (rest_of c.loop-engine.reader) found.0 (line_of c.advance.new.self) (rest_of c.advance.new.self) c.in_ok-advance.field-0 c.advance.new.self.ended c.if-branch.true found.2 in
-    let shrinks = next_shrinks _ _ _ _ (rest_of c.loop-engine.reader) found.0 (line_of c.advance.new.self) (rest_of c.advance.new.self) c.advance.new.self.ended found.1 is in
+    let shrinks = next_shrinks _ _ (rest_of c.loop-engine.reader) found.0 (line_of c.advance.new.self) (rest_of c.advance.new.self) c.advance.new.self.ended found.1 is in
     omega (arith, shrinks, c.loop-engine.invariant.given, c.in_ok-advance.ensures.given, c.advance.new.self.limited, c.loop-engine.reader.limited)
 
 pub loop-engine-preserved : goal.loop-engine-preserved
@@ -46,7 +46,7 @@ loop-engine-preserved g c =
     record {
       ran = (
         was.0 ++ line ∷ [],
-        HasRead-more _ _ _ _ _ _ (rest_of c.loop-engine.reader) found.0 (rest_of c.advance.new.self) c.loop-engine.reader.ended c.advance.new.self.ended was.0 line was.1 found.1 (λ end. (c.in_ok-advance.ensures.quiet end).0) is,
+        HasRead-more _ _ _ (rest_of c.loop-engine.reader) found.0 (rest_of c.advance.new.self) c.loop-engine.reader.ended c.advance.new.self.ended was.0 line was.1 found.1 (λ end. (c.in_ok-advance.ensures.quiet end).0) is,
         output_more g.R.DigestRule.digest_of c.args.node.now was.0 line c.line.result.now (state_of g.R.DigestRule.digest_of c.loop-engine.engine) was.3 c.line.ensures _ _ _ was.2 c.in_ok-answer.ensures.writes.whole,
         state_more g.R.DigestRule.digest_of c.args.node.now was.0 line c.line.result.now (state_of g.R.DigestRule.digest_of c.loop-engine.engine) was.3 c.line.ensures (state_of g.R.DigestRule.digest_of c.answer.new.self) c.in_ok-answer.ensures.state,
       );
@@ -56,7 +56,7 @@ loop-engine-preserved g c =
       sink_later = omega (arith, c.loop-engine.invariant.sink_later, c.in_ok-answer.ensures.writes.later);
       kept = c.in_ok-answer.ensures.kept;
       few =
-          let shrinks = next_shrinks _ _ _ _ (rest_of c.loop-engine.reader) found.0 line (rest_of c.advance.new.self) c.advance.new.self.ended found.1 is in
+          let shrinks = next_shrinks _ _ (rest_of c.loop-engine.reader) found.0 line (rest_of c.advance.new.self) c.advance.new.self.ended found.1 is in
           omega (arith, shrinks, c.loop-engine.invariant.given, c.loop-engine.invariant.few, c.in_ok-advance.ensures.given, ap (λ (s : State). s.lines) c.in_ok-answer.ensures.state, step-lines (state_of g.R.DigestRule.digest_of c.loop-engine.engine) (answer_of (state_of g.R.DigestRule.digest_of c.loop-engine.engine) c.line.result.now));
     }
 
@@ -65,7 +65,7 @@ returns-in_err-advance-clause-stopped g c =
     let was = c.loop-engine.invariant.ran in
     let stop = c.in_err-advance.ensures.stopped in
     OnErr-always c.from_residual-in_err-advance.result
-    (stopped_between g.R.DigestRule.digest_of c.args.node.now _ _ _ _ _ _ (rest_of c.loop-engine.reader) c.loop-engine.reader.ended _ was.0 stop.0 _ _ was.1 stop.1 c.in_err-advance.ensures.quiet was.2)
+    (stopped_between g.R.DigestRule.digest_of c.args.node.now _ _ _ (rest_of c.loop-engine.reader) c.loop-engine.reader.ended was.0 stop.0 (g.K.Sink.state c.args.sink.now) (g.K.Sink.state c.loop-engine.sink) was.1 stop.1 c.in_err-advance.ensures.quiet was.2)
 
 pub returns-in_err-answer-clause-stopped : goal.returns-in_err-answer-clause-stopped
 returns-in_err-answer-clause-stopped g c =
@@ -73,23 +73,23 @@ returns-in_err-answer-clause-stopped g c =
     let found = c.in_ok-advance.ensures.next in
     let line = line_of c.advance.new.self in
     let is = next_line (rest_of c.loop-engine.reader) found.0 line (rest_of c.advance.new.self) c.in_ok-advance.field-0 c.advance.new.self.ended c.if-branch.true found.2 in
-    let read = HasRead-more _ _ _ _ _ _ (rest_of c.loop-engine.reader) found.0 (rest_of c.advance.new.self) c.loop-engine.reader.ended c.advance.new.self.ended was.0 line was.1 found.1 (λ end. (c.in_ok-advance.ensures.quiet end).0) is in
+    let read = HasRead-more _ _ _ (rest_of c.loop-engine.reader) found.0 (rest_of c.advance.new.self) c.loop-engine.reader.ended c.advance.new.self.ended was.0 line was.1 found.1 (λ end. (c.in_ok-advance.ensures.quiet end).0) is in
     OnErr-always c.from_residual-in_err-answer.result
-    (stopped_within g.R.DigestRule.digest_of c.args.node.now _ _ _ _ (rest_of c.advance.new.self) c.advance.new.self.ended _ was.0 line c.line.result.now (state_of g.R.DigestRule.digest_of c.loop-engine.engine) _ _ _ read c.in_ok-advance.ensures.ended was.3 c.line.ensures was.2 c.in_err-answer.ensures.writes.front)
+    (stopped_within g.R.DigestRule.digest_of c.args.node.now _ _ (rest_of c.advance.new.self) c.advance.new.self.ended was.0 line c.line.result.now (state_of g.R.DigestRule.digest_of c.loop-engine.engine) (g.K.Sink.state c.args.sink.now) (g.K.Sink.state c.loop-engine.sink) (g.K.Sink.state c.answer.new.sink) read c.in_ok-advance.ensures.ended was.3 c.line.ensures was.2 c.in_err-answer.ensures.writes.prefix)
 
 pub returns-clause-ran : goal.returns-clause-ran
 returns-clause-ran g c =
     let was = c.loop-engine.invariant.ran in
     let found = c.in_ok-advance.ensures.next in
     let is = next_end (rest_of c.loop-engine.reader) found.0 (line_of c.advance.new.self) (rest_of c.advance.new.self) c.in_ok-advance.field-0 c.advance.new.self.ended c.if-branch.false found.2 in
-    let whole = HasRead-end _ _ _ _ _ _ (rest_of c.loop-engine.reader) found.0 (rest_of c.advance.new.self) c.loop-engine.reader.ended c.advance.new.self.ended was.0 was.1 found.1 is in
-    let end : g.S.Source.ended c.advance.new.source ≡ true = c.in_ok-advance.ensures.ended ∙ whole.3 in
+    let whole = HasRead-end _ _ _ (rest_of c.loop-engine.reader) found.0 (rest_of c.advance.new.self) c.loop-engine.reader.ended c.advance.new.self.ended was.0 was.1 found.1 is in
+    let end : (g.S.Source.state c.advance.new.source).ended ≡ true = c.in_ok-advance.ensures.ended ∙ whole.3 in
     let node = c.args.node.now in
     record {
       input = whole.0;
       gives = whole.1;
       end = end;
       all = g.met.S.Source.end_is_all c.advance.new.source end;
-      output = subst (λ (l : List (List ℕ)). Appends (g.K.Sink.held c.args.sink.now) (g.K.Sink.held c.loop-engine.sink) (written next text (start g.R.DigestRule.digest_of node) l)) (sym whole.2) was.2;
+      output = subst (λ (l : List (List ℕ)). Appends (g.K.Sink.state c.args.sink.now).held (g.K.Sink.state c.loop-engine.sink).held (written next text (start g.R.DigestRule.digest_of node) l)) (sym whole.2) was.2;
       status = ap (λ (s : State). s.refused) was.3 ∙ ap (λ (l : List (List ℕ)). (state_after next (start g.R.DigestRule.digest_of node) l).refused) (sym whole.2);
     }

@@ -10,13 +10,13 @@ use Rattle.felix_replay.proofs.top.replay.Given as goal
 abbrev pub invariant-loop-engine : goal.invariant-loop-engine
 invariant-loop-engine g l = record {
   ran : (lines : List (List ℕ))
-      × HasRead (g.S.Source.left l.fn.source) (g.S.Source.left l.source) (g.S.Source.given l.fn.source) (g.S.Source.given l.source) (rest_of l.reader) l.reader.ended lines
-      × Appends (g.K.Sink.held l.fn.sink) (g.K.Sink.held l.sink) (written next text (start g.R.DigestRule.digest_of l.node) lines)
+      × HasRead (g.S.Source.state l.fn.source) (g.S.Source.state l.source) (rest_of l.reader) l.reader.ended lines
+      × Appends (g.K.Sink.state l.fn.sink).held (g.K.Sink.state l.sink).held (written next text (start g.R.DigestRule.digest_of l.node) lines)
       × (state_of g.R.DigestRule.digest_of l.engine ≡ state_after next (start g.R.DigestRule.digest_of l.node) lines);
-  given : g.S.Source.given l.source ≡ l.reader.taken;
-  ended : g.S.Source.ended l.source ≡ l.reader.ended;
-  source_later : g.S.Source.faults l.fn.source ≤ g.S.Source.faults l.source;
-  sink_later : g.K.Sink.faults l.fn.sink ≤ g.K.Sink.faults l.sink;
+  given : (g.S.Source.state l.source).given ≡ l.reader.taken;
+  ended : (g.S.Source.state l.source).ended ≡ l.reader.ended;
+  source_later : (g.S.Source.state l.fn.source).faults ≤ (g.S.Source.state l.source).faults;
+  sink_later : (g.K.Sink.state l.fn.sink).faults ≤ (g.K.Sink.state l.sink).faults;
   kept : IsKept g.R.DigestRule.digest_of l.engine;
   few : l.engine.lines + length (rest_of l.reader) ≤ l.reader.taken;
 }

@@ -1,52 +1,52 @@
 //! Why a run ends early.
 ghost use Rattle.std.specs.Prelude.{◌≡◌};
-ghost use Rattle.felix_replay.specs.Stops.{stop_of};
-ghost use Rattle.felix_replay.specs.declared.stop.Stop.TheVariants.{Memory, WriteFault};
+ghost use Rattle.felix_replay.specs.RunFaults.{run_fault_of};
+ghost use Rattle.felix_replay.specs.declared.run_fault.RunFault.TheVariants.{Memory, WriteFault};
 
 use fx_base::{Failed, Memory};
 use fx_lines::LineFault;
 use std::alloc::AllocError;
 
 #[derive(Clone, Copy, Debug, PartialEq, Eq)]
-pub enum Stop {
+pub enum RunFault {
     ReadFault,
     WriteFault,
     Memory,
     InputTooLong,
 }
 
-impl From<AllocError> for Stop {
+impl From<AllocError> for RunFault {
     ghost from_gives = { λ _ e. e ≡ Memory };
 
     fn from(_: AllocError) -> Self {
-        Stop::Memory
+        RunFault::Memory
     }
 }
 
-impl From<Memory> for Stop {
+impl From<Memory> for RunFault {
     ghost from_gives = { λ _ e. e ≡ Memory };
 
     fn from(_: Memory) -> Self {
-        Stop::Memory
+        RunFault::Memory
     }
 }
 
-impl From<Failed> for Stop {
+impl From<Failed> for RunFault {
     ghost from_gives = { λ _ e. e ≡ WriteFault };
 
     fn from(_: Failed) -> Self {
-        Stop::WriteFault
+        RunFault::WriteFault
     }
 }
 
-impl From<LineFault> for Stop {
-    ghost from_gives = { λ fault e. e ≡ stop_of fault };
+impl From<LineFault> for RunFault {
+    ghost from_gives = { λ fault e. e ≡ run_fault_of fault };
 
     fn from(fault: LineFault) -> Self {
         match fault {
-            LineFault::ReadFault => Stop::ReadFault,
-            LineFault::InputTooLong => Stop::InputTooLong,
-            LineFault::Memory => Stop::Memory,
+            LineFault::ReadFault => RunFault::ReadFault,
+            LineFault::InputTooLong => RunFault::InputTooLong,
+            LineFault::Memory => RunFault::Memory,
         }
     }
 }
