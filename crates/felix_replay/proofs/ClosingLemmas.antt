@@ -1,11 +1,12 @@
 -- Every view that is sent along a run is closed, and so are its tables.
-use Rattle.std.proofs.Common.{ℕ, List, [], ◌∷◌, ◌++◌, Result, Ok, Err}
+use Rattle.std.proofs.Common.{ℕ, List, [], ◌∷◌, ◌++◌, None, Result, Ok, Err, sym, subst}
 use Rattle.std.specs.List.{AllByRecursion}
 use Rattle.fx_model.specs.declared.view.View.{View}
 use Rattle.fx_model.specs.Closed.{IsClosedView}
-use Rattle.fx_model.proofs.Flushes.{flush-closed}
-use Rattle.fx_model.proofs.Leading.{closed-tables}
-use Rattle.fx_model.proofs.ViewClosed.{view_of-closed}
+use Rattle.fx_model.specs.Views.{view_of}
+use Rattle.fx_laws.proofs.Flushes.{flush-closed, flush-ends}
+use Rattle.fx_laws.proofs.Leading.{closed-tables}
+use Rattle.fx_laws.proofs.ViewClosed.{view_of-closed}
 use Rattle.fx_json.specs.declared.refusal.Refusal.{Refusal}
 use Rattle.fx_names.specs.Digests.{Digest}
 use Rattle.fx_lines.specs.Lines.{lines_of}
@@ -27,7 +28,7 @@ wholes (v ∷ vs) all = (record { view = all.0; tables = closed-tables v all.0 }
 in_line : (s : State) (a : Result Command Refusal) → IsClosedView s.sent → AllByRecursion IsWhole (views_in s a)
 in_line s (Ok command.Blank) closed = tt
 in_line s (Ok command.Tables) closed = tt
-in_line s (Ok command.Flush) closed = wholes _ (flush-closed s.sent _ closed (view_of-closed s.digest s.resources))
+in_line s (Ok command.Flush) closed = wholes _ (flush-closed None s.sent _ closed (view_of-closed s.digest s.resources))
 in_line s (Ok (command.Update u)) closed = tt
 in_line s (Ok (command.Packet a)) closed = tt
 in_line s (Err r) closed = tt
@@ -35,7 +36,7 @@ in_line s (Err r) closed = tt
 after_line : (s : State) (a : Result Command Refusal) → IsClosedView s.sent → IsClosedView (after_answer s a).sent
 after_line s (Ok command.Blank) closed = closed
 after_line s (Ok command.Tables) closed = closed
-after_line s (Ok command.Flush) closed = view_of-closed s.digest s.resources
+after_line s (Ok command.Flush) closed = subst IsClosedView (sym (flush-ends s.sent (view_of s.digest s.resources))) (view_of-closed s.digest s.resources)
 after_line s (Ok (command.Update u)) closed = closed
 after_line s (Ok (command.Packet a)) closed = closed
 after_line s (Err r) closed = closed

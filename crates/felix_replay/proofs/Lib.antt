@@ -6,7 +6,6 @@ pub mod Writings
 pub mod Replay
 pub mod EmptyView
 pub mod ClosingLemmas
-pub mod Lone
 pub mod Policing
 pub mod Checking
 pub mod Asked

@@ -55,7 +55,7 @@ pub fn felix_replay<S: Source, K: Sink, R: DigestRule, F: DigestFunction<R> + Dr
         → Ran R.digest_of (node_name words.now) (S.state source.old) (S.state source.new) (K.state sink.old) (K.state sink.new) true }
 
     // The same where the source tells what is left and the sink what it holds.
-    ensures told { HasRun result
+    ensures as_defined { HasRun result
         → IsAsDefined R.digest_of (node_name words.now) (S.state source.old) (K.state sink.old) (K.state sink.new) result }
 
     // After each single message nothing that is named is missing, in the sent view and in its tables.
@@ -78,13 +78,13 @@ pub fn felix_replay<S: Source, K: Sink, R: DigestRule, F: DigestFunction<R> + Dr
 
     // The words aren't in the grammar.
     ensures usage { result ≡ Status.Usage → node_of words.now ≡ None }
-    ensures usage_told { result ≡ Status.Usage → Appends (K.state sink.old).held (K.state sink.new).held usage_line }
+    ensures usage_written { result ≡ Status.Usage → Appends (K.state sink.old).held (K.state sink.new).held usage_line }
     ensures only_usage { node_of words.now ≡ None → (result ≡ Status.Usage) ⊎ (result ≡ Status.WriteFault) }
 
     // What a run that ended early has written is a prefix of the output.
     ensures stopped { IsSome (node_of words.now) → EndedEarly result
         → Stopped R.digest_of (node_name words.now) (S.state source.old) (S.state source.new) (K.state sink.old) (K.state sink.new) }
-    ensures no_usage { node_of words.now ≡ None → AppendsPrefix (K.state sink.old).held (K.state sink.new).held usage_line }
+    ensures usage_prefix { node_of words.now ≡ None → AppendsPrefix (K.state sink.old).held (K.state sink.new).held usage_line }
 
     // Each other end has its cause.
     ensures read_fault { result ≡ Status.ReadFault → SourceFailed (S.state source.old) (S.state source.new) }
@@ -110,7 +110,7 @@ pub fn felix_replay<S: Source, K: Sink, R: DigestRule, F: DigestFunction<R> + Dr
 }
 
 fn tell_usage<K: Sink>(sink: &mut K) -> Status
-    ensures told { result ≡ Status.Usage → Appends (K.state sink.old).held (K.state sink.new).held usage_line }
+    ensures output { result ≡ Status.Usage → Appends (K.state sink.old).held (K.state sink.new).held usage_line }
     ensures only { (result ≡ Status.Usage) ⊎ (result ≡ Status.WriteFault) }
     ensures prefix { AppendsPrefix (K.state sink.old).held (K.state sink.new).held usage_line }
     ensures cause { result ≡ Status.WriteFault → SinkFailed (K.state sink.old) (K.state sink.new) }

@@ -1,7 +1,9 @@
--- Each update that is read is formed: an item is of its key's kind, too.
-use Rattle.std.proofs.Common.{◌≡◌, ℕ, List, length, Bool, true, false, ◌&&◌, ◌||◌, ◌==◌, not, nat_eq, nat_le, Option, Some, None, Result, Ok, Err, IfOk, refl, ap, subst}
+-- Each update that is read is formed, and puts endpoints on interfaces of workloads alone.
+use Rattle.std.proofs.Common.{◌≡◌, ℕ, List, [], ◌∷◌, length, Bool, true, false, ◌&&◌, ◌||◌, ◌==◌, not, nat_le, Option, Some, None, Result, Ok, Err, IfOk, refl, ap, subst}
 use Rattle.std.specs.Prelude.{codes, IfSome, if◌then◌else◌, is_some, ◌+◌, option_and_then}
-use Rattle.std.specs.List.{list_all, starts_with}
+use Rattle.std.specs.List.{list_all}
+use Rattle.std.specs.Str.{bytes_eq}
+use Rattle.std.proofs.lemmas.Bool.{eqb-true}
 use Rattle.serde_json.specs.Data.{Data, Items, no_items, item as cons_item}
 use Rattle.serde_json.specs.Find.{as_str}
 use Rattle.fx_base.specs.declared.net.PortRange.{PortRange}
@@ -10,10 +12,12 @@ use Rattle.fx_selector.specs.Truth.{LabelMap}
 use Rattle.fx_model.specs.declared.rules.Action.{Action}
 use Rattle.fx_model.specs.declared.rules.Icmp.{Icmp}
 use Rattle.fx_model.specs.declared.rules.Rule.{Rule}
+use Rattle.fx_model.specs.declared.ids.Key.{Key}
 use Rattle.fx_model.specs.declared.resources.Endpoint.{Endpoint}
 use Rattle.fx_model.specs.declared.resources.Profile.{Profile}
 use Rattle.fx_model.specs.declared.resources.Update.{Update}
-use Rattle.fx_model.specs.Formed.{implies, is_given, has_port_protocol, has_icmp_protocol, passes, is_formed_profile_rule, is_formed_profile, is_formed_endpoint, is_formed}
+use Rattle.fx_model.specs.Policy.{is_workload}
+use Rattle.fx_model.specs.Formed.{implies, is_given, has_port_protocol, has_icmp_protocol, passes, is_formed_profile_rule, is_formed_profile, is_formed_endpoint, is_formed_namespace, is_formed_key, is_formed, puts_workload_interface}
 use Rattle.fx_json.specs.declared.fault.ReadFault.{ReadFault}
 use Rattle.fx_json.specs.declared.fault.ReadFault.TheVariants.{MissingField, PortsWithoutProtocol, IcmpWithoutProtocol, PassInProfile}
 use Rattle.fx_json.specs.declared.resources.Kind.{Kind}
@@ -21,14 +25,20 @@ use Rattle.fx_json.specs.declared.resources.Kind.TheVariants.{Profile as AProfil
 use Rattle.fx_json.specs.declared.rules.ReadProtocols.{ReadProtocols}
 use Rattle.fx_json.specs.declared.sides.ReadSide.{ReadSide}
 use Rattle.fx_json.specs.declared.texts.TextForm.{TextForm}
-use Rattle.fx_json.specs.declared.texts.TextForm.TheVariants.{Name, WorkloadInterface}
-use Rattle.fx_json.specs.Forms.{is_name_byte, has_length, is_interface, is_workload_interface, is_in, passing, text}
+use Rattle.fx_json.specs.declared.texts.TextForm.TheVariants.{Name, Namespace, WorkloadInterface}
+use Rattle.fx_json.specs.declared.resources.NamespacedName.{NamespacedName}
+use Rattle.fx_json.specs.Forms.{is_name_byte, is_namespace_byte, is_namespace, has_length, is_interface, is_workload_interface, is_in, passing, text}
 use Rattle.fx_json.specs.Paths.{member_path, item_path}
 use Rattle.fx_json.specs.Fields.{◌>>=◌, Reader, field, is_absent, formed, required, defaulted, optional, unread, items_from, list_at, items, object_at, section}
 use Rattle.fx_json.specs.Values.{version, protocol, net, host_net, port}
 use Rattle.fx_json.specs.Sides.{selectors, with_ports, ports_in, ports_at, side}
 use Rattle.fx_json.specs.Rules.{action_named, profile_action, has_messages, with_messages, message, asked_message, icmp_at, of_ipv4, protocols, side_at, rule_fields, rule}
 use Rattle.fx_json.specs.Resources.{labels_at, endpoint_port, profile_of, profile_put, namespaced_name, endpoint_of, endpoint_put, kind_of, put_of, resource_of, key_of, delete_of}
+
+-- what an update has that was read, whatever the node is
+pub record IsReadForm (u : Update) : Type 0 where
+  pub formed : is_formed u ≡ true
+  pub on_workloads : (node : List ℕ) → puts_workload_interface node u ≡ true
 
 -- ---- what a reading says of what it gives
 
@@ -256,71 +266,105 @@ profile_of-formed path d =
     Q : List Rule → Type 0
     Q rules = list_all is_formed_profile_rule rules ≡ true
 
-profile_put-formed : (d : Data) → IfOk (profile_put d) (λ u. is_formed u ≡ true)
+profile_put-formed : (d : Data) → IfOk (profile_put d) IsReadForm
 unfolding profile_put
 profile_put-formed d =
-    then-if P (section (codes "metadata") (codes "metadata") d) _ (λ metadata _.
-    then-if P (required (text Name) (codes "metadata") (codes "name") metadata) _ (λ name _.
-    then-if P (section (codes "spec") (codes "spec") d) _ (λ spec _.
-    then-if P (profile_of (codes "spec") spec) _ (λ profile profile_read.
-    read-if (λ (p : Profile). is_formed_profile p ≡ true) (profile_of (codes "spec") spec) profile (profile_of-formed (codes "spec") spec) profile_read))))
+    then-if IsReadForm (section (codes "metadata") (codes "metadata") d) _ (λ metadata _.
+    then-if IsReadForm (required (text Name) (codes "metadata") (codes "name") metadata) _ (λ name _.
+    then-if IsReadForm (section (codes "spec") (codes "spec") d) _ (λ spec _.
+    then-if IsReadForm (profile_of (codes "spec") spec) _ (λ profile profile_read. record {
+      formed = read-if (λ (p : Profile). is_formed_profile p ≡ true) (profile_of (codes "spec") spec) profile (profile_of-formed (codes "spec") spec) profile_read;
+      on_workloads = λ node. refl;
+    }))))
+
+-- ---- names in namespaces
+
+not_slash : (b : ℕ) → is_namespace_byte b ≡ true → not (b == 47) ≡ true
+not_slash b is = by_test (b == 47) refl
   where
-    P : Update → Type 0
-    P u = is_formed u ≡ true
+    slash_is_none : is_namespace_byte 47 ≡ true → not true ≡ true
+    slash_is_none e = cc
+
+    by_test : (t : Bool) → (b == 47) ≡ t → not t ≡ true
+    by_test true e = slash_is_none (subst (λ n. is_namespace_byte n ≡ true) (eqb-true b 47 e) is)
+    by_test false e = refl
+
+no_slash : (s : List ℕ) → list_all is_namespace_byte s ≡ true → is_formed_namespace s ≡ true
+no_slash [] e = refl
+no_slash (b ∷ s) e =
+    both (not (b == 47)) (is_formed_namespace s) (not_slash b (first_of (is_namespace_byte b) (list_all is_namespace_byte s) e)) (no_slash s (second_of (is_namespace_byte b) (list_all is_namespace_byte s) e))
+
+namespaced_name-formed : (path : List ℕ) (d : Data) → IfOk (namespaced_name path d) (λ named. is_formed_namespace named.ns ≡ true)
+unfolding namespaced_name
+namespaced_name-formed path d =
+    then-if P (required (text Name) path (codes "name") d) _ (λ name _.
+    then-if P (required (text Namespace) path (codes "namespace") d) _ (λ ns ns_read.
+    no_slash ns (second_of (has_length 1 63 ns) (list_all is_namespace_byte ns)
+    (read-if (λ (s : List ℕ). is_namespace s ≡ true) (required (text Namespace) path (codes "namespace") d) ns (required-if (λ s. is_namespace s ≡ true) (text Namespace) (text-formed Namespace) path (codes "namespace") d) ns_read))))
+  where
+    P : NamespacedName → Type 0
+    P named = is_formed_namespace named.ns ≡ true
 
 -- ---- endpoints
 
-workload_interface-formed : (s : List ℕ) → is_workload_interface s ≡ true → (nat_le (length s) 15 ≡ true) × (starts_with nat_eq s (codes "cali") ≡ true)
+workload_interface-formed : (s : List ℕ) → is_workload_interface s ≡ true → (nat_le (length s) 15 ≡ true) × (is_workload s ≡ true)
 workload_interface-formed s e =
-    (second_of (nat_le 1 (length s)) (nat_le (length s) 15) (first_of (has_length 1 15 s) (list_all is_name_byte s) (first_of (is_interface s) (starts_with nat_eq s (codes "cali")) e)), second_of (is_interface s) (starts_with nat_eq s (codes "cali")) e)
+    (second_of (nat_le 1 (length s)) (nat_le (length s) 15) (first_of (has_length 1 15 s) (list_all is_name_byte s) (first_of (is_interface s) (is_workload s) e)), second_of (is_interface s) (is_workload s) e)
 
-endpoint_of-formed : (given : LabelMap) (namespace path : List ℕ) (d : Data) → IfOk (endpoint_of given namespace path d) (λ e. is_formed_endpoint e ≡ true)
+abbrev StandsFormed : Endpoint → Type 0
+StandsFormed e = (is_formed_endpoint e ≡ true) × (is_workload e.iface ≡ true)
+
+endpoint_of-formed : (given : LabelMap) (namespace path : List ℕ) (d : Data) → IfOk (endpoint_of given namespace path d) StandsFormed
 unfolding endpoint_of
 endpoint_of-formed given namespace path d =
-    then-if P (required (text Name) path (codes "node") d) _ (λ node _.
-    then-if P (optional (text Name) path (codes "orchestrator") d) _ (λ orchestrator _.
-    then-if P (optional (text Name) path (codes "serviceAccountName") d) _ (λ account _.
-    then-if P (required (text WorkloadInterface) path (codes "interfaceName") d) _ (λ iface iface_read.
-    then-if P (items host_net path (codes "ipNetworks") d) _ (λ networks _.
-    then-if P (items (text Name) path (codes "profiles") d) _ (λ profiles _.
-    then-if P (items endpoint_port path (codes "ports") d) _ (λ ports _.
-    let form = workload_interface-formed iface (read-if (λ (s : List ℕ). is_workload_interface s ≡ true) (required (text WorkloadInterface) path (codes "interfaceName") d) iface (required-if (λ s. is_workload_interface s ≡ true) (text WorkloadInterface) (text-formed WorkloadInterface) path (codes "interfaceName") d) iface_read) in
-    both (nat_le (length iface) 15) (starts_with nat_eq iface (codes "cali")) form.0 form.1)))))))
-  where
-    P : Endpoint → Type 0
-    P e = is_formed_endpoint e ≡ true
+    then-if StandsFormed (required (text Name) path (codes "node") d) _ (λ node _.
+    then-if StandsFormed (optional (text Name) path (codes "orchestrator") d) _ (λ orchestrator _.
+    then-if StandsFormed (optional (text Name) path (codes "serviceAccountName") d) _ (λ account _.
+    then-if StandsFormed (required (text WorkloadInterface) path (codes "interfaceName") d) _ (λ iface iface_read.
+    then-if StandsFormed (items host_net path (codes "ipNetworks") d) _ (λ networks _.
+    then-if StandsFormed (items (text Name) path (codes "profiles") d) _ (λ profiles _.
+    then-if StandsFormed (items endpoint_port path (codes "ports") d) _ (λ ports _.
+    workload_interface-formed iface (read-if (λ (s : List ℕ). is_workload_interface s ≡ true) (required (text WorkloadInterface) path (codes "interfaceName") d) iface (required-if (λ s. is_workload_interface s ≡ true) (text WorkloadInterface) (text-formed WorkloadInterface) path (codes "interfaceName") d) iface_read))))))))
 
-endpoint_put-formed : (d : Data) → IfOk (endpoint_put d) (λ u. is_formed u ≡ true)
+endpoint_put-formed : (d : Data) → IfOk (endpoint_put d) IsReadForm
 unfolding endpoint_put
 endpoint_put-formed d =
-    then-if P (section (codes "metadata") (codes "metadata") d) _ (λ metadata _.
-    then-if P (namespaced_name (codes "metadata") metadata) _ (λ named _.
-    then-if P (labels_at (codes "metadata") (codes "labels") metadata) _ (λ given _.
-    then-if P (section (codes "spec") (codes "spec") d) _ (λ spec _.
-    then-if P (endpoint_of given named.ns (codes "spec") spec) _ (λ endpoint endpoint_read.
-    read-if (λ (e : Endpoint). is_formed_endpoint e ≡ true) (endpoint_of given named.ns (codes "spec") spec) endpoint (endpoint_of-formed given named.ns (codes "spec") spec) endpoint_read)))))
-  where
-    P : Update → Type 0
-    P u = is_formed u ≡ true
+    then-if IsReadForm (section (codes "metadata") (codes "metadata") d) _ (λ metadata _.
+    then-if IsReadForm (namespaced_name (codes "metadata") metadata) _ (λ named named_read.
+    then-if IsReadForm (labels_at (codes "metadata") (codes "labels") metadata) _ (λ given _.
+    then-if IsReadForm (section (codes "spec") (codes "spec") d) _ (λ spec _.
+    then-if IsReadForm (endpoint_of given named.ns (codes "spec") spec) _ (λ endpoint endpoint_read.
+    let stands = read-if StandsFormed (endpoint_of given named.ns (codes "spec") spec) endpoint (endpoint_of-formed given named.ns (codes "spec") spec) endpoint_read in
+    record {
+      formed = both (is_formed_namespace named.ns) (is_formed_endpoint endpoint)
+          (read-if (λ (n : NamespacedName). is_formed_namespace n.ns ≡ true) (namespaced_name (codes "metadata") metadata) named (namespaced_name-formed (codes "metadata") metadata) named_read) stands.0;
+      on_workloads = λ node. implied (bytes_eq endpoint.node node) (is_workload endpoint.iface) stands.1;
+    })))))
 
 -- ---- puts and deletes
 
-put_of-formed : (kind : Kind) (d : Data) → IfOk (put_of kind d) (λ u. is_formed u ≡ true)
+put_of-formed : (kind : Kind) (d : Data) → IfOk (put_of kind d) IsReadForm
 put_of-formed AProfile d = profile_put-formed d
 put_of-formed WorkloadEndpoint d = endpoint_put-formed d
 
 -- a put that is read is formed
-pub resource_of-formed : (d : Data) → IfOk (resource_of d) (λ u. is_formed u ≡ true)
+pub resource_of-formed : (d : Data) → IfOk (resource_of d) IsReadForm
 unfolding resource_of
-resource_of-formed d = then-if (λ u. is_formed u ≡ true) (kind_of d) _ (λ kind _. put_of-formed kind d)
+resource_of-formed d = then-if IsReadForm (kind_of d) _ (λ kind _. put_of-formed kind d)
+
+key_of-formed : (kind : Kind) (path : List ℕ) (d : Data) → IfOk (key_of kind path d) (λ k. is_formed_key k ≡ true)
+key_of-formed AProfile path d = then-if (λ k. is_formed_key k ≡ true) (required (text Name) path (codes "name") d) _ (λ name _. refl)
+key_of-formed WorkloadEndpoint path d =
+    then-if (λ k. is_formed_key k ≡ true) (namespaced_name path d) _ (λ named named_read.
+    read-if (λ (n : NamespacedName). is_formed_namespace n.ns ≡ true) (namespaced_name path d) named (namespaced_name-formed path d) named_read)
 
 -- so is a delete
-pub delete_of-formed : (d : Data) → IfOk (delete_of d) (λ u. is_formed u ≡ true)
+pub delete_of-formed : (d : Data) → IfOk (delete_of d) IsReadForm
 unfolding delete_of
 delete_of-formed d =
-    then-if P (kind_of d) _ (λ kind _.
-    then-if P (section (codes "metadata") (codes "metadata") d) _ (λ metadata _.
-    then-if P (key_of kind (codes "metadata") metadata) _ (λ k _. refl)))
-  where
-    P : Update → Type 0
-    P u = is_formed u ≡ true
+    then-if IsReadForm (kind_of d) _ (λ kind _.
+    then-if IsReadForm (section (codes "metadata") (codes "metadata") d) _ (λ metadata _.
+    then-if IsReadForm (key_of kind (codes "metadata") metadata) _ (λ k k_read. record {
+      formed = read-if (λ (key : Key). is_formed_key key ≡ true) (key_of kind (codes "metadata") metadata) k (key_of-formed kind (codes "metadata") metadata) k_read;
+      on_workloads = λ node. refl;
+    })))
