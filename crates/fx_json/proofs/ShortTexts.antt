@@ -54,14 +54,14 @@ optional_short absent mark low high digits s n some few small (inr there) = omeg
 net_short : (s : List ℕ) (net : ℕ × ℕ) → IsNet s net → length s ≤ 18
 net_short s net is =
     let cidr = is.1 in
-    omega (arith, ap length cidr.written, length-append cidr.front cidr.rest, address_short cidr.front is.0 cidr.address, optional_short 32 47 0 32 2 cidr.rest net.1 (lit< tt) (lit< tt) (lit< tt) cidr.length)
+    omega (arith, ap length cidr.written, length-append cidr.prefix cidr.rest, address_short cidr.prefix is.0 cidr.address, optional_short 32 47 0 32 2 cidr.rest net.1 (lit< tt) (lit< tt) (lit< tt) cidr.length)
 
 pub long_net : (s : List ℕ) → 18 < length s → net_of s ≡ None
 long_net s long = none_of (net_of s) (λ n is. omega (arith, long, net_short s n (net_computes.from s n is)))
 
 ports_short : (s : List ℕ) (ports : ℕ × ℕ) → IsPortRange s ports → length s ≤ 11
 ports_short s ports is =
-    omega (arith, ap length is.whole, length-append is.front is.rest, number_short 0 65535 5 is.front is.number (lit< tt) (lit< tt) (lit< tt) is.is, optional_short is.number 58 is.number 65535 5 is.rest ports.1 (lit< tt) (lit< tt) (lit< tt) is.after.1)
+    omega (arith, ap length is.whole, length-append is.prefix is.rest, number_short 0 65535 5 is.prefix is.number (lit< tt) (lit< tt) (lit< tt) is.is, optional_short is.number 58 is.number 65535 5 is.rest ports.1 (lit< tt) (lit< tt) (lit< tt) is.after.1)
 
 pub long_ports : (s : List ℕ) → 11 < length s → ports_of s ≡ None
 long_ports s long = none_of (ports_of s) (λ n is. omega (arith, long, ports_short s n (ports_computes.from s n is)))
