@@ -3,7 +3,7 @@ ghost use Rattle.std.specs.Prelude.{◌≡◌, ◌++◌, OnOk, IfOk, codes};
 ghost use Rattle.fx_base.specs.Set as sets;
 ghost use Rattle.fx_model.specs.Messages.{Change, SetAdd, SetDelta, PolicyPut, ProfilePut, EndpointPut};
 ghost use Rattle.fx_model.specs.Told.{listed, change_of};
-ghost use Rattle.fx_print.specs.MessageTexts.{id_text, each_member, behind, keys_text, tier_text, later_tiers, tiers_text, counts_text, rules_text, sides_text, endpoint_text, named_line, message_line};
+ghost use Rattle.fx_model.specs.MessageTexts.{id_text, each_member, behind, keys_text, tier_text, later_tiers, tiers_text, counts_text, rules_text, sides_text, endpoint_text, named_line, message_line};
 
 use crate::members::{push_member, type_name};
 use crate::texts::{push_both, push_decimal, push_word};

@@ -2,8 +2,8 @@
 ghost use Rattle.std.specs.Prelude.{◌≡◌, ◌++◌, ◌∷◌, OnOk, IfOk, codes, decimal};
 ghost use Rattle.std.specs.Option.{option_copied};
 ghost use Rattle.fx_walk.specs.Stops.{hops_of};
-ghost use Rattle.fx_print.specs.MessageTexts.{id_text};
-ghost use Rattle.fx_print.specs.PacketTexts.{hop_text, hops_text, path_line, reason_text, side_line, side_lines, verdict_line, packet_lines};
+ghost use Rattle.fx_model.specs.MessageTexts.{id_text};
+ghost use Rattle.fx_model.specs.PacketTexts.{hop_text, hops_text, path_line, reason_text, side_line, side_lines, verdict_line, packet_lines};
 
 use crate::messages::push_id;
 use crate::texts::{push_both, push_decimal};

@@ -17,8 +17,8 @@ use Rattle.fx_model.specs.declared.resources.Update.TheVariants.{Put, Delete}
 use Rattle.fx_model.specs.Resources.{after, after_put, after_delete}
 use Rattle.fx_model.specs.Formed.{is_formed}
 use Rattle.fx_model.specs.Claims.{claims_of, claims_at, all_claims, clash}
-use Rattle.fx_model.proofs.ClaimsCounted.{times-at, times-put}
-use Rattle.fx_model.proofs.ClaimsApart.{none_claimed}
+use Rattle.fx_laws.proofs.ClaimsCounted.{times-at, times-put}
+use Rattle.fx_laws.proofs.ClaimsApart.{none_claimed}
 
 module _ (dg : Digest) (R : Resources) (k : Key) (r : Registry) where
   -- what other keys claim

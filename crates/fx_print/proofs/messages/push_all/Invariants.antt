@@ -1,6 +1,6 @@
 use Rattle.std.proofs.Common.{◌≡◌, ◌++◌}
 use Rattle.fx_base.specs.Set as set
-use Rattle.fx_print.specs.MessageTexts.{each_member}
+use Rattle.fx_model.specs.MessageTexts.{each_member}
 use Rattle.fx_print.proofs.messages.push_all.Given as goal
 
 abbrev pub invariant-loop-member : goal.invariant-loop-member

@@ -1,7 +1,7 @@
 use Rattle.std.proofs.Common.{◌≡◌, ◌++◌, not}
 use Rattle.std.specs.Prelude.{filter}
 use Rattle.fx_base.specs.Set as set
-use Rattle.fx_print.specs.MessageTexts.{each_member}
+use Rattle.fx_model.specs.MessageTexts.{each_member}
 use Rattle.fx_print.proofs.messages.push_lacked.Given as goal
 
 abbrev pub invariant-loop-member : goal.invariant-loop-member
