@@ -23,6 +23,7 @@ use Rattle.fx_model.specs.Resources.{after, after_put, after_delete}
 use Rattle.fx_model.specs.Formed.{is_formed}
 use Rattle.fx_model.specs.Claims.{profile_claims, endpoint_claims, claims_of, claims_at, all_claims, clash, AreApart, IsClashFree}
 use Rattle.fx_laws.proofs.ClaimsCounted.{times-at, times-put}
+use Rattle.fx_laws.proofs.Clashing.{clash-put}
 
 -- fewer claims are apart too
 pub fewer_apart : (xs ys : List Claim) → ((c : Claim) → 0 < times c ys → 0 < times c xs) → AreApart xs → AreApart ys
@@ -71,7 +72,7 @@ module _ (dg : Digest) (R : Resources) where
       let new = claims_of dg R.node k x in
       fewer_apart (kept ++ new) (all_claims dg (after_put R k x))
       (λ c p. omega (arith, times-put c dg R k x formed, times-append c kept new))
-      (all_apart kept new (deleted_apart k apart) free)
+      (all_apart kept new (deleted_apart k apart) (sym (clash-put dg R k x formed) ∙ free))
 
   -- an update that doesn't clash leaves resources that don't
   pub clash_free_after : (u : Update) → is_formed u ≡ true → IsClashFree dg R → clash dg R u ≡ None → IsClashFree dg (after R u)

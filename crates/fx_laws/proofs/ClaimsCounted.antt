@@ -10,6 +10,7 @@ use Rattle.fx_names.specs.declared.claim.Claim.{Claim}
 use Rattle.fx_names.specs.Claims.{times}
 use Rattle.fx_names.proofs.ClaimLists.{times-append}
 use Rattle.fx_model.specs.declared.ids.ItemKey.{ItemKey}
+use Rattle.fx_model.specs.declared.ids.ItemKey.TheVariants as item_key
 use Rattle.fx_model.specs.declared.ids.Key.{Key}
 use Rattle.fx_model.specs.declared.ids.Key.TheVariants as key
 use Rattle.fx_model.specs.declared.resources.Endpoint.{Endpoint}
@@ -19,9 +20,10 @@ use Rattle.fx_model.specs.declared.resources.Profile.{Profile}
 use Rattle.fx_model.specs.declared.resources.Resources.{Resources}
 use Rattle.fx_model.specs.declared.resources.Update.TheVariants as update
 use Rattle.fx_model.specs.Resources.{after_put, after_delete}
-use Rattle.fx_model.specs.Formed.{is_formed}
+use Rattle.fx_model.specs.Formed.{is_formed_namespace, is_formed_item_key, is_formed}
 use Rattle.fx_model.specs.Claims.{profile_claims, endpoint_claims, claims_of, listed_claims, named_claims, claims_at, all_claims}
 use Rattle.fx_model.proofs.Orders.{item_total, exact_item}
+use Rattle.fx_laws.proofs.FormedLemmas.{not_formed}
 
 module _ (c : Claim) where
   pub times-flat_map : {A : Type 0} (f : A → List Claim) (xs : List A) → times c (flat_map f xs) ≡ sum_over (λ x. times c (f x)) xs
@@ -62,9 +64,12 @@ module _ (c : Claim) where
 
     -- what is put, and the rest
     pub times-put : (R : Resources) (k : Key) (x : Item) → is_formed (update.Put k x) ≡ true → times c (all_claims dg (after_put R k x)) ≡ times c (claims_of dg R.node k x) + times c (all_claims dg (after_delete R k))
-    times-put R (key.Item k) (item.Endpoint e) formed =
+    times-put R (key.Item (item_key.Endpoint ns name)) (item.Endpoint e) formed =
+        let k = item_key.Endpoint ns name in
         omega (arith, sum-insert item_total exact_item (of_endpoint R.node) R.endpoints k e, sums (after_put R (key.Item k) (item.Endpoint e)), sums (after_delete R (key.Item k)))
-    times-put R (key.Item k) (item.Profile p) formed = cc
+    times-put R (key.Item (item_key.Endpoint ns name)) (item.Profile p) formed = not_formed (is_formed_namespace ns) formed
+    times-put R (key.Item (item_key.NetSet ns name)) (item.Endpoint e) formed = not_formed (is_formed_item_key (item_key.NetSet ns name)) formed
+    times-put R (key.Item (item_key.NetSet ns name)) (item.Profile p) formed = not_formed (is_formed_item_key (item_key.NetSet ns name)) formed
     times-put R (key.Profile name) (item.Endpoint e) formed = cc
     times-put R (key.Profile name) (item.Profile p) formed =
         omega (arith, sum-insert nat_list_cmp_total bytes_exact of_profile R.profiles name p, sums (after_put R (key.Profile name) (item.Profile p)), sums (after_delete R (key.Profile name)))

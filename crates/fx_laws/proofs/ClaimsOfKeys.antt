@@ -46,43 +46,46 @@ same_key a b h =
 
 module _ (dg : Digest) where
   -- a profile's claim on the chain of its ingress rules
-  abbrev ingress_claim : List ℕ → Claim
+  abbrev pub ingress_claim : List ℕ → Claim
   ingress_claim name = record { name = Chain (chain_name_of dg ProfileIn name); holder = codes "profile " ++ name }
 
-  abbrev egress_claim : List ℕ → Claim
+  abbrev pub egress_claim : List ℕ → Claim
   egress_claim name = record { name = Chain (chain_name_of dg ProfileOut name); holder = codes "profile " ++ name }
 
-  module _ (a : List ℕ) where
+  own_ingress : (a : List ℕ) (rest : List Claim) → 0 < times (ingress_claim a) (profile_claims dg a ++ rest)
+  own_ingress a rest = omega (arith, times-itself (ingress_claim a) (egress_claim a ∷ rest))
+
+  own_egress : (a : List ℕ) (rest : List Claim) → 0 < times (egress_claim a) (profile_claims dg a ++ rest)
+  own_egress a rest = omega (arith, times-itself (egress_claim a) rest)
+
+  module _ (a : List ℕ) (c : Claim) (own : (rest : List Claim) → 0 < times c (profile_claims dg a ++ rest)) where
     -- a name that is listed is claimed
-    listed_claimed : (names : List (List ℕ)) → among a names ≡ true → 0 < times (ingress_claim a) (flat_map (profile_claims dg) names)
+    listed_claimed : (names : List (List ℕ)) → among a names ≡ true → 0 < times c (flat_map (profile_claims dg) names)
     listed_claimed [] h = cc
     listed_claimed (n ∷ ns) h =
         let rest = flat_map (profile_claims dg) ns in
-        either (eq_by_cmp (slice_cmp nat_cmp) a n) (among a ns) (0 < times (ingress_claim a) (profile_claims dg n ++ rest)) h
-        (λ e. subst (λ (m : List ℕ). 0 < times (ingress_claim a) (profile_claims dg m ++ rest)) (same_key a n e) (own rest))
-        (λ e. omega (arith, listed_claimed ns e, times-append (ingress_claim a) (profile_claims dg n) rest))
-      where
-        own : (rest : List Claim) → 0 < times (ingress_claim a) (profile_claims dg a ++ rest)
-        own rest = omega (arith, times-itself (ingress_claim a) (egress_claim a ∷ rest))
+        either (eq_by_cmp (slice_cmp nat_cmp) a n) (among a ns) (0 < times c (profile_claims dg n ++ rest)) h
+        (λ e. subst (λ (m : List ℕ). 0 < times c (profile_claims dg m ++ rest)) (same_key a n e) (own rest))
+        (λ e. omega (arith, listed_claimed ns e, times-append c (profile_claims dg n) rest))
 
     module _ (R : Resources) where
       abbrev endpoints_claim : List (ItemKey × Endpoint) → List Claim
       endpoints_claim es = flat_map (λ x. endpoint_claims dg R.node x.0 x.1) es
 
-      served_claimed : (x : ItemKey × Endpoint) → is_served R x.1 ≡ true → among a x.1.profiles ≡ true → 0 < times (ingress_claim a) (endpoint_claims dg R.node x.0 x.1)
+      served_claimed : (x : ItemKey × Endpoint) → is_served R x.1 ≡ true → among a x.1.profiles ≡ true → 0 < times c (endpoint_claims dg R.node x.0 x.1)
       served_claimed x served h =
           let claims = interface_claims dg x.0 x.1 in
           let all : endpoint_claims dg R.node x.0 x.1 ≡ claims ++ flat_map (profile_claims dg) x.1.profiles = ap (λ b. if b then claims ++ flat_map (profile_claims dg) x.1.profiles else []) (both_pass R.in_sync (is_local R x.1) served).1 in
-          subst (λ (cs : List Claim). 0 < times (ingress_claim a) cs) (sym all)
-          (omega (arith, times-append (ingress_claim a) claims (flat_map (profile_claims dg) x.1.profiles), listed_claimed x.1.profiles h))
+          subst (λ (cs : List Claim). 0 < times c cs) (sym all)
+          (omega (arith, times-append c claims (flat_map (profile_claims dg) x.1.profiles), listed_claimed x.1.profiles h))
 
-      entries_claimed : (es : List (ItemKey × Endpoint)) → among a (flat_map (λ x. x.1.profiles) (filter (λ x. is_served R x.1) es)) ≡ true → 0 < times (ingress_claim a) (endpoints_claim es)
+      entries_claimed : (es : List (ItemKey × Endpoint)) → among a (flat_map (λ x. x.1.profiles) (filter (λ x. is_served R x.1) es)) ≡ true → 0 < times c (endpoints_claim es)
       entries_claimed [] h = cc
       entries_claimed (x ∷ es) h =
           let left = filter (λ (y : ItemKey × Endpoint). is_served R y.1) es in
           let names = λ (ys : List (ItemKey × Endpoint)). flat_map (λ (y : ItemKey × Endpoint). y.1.profiles) ys in
-          let Claimed = 0 < times (ingress_claim a) (endpoints_claim (x ∷ es)) in
-          let both = times-append (ingress_claim a) (endpoint_claims dg R.node x.0 x.1) (endpoints_claim es) in
+          let Claimed = 0 < times c (endpoints_claim (x ∷ es)) in
+          let both = times-append c (endpoint_claims dg R.node x.0 x.1) (endpoints_claim es) in
           let later : among a (names left) ≡ true → Claimed = λ g. let rest = entries_claimed es g in omega arith in
           elim (is_served R x.1) as (λ b. is_served R x.1 ≡ b → among a (names (cond b (x ∷ left) left)) ≡ true → Claimed) [
             | true ↦ λ e g. either (among a x.1.profiles) (among a (names left)) Claimed
@@ -92,9 +95,16 @@ module _ (dg : Digest) where
             | false ↦ λ e g. later g
           ] refl h
 
-      active_claimed : is_active_profile R a ≡ true → 0 < times (ingress_claim a) (all_claims dg R)
+      active_claimed : is_active_profile R a ≡ true → 0 < times c (all_claims dg R)
       active_claimed h =
-          omega (arith, entries_claimed (maps.entries R.endpoints) h, times-append (ingress_claim a) (endpoints_claim (maps.entries R.endpoints)) (flat_map (λ (x : List ℕ × Profile). profile_claims dg x.0) (maps.entries R.profiles)))
+          omega (arith, entries_claimed (maps.entries R.endpoints) h, times-append c (endpoints_claim (maps.entries R.endpoints)) (flat_map (λ (x : List ℕ × Profile). profile_claims dg x.0) (maps.entries R.profiles)))
+
+  -- both chains of an active profile are claimed
+  pub ingress_claimed : (R : Resources) (a : List ℕ) → is_active_profile R a ≡ true → 0 < times (ingress_claim a) (all_claims dg R)
+  ingress_claimed R a h = active_claimed a (ingress_claim a) (own_ingress a) R h
+
+  pub egress_claimed : (R : Resources) (a : List ℕ) → is_active_profile R a ≡ true → 0 < times (egress_claim a) (all_claims dg R)
+  egress_claimed R a h = active_claimed a (egress_claim a) (own_egress a) R h
 
   -- active profiles with one key have one chain, so one claims it
   pub keys_apart : (R : Resources) → IsClashFree dg R → (a b : List ℕ) → is_active_profile R a ≡ true → is_active_profile R b ≡ true → profile_key dg a ≡ profile_key dg b → a ≡ b
@@ -103,6 +113,6 @@ module _ (dg : Digest) where
       let d = ingress_claim b in
       let chains : c.name ≡ d.name = ap (λ k. Chain (prefix_text ProfileIn ++ k)) keys in
       let same : same_name c.name d.name ≡ true = ap (same_name c.name) (sym chains) ∙ same_name-refl c.name in
-      let apart : clashes c d ≡ false = free c d (active_claimed a R p) (active_claimed b R q) in
+      let apart : clashes c d ≡ false = free c d (ingress_claimed R a p) (ingress_claimed R b q) in
       let holders : not (bytes_eq c.holder d.holder) ≡ false = sym (ap (λ t. t && not (bytes_eq c.holder d.holder)) same) ∙ apart in
       append_cancel_left (codes "profile ") a b (same_bytes c.holder d.holder (not-false (bytes_eq c.holder d.holder) holders))

@@ -11,5 +11,7 @@ pub mod Nearer
 pub mod StepClosed
 pub mod Flushes
 pub mod ClaimsCounted
+pub mod Clashing
 pub mod ClaimsApart
 pub mod ClaimsOfKeys
+pub mod ChainNames

@@ -5,6 +5,9 @@ use Rattle.std.specs.List.{list_all, AllByRecursion}
 use Rattle.std.specs.FinMap as maps
 use Rattle.std.proofs.lemmas.Bool.{leb-true, le-leb, leb-false}
 use Rattle.fx_base.specs.Same.{both_pass}
+use Rattle.fx_base.specs.SetName.{kind_of}
+use Rattle.fx_base.specs.declared.set_name.SetKind.{SetKind}
+use Rattle.fx_base.specs.declared.set_name.SetKind.TheVariants.{Nets, Ports}
 use Rattle.fx_base.specs.declared.net.Net.{Net}
 use Rattle.fx_base.specs.declared.net.PortRange.{PortRange}
 use Rattle.fx_base.specs.declared.net.Proto.{Proto}
@@ -25,8 +28,8 @@ use Rattle.fx_model.specs.declared.chain.ChainRule.{ChainRule}
 use Rattle.fx_model.specs.Rendering.{plain, this_block, all_blocks, accept_mark, pass_mark, set_mark, is_clear, clear_mark, positive_block, negative_block, one_net, net_blocks, net_match, not_net_blocks, not_net_match, proto_match, icmp_match, slots_of, onto_first, lists_from, port_lists, ranges_of, names_of, PortChoice, Listed, InSet, port_choices, choice_alternative, port_blocks, listed_match, in_set_match, not_listed_match, not_in_set_match, set_match, blocks_of, joined, block_rules, block_match, nets_match, sets_match, ports_match, main_matches, main_rules, is_void, rendered_rule, rendered_rules}
 use Rattle.fx_model.specs.Tables.{Chains, Sets}
 use Rattle.fx_model.specs.Ranks.{LeadsBelow, AllLeadBelow}
-use Rattle.fx_model.specs.Closed.{AreThere, LeadsThere, AllLeadThere, MatchesNameThere, AllNameThere, set_given, sets_of_side, sets_of_rule, sets_of_rules}
-use Rattle.fx_model.specs.Shapes.{behind_source, behind_positive, order_of, least_after, are_ordered, slots, fits_slots, has_shape, have_shape}
+use Rattle.fx_model.specs.Closed.{AreThere, AreOfKind, SideNamesKinds, NamesKinds, NameSets, LeadsThere, AllLeadThere, MatchesNameThere, AllNameThere, set_given, sets_of_side, sets_of_rule, sets_of_rules}
+use Rattle.fx_model.specs.Shapes.{set_place, behind_source, behind_positive, order_of, least_after, are_ordered, slots, fits_slots, has_shape, have_shape}
 use Rattle.fx_laws.proofs.Removing.{both}
 
 there-first : {X : Type 0} (m : maps.FinMap _ X) (ks ls : List (List ℕ)) → AreThere m (ks ++ ls) → AreThere m ks
@@ -206,22 +209,31 @@ module _ (sets : Sets) where
 
   abbrev ChoiceFits : PortChoice → Type 0
   ChoiceFits (Listed c) = slots c ≤ 15
-  ChoiceFits (InSet name) = maps.contains_key sets name ≡ true
+  ChoiceFits (InSet name) = (maps.contains_key sets name ≡ true) × (kind_of name ≡ Ports)
 
   listed_fit : (cs : List (List PortRange)) (more : List PortChoice) → AllFit cs → AllByRecursion ChoiceFits more → AllByRecursion ChoiceFits (map Listed cs ++ more)
   listed_fit [] more f h = h
   listed_fit (c ∷ cs) more f h = (f.0, listed_fit cs more f.1 h)
 
-  in_sets_fit : (names : List (List ℕ)) → AreThere sets names → AllByRecursion ChoiceFits (map InSet names)
-  in_sets_fit [] h = tt
-  in_sets_fit (n ∷ names) h = (h.0, in_sets_fit names h.1)
+  in_sets_fit : (names : List (List ℕ)) → AreThere sets names → AreOfKind Ports names → AllByRecursion ChoiceFits (map InSet names)
+  in_sets_fit [] h k = tt
+  in_sets_fit (n ∷ names) h k = ((h.0, k.0), in_sets_fit names h.1 k.1)
 
-  choices_fit : (ps : List ViewPort) → AreThere sets (names_of ps) → AllByRecursion ChoiceFits (port_choices ps)
-  choices_fit ps h = listed_fit (port_lists (ranges_of ps)) (map InSet (names_of ps)) (lists_fit (ranges_of ps)) (in_sets_fit (names_of ps) h)
+  choices_fit : (ps : List ViewPort) → AreThere sets (names_of ps) → AreOfKind Ports (names_of ps) → AllByRecursion ChoiceFits (port_choices ps)
+  choices_fit ps h k = listed_fit (port_lists (ranges_of ps)) (map InSet (names_of ps)) (lists_fit (ranges_of ps)) (in_sets_fit (names_of ps) h k)
 
   abbrev ports_place : End → ℕ
-  ports_place Source = 9
-  ports_place Dest = 11
+  ports_place Source = 15
+  ports_place Dest = 17
+
+  -- an end's first place of sets
+  abbrev sets_place : End → ℕ
+  sets_place Source = 7
+  sets_place Dest = 11
+
+  sets_order : (end : End) (name : List ℕ) (k : SetKind) (opposite : Bool) → kind_of name ≡ k → order_of (match.Set end name opposite) ≡ set_place k opposite + sets_place end
+  sets_order Source name k opposite is = ap (λ (t : SetKind). set_place t opposite + 7) is
+  sets_order Dest name k opposite is = ap (λ (t : SetKind). set_place t opposite + 11) is
 
   ports_order : (end : End) (c : List PortRange) (opposite : Bool) → order_of (match.Ports end c opposite) ≡ behind_positive opposite (ports_place end)
   ports_order Source c opposite = refl
@@ -233,11 +245,11 @@ module _ (sets : Sets) where
   listed_even end (InSet name ∷ []) h = even_none (ports_place end)
   listed_even end (c ∷ d ∷ cs) h = even_none (ports_place end)
 
-  in_set_even : (end : End) (cs : List PortChoice) → AllByRecursion ChoiceFits cs → Even (behind_source end 7) (in_set_match end cs)
-  in_set_even end [] h = even_none (behind_source end 7)
-  in_set_even end (Listed c ∷ []) h = even_none (behind_source end 7)
-  in_set_even end (InSet name ∷ []) h = record { named = (h.0, tt); alike = (refl, tt); fit = refl }
-  in_set_even end (c ∷ d ∷ cs) h = even_none (behind_source end 7)
+  in_set_even : (end : End) (cs : List PortChoice) → AllByRecursion ChoiceFits cs → Even (2 + sets_place end) (in_set_match end cs)
+  in_set_even end [] h = even_none (2 + sets_place end)
+  in_set_even end (Listed c ∷ []) h = even_none (2 + sets_place end)
+  in_set_even end (InSet name ∷ []) h = record { named = (h.0.0, tt); alike = (sets_order end name Ports false h.0.1, tt); fit = refl }
+  in_set_even end (c ∷ d ∷ cs) h = even_none (2 + sets_place end)
 
   not_listed_even : (end : End) (cs : List (List PortRange)) → AllFit cs → Even (behind_positive true (ports_place end)) (map (λ c. match.Ports end c true) cs)
   not_listed_even end [] h = even_none (behind_positive true (ports_place end))
@@ -245,15 +257,15 @@ module _ (sets : Sets) where
       let later = not_listed_even end cs h.1 in
       record { named = (tt, later.named); alike = (ports_order end c true, later.alike); fit = both (nat_le (slots c) 15) (list_all fits_slots (map (λ c. match.Ports end c true) cs)) (le-leb (slots c) 15 h.0) later.fit }
 
-  not_in_sets_even : (end : End) (names : List (List ℕ)) → AreThere sets names → Even (behind_source end 7) (map (λ name. match.Set end name true) names)
-  not_in_sets_even end [] h = even_none (behind_source end 7)
-  not_in_sets_even end (n ∷ names) h =
-      let later = not_in_sets_even end names h.1 in
-      record { named = (h.0, later.named); alike = (refl, later.alike); fit = later.fit }
+  not_in_sets_even : (end : End) (names : List (List ℕ)) → AreThere sets names → AreOfKind Ports names → Even (3 + sets_place end) (map (λ name. match.Set end name true) names)
+  not_in_sets_even end [] h k = even_none (3 + sets_place end)
+  not_in_sets_even end (n ∷ names) h k =
+      let later = not_in_sets_even end names h.1 k.1 in
+      record { named = (h.0, later.named); alike = (sets_order end n Ports true k.0, later.alike); fit = later.fit }
 
-  set_even : (end : End) (opposite : Bool) (o : Option (List ℕ)) → AreThere sets (set_given o) → Even (behind_source end 7) (set_match end opposite o)
-  set_even end opposite None h = even_none (behind_source end 7)
-  set_even end opposite (Some name) h = record { named = (h.0, tt); alike = (refl, tt); fit = refl }
+  set_even : (end : End) (opposite : Bool) (o : Option (List ℕ)) → AreThere sets (set_given o) → AreOfKind Nets (set_given o) → Even (set_place Nets opposite + sets_place end) (set_match end opposite o)
+  set_even end opposite None h k = even_none (set_place Nets opposite + sets_place end)
+  set_even end opposite (Some name) h k = record { named = (h.0, tt); alike = (sets_order end name Nets opposite k.0, tt); fit = refl }
 
   -- the sets of an end, in their parts
   record SideThere (s : ViewSide) : Type 0 where
@@ -261,9 +273,10 @@ module _ (sets : Sets) where
     not_set : AreThere sets (set_given s.not_set)
     ports : AreThere sets (names_of s.ports)
     not_ports : AreThere sets (names_of s.not_ports)
+    kinds : SideNamesKinds s
 
-  side_there : (s : ViewSide) → AreThere sets (sets_of_side s) → SideThere s
-  side_there s h =
+  side_there : (s : ViewSide) → AreThere sets (sets_of_side s) → SideNamesKinds s → SideThere s
+  side_there s h kinds =
       let a = there-second sets (set_given s.set) (set_given s.not_set ++ (names_of s.ports ++ names_of s.not_ports)) h in
       let b = there-second sets (set_given s.not_set) (names_of s.ports ++ names_of s.not_ports) a in
       record {
@@ -271,17 +284,11 @@ module _ (sets : Sets) where
         not_set = there-first sets (set_given s.not_set) (names_of s.ports ++ names_of s.not_ports) a;
         ports = there-first sets (names_of s.ports) (names_of s.not_ports) b;
         not_ports = there-second sets (names_of s.ports) (names_of s.not_ports) b;
+        kinds = kinds;
       }
 
-  sets_even : (end : End) (s : ViewSide) → SideThere s → Even (behind_source end 7) (sets_match end s)
-  sets_even end s h =
-      let k = behind_source end 7 in
-      even-append k (set_match end false s.set) _ (set_even end false s.set h.set)
-      (even-append k (set_match end true s.not_set) _ (set_even end true s.not_set h.not_set)
-      (even-append k (in_set_match end (port_choices s.ports)) (not_in_set_match end s.not_ports) (in_set_even end (port_choices s.ports) (choices_fit s.ports h.ports)) (not_in_sets_even end (names_of s.not_ports) h.not_ports)))
-
-  icmp_even : (opposite : Bool) (o : Option Icmp) → Even 13 (icmp_match opposite o)
-  icmp_even opposite None = even_none 13
+  icmp_even : (opposite : Bool) (o : Option Icmp) → Even 19 (icmp_match opposite o)
+  icmp_even opposite None = even_none 19
   icmp_even opposite (Some m) = record { named = (tt, tt); alike = (refl, tt); fit = refl }
 
   -- ---- the main rule
@@ -318,25 +325,49 @@ module _ (sets : Sets) where
     fit = fit-append xs ys p.fit q.fit;
   }
 
-  source_ports : (s : ViewSide) → SideThere s → Piece 9 10 (ports_match Source s)
-  source_ports s h =
-      piece-append 9 9 10 10 (listed_match Source (port_choices s.ports)) (not_listed_match Source s.not_ports) (omega arith) (omega arith) (omega arith)
-      (even_piece 9 _ refl (listed_even Source (port_choices s.ports) (choices_fit s.ports h.ports)))
-      (even_piece 10 _ refl (not_listed_even Source (port_lists (ranges_of s.not_ports)) (lists_fit (ranges_of s.not_ports))))
+  -- the sets of an end stand in four places, one behind the other
+  sets_piece : (end : End) (s : ViewSide) → SideThere s → Piece (sets_place end) (3 + sets_place end) (sets_match end s)
+  sets_piece end s h = by_place end
+    where
+      kinds : SideNamesKinds s
+      kinds = h.kinds
 
-  dest_ports : (s : ViewSide) → SideThere s → Piece 11 12 (ports_match Dest s)
+      four : (end : End) (k : ℕ) → sets_place end ≡ k → least_after k ≡ k → least_after (1 + k) ≡ 1 + k → least_after (2 + k) ≡ 2 + k → least_after (3 + k) ≡ 3 + k
+          → Piece k (3 + k) (sets_match end s)
+      four end k is a b c d =
+          let ports = port_choices s.ports in
+          let positive : Even (2 + k) (in_set_match end ports) = subst (λ n. Even (2 + n) (in_set_match end ports)) is (in_set_even end ports (choices_fit s.ports h.ports kinds.ports)) in
+          let negative : Even (3 + k) (not_in_set_match end s.not_ports) = subst (λ n. Even (3 + n) (not_in_set_match end s.not_ports)) is (not_in_sets_even end (names_of s.not_ports) h.not_ports kinds.not_ports) in
+          let first : Even k (set_match end false s.set) = subst (λ n. Even n (set_match end false s.set)) is (set_even end false s.set h.set kinds.set) in
+          let second : Even (1 + k) (set_match end true s.not_set) = subst (λ n. Even (1 + n) (set_match end true s.not_set)) is (set_even end true s.not_set h.not_set kinds.not_set) in
+          piece-append k k (1 + k) (3 + k) (set_match end false s.set) _ (omega arith) (omega arith) (omega arith) (even_piece k _ a first)
+          (piece-append (1 + k) (1 + k) (2 + k) (3 + k) (set_match end true s.not_set) _ (omega arith) (omega arith) (omega arith) (even_piece (1 + k) _ b second)
+          (piece-append (2 + k) (2 + k) (3 + k) (3 + k) (in_set_match end ports) (not_in_set_match end s.not_ports) (omega arith) (omega arith) (omega arith) (even_piece (2 + k) _ c positive)
+          (even_piece (3 + k) _ d negative)))
+
+      by_place : (end : End) → Piece (sets_place end) (3 + sets_place end) (sets_match end s)
+      by_place Source = four Source 7 refl refl refl refl refl
+      by_place Dest = four Dest 11 refl refl refl refl refl
+
+  source_ports : (s : ViewSide) → SideThere s → Piece 15 16 (ports_match Source s)
+  source_ports s h =
+      piece-append 15 15 16 16 (listed_match Source (port_choices s.ports)) (not_listed_match Source s.not_ports) (omega arith) (omega arith) (omega arith)
+      (even_piece 15 _ refl (listed_even Source (port_choices s.ports) (choices_fit s.ports h.ports h.kinds.ports)))
+      (even_piece 16 _ refl (not_listed_even Source (port_lists (ranges_of s.not_ports)) (lists_fit (ranges_of s.not_ports))))
+
+  dest_ports : (s : ViewSide) → SideThere s → Piece 17 18 (ports_match Dest s)
   dest_ports s h =
-      piece-append 11 11 12 12 (listed_match Dest (port_choices s.ports)) (not_listed_match Dest s.not_ports) (omega arith) (omega arith) (omega arith)
-      (even_piece 11 _ refl (listed_even Dest (port_choices s.ports) (choices_fit s.ports h.ports)))
-      (even_piece 12 _ refl (not_listed_even Dest (port_lists (ranges_of s.not_ports)) (lists_fit (ranges_of s.not_ports))))
+      piece-append 17 17 18 18 (listed_match Dest (port_choices s.ports)) (not_listed_match Dest s.not_ports) (omega arith) (omega arith) (omega arith)
+      (even_piece 17 _ refl (listed_even Dest (port_choices s.ports) (choices_fit s.ports h.ports h.kinds.ports)))
+      (even_piece 18 _ refl (not_listed_even Dest (port_lists (ranges_of s.not_ports)) (lists_fit (ranges_of s.not_ports))))
 
   main_good : (r : ViewRule) → SideThere r.source → SideThere r.destination → Good 0 (main_matches r)
   main_good r s d =
-      let icmp = even_good 13 (icmp_match false r.icmp ++ icmp_match true r.not_icmp) refl (even-append 13 (icmp_match false r.icmp) (icmp_match true r.not_icmp) (icmp_even false r.icmp) (icmp_even true r.not_icmp)) in
-      let ports_d = good_step 11 12 13 (ports_match Dest r.destination) _ (omega arith) (omega arith) (dest_ports r.destination d) icmp in
-      let ports_s = good_step 9 10 11 (ports_match Source r.source) _ (omega arith) (omega arith) (source_ports r.source s) ports_d in
-      let sets_d = good_step 8 8 9 (sets_match Dest r.destination) _ (omega arith) (omega arith) (even_piece 8 _ refl (sets_even Dest r.destination d)) ports_s in
-      let sets_s = good_step 7 7 8 (sets_match Source r.source) _ (omega arith) (omega arith) (even_piece 7 _ refl (sets_even Source r.source s)) sets_d in
+      let icmp = even_good 19 (icmp_match false r.icmp ++ icmp_match true r.not_icmp) refl (even-append 19 (icmp_match false r.icmp) (icmp_match true r.not_icmp) (icmp_even false r.icmp) (icmp_even true r.not_icmp)) in
+      let ports_d = good_step 17 18 19 (ports_match Dest r.destination) _ (omega arith) (omega arith) (dest_ports r.destination d) icmp in
+      let ports_s = good_step 15 16 17 (ports_match Source r.source) _ (omega arith) (omega arith) (source_ports r.source s) ports_d in
+      let sets_d = good_step 11 14 15 (sets_match Dest r.destination) _ (omega arith) (omega arith) (sets_piece Dest r.destination d) ports_s in
+      let sets_s = good_step 7 10 11 (sets_match Source r.source) _ (omega arith) (omega arith) (sets_piece Source r.source s) sets_d in
       let blocks = good_step 5 5 7 (block_match (blocks_of r)) _ (omega arith) (omega arith) (block_piece (blocks_of r)) sets_s in
       let nets_d = good_step 2 2 5 (nets_match Dest r.destination) _ (omega arith) (omega arith) (nets_piece Dest r.destination.nets r.destination.not_nets) blocks in
       let nets_s = good_step 1 1 2 (nets_match Source r.source) _ (omega arith) (omega arith) (nets_piece Source r.source.nets r.source.not_nets) nets_d in
@@ -416,12 +447,11 @@ module _ (sets : Sets) where
   listed_good Dest c h = record { named = (tt, tt); ordered = refl; fit = both (nat_le (slots c) 15) true (le-leb (slots c) 15 h) refl }
 
   in_set_good : (end : End) (name : List ℕ) → maps.contains_key sets name ≡ true → Good 0 (match.Set end name false ∷ [])
-  in_set_good Source name h = record { named = (h, tt); ordered = refl; fit = refl }
-  in_set_good Dest name h = record { named = (h, tt); ordered = refl; fit = refl }
+  in_set_good end name h = record { named = (h, tt); ordered = refl; fit = refl }
 
   choice_good : (end : End) (proto : Option Proto) (c : PortChoice) → ChoiceFits c → Good 0 (choice_alternative end proto c)
   choice_good end proto (Listed c) h = good_step 0 0 1 (proto_match proto None) (match.Ports end c false ∷ []) (omega arith) (omega arith) (proto_piece proto None) (listed_good end c h)
-  choice_good end proto (InSet name) h = in_set_good end name h
+  choice_good end proto (InSet name) h = in_set_good end name h.0
 
   choices_good : (end : End) (proto : Option Proto) (cs : List PortChoice) → AllByRecursion ChoiceFits cs → AllByRecursion (Good 0) (map (choice_alternative end proto) cs)
   choices_good end proto [] h = tt
@@ -436,8 +466,8 @@ module _ (sets : Sets) where
   rule_blocks_leaf r s d =
       blocks-append (net_blocks Source r.source.nets) _ (net_blocks_leaf Source r.source.nets)
       (blocks-append (net_blocks Dest r.destination.nets) _ (net_blocks_leaf Dest r.destination.nets)
-      (blocks-append (port_blocks Source r.protocol (port_choices r.source.ports)) _ (port_blocks_leaf Source r.protocol (port_choices r.source.ports) (choices_fit r.source.ports s.ports))
-      (blocks-append (port_blocks Dest r.protocol (port_choices r.destination.ports)) _ (port_blocks_leaf Dest r.protocol (port_choices r.destination.ports) (choices_fit r.destination.ports d.ports))
+      (blocks-append (port_blocks Source r.protocol (port_choices r.source.ports)) _ (port_blocks_leaf Source r.protocol (port_choices r.source.ports) (choices_fit r.source.ports s.ports s.kinds.ports))
+      (blocks-append (port_blocks Dest r.protocol (port_choices r.destination.ports)) _ (port_blocks_leaf Dest r.protocol (port_choices r.destination.ports) (choices_fit r.destination.ports d.ports d.kinds.ports))
       (blocks-append (not_net_blocks Source r.source.nets r.source.not_nets) _ (not_net_blocks_leaf Source r.source.nets r.source.not_nets)
       (not_net_blocks_leaf Dest r.destination.nets r.destination.not_nets)))))
 
@@ -447,14 +477,14 @@ module _ (sets : Sets) where
   main_leaf Log ms why g = (tt, g, tt)
   main_leaf Pass ms why g = (tt, g, (tt, mark_match pass_mark pass_mark, tt))
 
-  rule_leaf : (r : ViewRule) (why : Reason) → AreThere sets (sets_of_rule r) → Leaf (rendered_rule r why)
-  rule_leaf r why h = by_test (r.never || is_void r.protocol r.not_protocol)
+  rule_leaf : (r : ViewRule) (why : Reason) → AreThere sets (sets_of_rule r) → NamesKinds r → Leaf (rendered_rule r why)
+  rule_leaf r why h kinds = by_test (r.never || is_void r.protocol r.not_protocol)
     where
       source : SideThere r.source
-      source = side_there r.source (there-first sets (sets_of_side r.source) (sets_of_side r.destination) h)
+      source = side_there r.source (there-first sets (sets_of_side r.source) (sets_of_side r.destination) h) kinds.source
 
       destination : SideThere r.destination
-      destination = side_there r.destination (there-second sets (sets_of_side r.source) (sets_of_side r.destination) h)
+      destination = side_there r.destination (there-second sets (sets_of_side r.source) (sets_of_side r.destination) h) kinds.destination
 
       by_test : (b : Bool) → Leaf (elim b [ true ↦ [] | false ↦ block_rules (blocks_of r) ++ main_rules r.action (main_matches r) why ])
       by_test true = tt
@@ -462,11 +492,11 @@ module _ (sets : Sets) where
           leaf-append (block_rules (blocks_of r)) (main_rules r.action (main_matches r) why) (block_leaf (blocks_of r) (rule_blocks_leaf r source destination))
           (main_leaf r.action (main_matches r) why (main_good r source destination))
 
-  pub rules_leaf : (why : ℕ → Reason) (place : ℕ) (rs : List ViewRule) → AreThere sets (sets_of_rules rs) → Leaf (rendered_rules why place rs)
+  pub rules_leaf : (why : ℕ → Reason) (place : ℕ) (rs : List ViewRule) → NameSets sets rs → Leaf (rendered_rules why place rs)
   rules_leaf why place [] h = tt
   rules_leaf why place (r ∷ rs) h =
-      leaf-append (rendered_rule r (why place)) (rendered_rules why (suc place) rs) (rule_leaf r (why place) (there-first sets (sets_of_rule r) (sets_of_rules rs) h))
-      (rules_leaf why (suc place) rs (there-second sets (sets_of_rule r) (sets_of_rules rs) h))
+      leaf-append (rendered_rule r (why place)) (rendered_rules why (suc place) rs) (rule_leaf r (why place) (there-first sets (sets_of_rule r) (sets_of_rules rs) h.there) h.kinds.0)
+      (rules_leaf why (suc place) rs (record { there = there-second sets (sets_of_rule r) (sets_of_rules rs) h.there; kinds = h.kinds.1 }))
 
   -- ---- what a chain can be written with
 

@@ -16,8 +16,9 @@ use Rattle.fx_model.specs.contracts.view.ViewProfilePartialEq.TheImpl as profile
 use Rattle.fx_model.specs.contracts.view.ViewEndpointPartialEq.TheImpl as endpoint_eq
 use Rattle.fx_model.specs.SameViews.{same_policy, same_profile, same_endpoint}
 use Rattle.fx_model.specs.Messages.{Named, Change, is_absent, is_changed, is_other, first_absent, first_changed, next_message, step_at}
-use Rattle.fx_model.specs.Closed.{AreThere, TiersAreThere, EndpointIsClosed, IsClosedView, sets_of_rules}
-use Rattle.fx_model.specs.Tables.{policy_side, profile_side}
+use Rattle.fx_model.specs.Closed.{AreThere, TiersAreThere, EndpointIsClosed, NameSets, IsClosedView, sets_of_rules}
+use Rattle.fx_model.specs.declared.view_rule.ViewRule.{ViewRule}
+use Rattle.fx_model.specs.Tables.{Sets, policy_side, profile_side}
 use Rattle.fx_model.specs.contracts.member.MemberSetPartialEq.TheImpl as members_eq
 use Rattle.fx_laws.proofs.Apart.{found_there, none_changed, same_maps}
 use Rattle.fx_laws.proofs.NextCases.{NoPut, Cases, by_cases}
@@ -69,6 +70,13 @@ absent_here n k q x absent same is =
 keys_kept : {X : Type 0} (m r : Named X) → ((k : List ℕ) → maps.contains_key m k ≡ true → maps.contains_key r k ≡ true) → (ks : List (List ℕ)) → AreThere m ks → AreThere r ks
 keys_kept m r kept ks h = keys_there m m r (λ k g _. kept k g) ks h h
 
+-- the sets that rules name stay there
+names_kept : (m r : Sets) → ((k : List ℕ) → maps.contains_key m k ≡ true → maps.contains_key r k ≡ true) → (rules : List ViewRule) → NameSets m rules → NameSets r rules
+names_kept m r kept rules h = record { there = keys_kept m r kept (sets_of_rules rules) h.there; kinds = h.kinds }
+
+names_both : (l m r : Sets) → BothThere l m r → (rules : List ViewRule) → NameSets l rules → NameSets m rules → NameSets r rules
+names_both l m r both rules g h = record { there = keys_there l m r both (sets_of_rules rules) g.there h.there; kinds = g.kinds }
+
 -- where none is new, each that is wanted is there
 none_new_there : {X : Type 0} (m n : Named X) → first_absent m n ≡ None → (k : List ℕ) → maps.contains_key n k ≡ true → maps.contains_key m k ≡ true
 none_new_there m n none k there = by_value (maps.get n k) refl there
@@ -87,16 +95,16 @@ module _ (s w : View) (closed : IsClosedView s) (aim : IsClosedView w) where
   sets_grow : (k : List ℕ) → ((q : List ℕ) → maps.contains_key s.sets q ≡ true → maps.contains_key (taken_from s.sets w.sets k) q ≡ true) → IsClosedView (record s { sets = taken_from s.sets w.sets k })
   sets_grow k grows = record {
     endpoints = λ iface e is. endpoint_kept s (record s { sets = taken_from s.sets w.sets k }) (λ q h. h) (λ q h. h) e (closed.endpoints iface e is);
-    policies = λ d key p is. keys_kept s.sets (taken_from s.sets w.sets k) grows _ (closed.policies d key p is);
-    profiles = λ d key p is. keys_kept s.sets (taken_from s.sets w.sets k) grows _ (closed.profiles d key p is);
+    policies = λ d key p is. names_kept s.sets (taken_from s.sets w.sets k) grows _ (closed.policies d key p is);
+    profiles = λ d key p is. names_kept s.sets (taken_from s.sets w.sets k) grows _ (closed.profiles d key p is);
   }
 
   policy_closed : first_absent s.sets w.sets ≡ None → (p : List ℕ × ViewPolicy) → first_changed policy_eq.eq-value.it s.policies w.policies ≡ Some p → IsClosedView (record s { policies = taken_from s.policies w.policies p.0 })
   policy_closed none p first = record {
     endpoints = λ iface e is. endpoint_kept s (record s { policies = taken_from s.policies w.policies p.0 })
         (put_there s.policies w.policies p (found_there (is_changed policy_eq.eq-value.it s.policies) w.policies p first)) (λ q h. h) e (closed.endpoints iface e is);
-    policies = λ d key q. taken_cases (λ o. o ≡ Some q → AreThere s.sets (sets_of_rules (policy_side d q))) s.policies w.policies p.0 key
-        (λ _ is. keys_kept w.sets s.sets (none_new_there s.sets w.sets none) _ (aim.policies d key q is))
+    policies = λ d key q. taken_cases (λ o. o ≡ Some q → NameSets s.sets (policy_side d q)) s.policies w.policies p.0 key
+        (λ _ is. names_kept w.sets s.sets (none_new_there s.sets w.sets none) _ (aim.policies d key q is))
         (λ is. closed.policies d key q is);
     profiles = closed.profiles;
   }
@@ -106,8 +114,8 @@ module _ (s w : View) (closed : IsClosedView s) (aim : IsClosedView w) where
     endpoints = λ iface e is. endpoint_kept s (record s { profiles = taken_from s.profiles w.profiles p.0 })
         (λ q h. h) (put_there s.profiles w.profiles p (found_there (is_changed profile_eq.eq-value.it s.profiles) w.profiles p first)) e (closed.endpoints iface e is);
     policies = closed.policies;
-    profiles = λ d key q. taken_cases (λ o. o ≡ Some q → AreThere s.sets (sets_of_rules (profile_side d q))) s.profiles w.profiles p.0 key
-        (λ _ is. keys_kept w.sets s.sets (none_new_there s.sets w.sets none) _ (aim.profiles d key q is))
+    profiles = λ d key q. taken_cases (λ o. o ≡ Some q → NameSets s.sets (profile_side d q)) s.profiles w.profiles p.0 key
+        (λ _ is. names_kept w.sets s.sets (none_new_there s.sets w.sets none) _ (aim.profiles d key q is))
         (λ is. closed.profiles d key q is);
   }
 
@@ -148,7 +156,7 @@ module _ (s w : View) (closed : IsClosedView s) (aim : IsClosedView w) where
       endpoints = λ iface e is. endpoint_both s w (record s { profiles = taken_from s.profiles w.profiles p.0 })
           (λ q g h. g) (both_there s.profiles w.profiles p.0) e (closed.endpoints iface e is) (wanted_too iface e is);
       policies = closed.policies;
-      profiles = λ d key q. taken_cases (λ o. o ≡ Some q → AreThere s.sets (sets_of_rules (profile_side d q))) s.profiles w.profiles p.0 key
+      profiles = λ d key q. taken_cases (λ o. o ≡ Some q → NameSets s.sets (profile_side d q)) s.profiles w.profiles p.0 key
           (λ same is. absent_here w.profiles p.0 key q (found_passes (is_absent w.profiles) (maps.entries s.profiles) p first) same is)
           (λ is. closed.profiles d key q is);
     }
@@ -157,7 +165,7 @@ module _ (s w : View) (closed : IsClosedView s) (aim : IsClosedView w) where
     policy_gone_closed p first = record {
       endpoints = λ iface e is. endpoint_both s w (record s { policies = taken_from s.policies w.policies p.0 })
           (both_there s.policies w.policies p.0) (λ q g h. g) e (closed.endpoints iface e is) (wanted_too iface e is);
-      policies = λ d key q. taken_cases (λ o. o ≡ Some q → AreThere s.sets (sets_of_rules (policy_side d q))) s.policies w.policies p.0 key
+      policies = λ d key q. taken_cases (λ o. o ≡ Some q → NameSets s.sets (policy_side d q)) s.policies w.policies p.0 key
           (λ same is. absent_here w.policies p.0 key q (found_passes (is_absent w.policies) (maps.entries s.policies) p first) same is)
           (λ is. closed.policies d key q is);
       profiles = closed.profiles;
@@ -170,9 +178,9 @@ module _ (s w : View) (closed : IsClosedView s) (aim : IsClosedView w) where
       let same_profiles : s.profiles ≡ w.profiles = same_maps profile_eq.eq-value.it same_profile s.profiles w.profiles (none_changed profile_eq.eq-value.it same_profile s.profiles w.profiles put.profiles) profiles in
       record {
         endpoints = λ iface e is. endpoint_kept s (record s { sets = taken_from s.sets w.sets k }) (λ q h. h) (λ q h. h) e (closed.endpoints iface e is);
-        policies = λ d key p is. keys_there s.sets w.sets (taken_from s.sets w.sets k) (both_there s.sets w.sets k) _ (closed.policies d key p is)
+        policies = λ d key p is. names_both s.sets w.sets (taken_from s.sets w.sets k) (both_there s.sets w.sets k) _ (closed.policies d key p is)
             (aim.policies d key p (ap (λ (m : Named ViewPolicy). maps.get m key) (sym same_policies) ∙ is));
-        profiles = λ d key p is. keys_there s.sets w.sets (taken_from s.sets w.sets k) (both_there s.sets w.sets k) _ (closed.profiles d key p is)
+        profiles = λ d key p is. names_both s.sets w.sets (taken_from s.sets w.sets k) (both_there s.sets w.sets k) _ (closed.profiles d key p is)
             (aim.profiles d key p (ap (λ (m : Named ViewProfile). maps.get m key) (sym same_profiles) ∙ is));
       }
 

@@ -14,7 +14,9 @@ use Rattle.fx_model.specs.declared.view_rule.ViewPort.TheVariants.{Range}
 use Rattle.fx_model.specs.declared.view.ViewPolicy.{ViewPolicy}
 use Rattle.fx_model.specs.Directions.{Direction, Ingress, Egress}
 use Rattle.fx_model.specs.Rendering.{names_of}
-use Rattle.fx_model.specs.Tables.{profile_side}
+use Rattle.fx_base.specs.declared.set_name.SetKind.{SetKind}
+use Rattle.fx_base.specs.declared.set_name.SetKind.TheVariants.{Ports}
+use Rattle.fx_model.specs.Tables.{Sets, profile_side}
 use Rattle.fx_model.specs.declared.ids.ItemKey.{ItemKey}
 use Rattle.fx_model.specs.declared.ids.ItemKey.TheVariants as key
 use Rattle.fx_model.specs.declared.resources.Endpoint.{Endpoint}
@@ -26,7 +28,7 @@ use Rattle.fx_model.specs.Messages.{Named}
 use Rattle.fx_model.specs.Resources.{served_endpoints}
 use Rattle.fx_names.specs.Digests.{Digest}
 use Rattle.fx_model.specs.Views.{view_side, view_rule, profile_key, profile_entry, endpoint_entry, view_profile, view_endpoint, active_profiles, view_of}
-use Rattle.fx_model.specs.Closed.{AreThere, EndpointIsClosed, IsClosedView, sets_of_side, sets_of_rules}
+use Rattle.fx_model.specs.Closed.{AreThere, AreOfKind, SideNamesKinds, NamesKinds, NameSets, EndpointIsClosed, IsClosedView, sets_of_side, sets_of_rules}
 use Rattle.fx_model.proofs.Serving.{profiles_both}
 
 there_later : (m : Named ViewProfile) (es : List (List ℕ × ViewProfile)) (ks : List (List ℕ)) → AreThere m ks → AreThere (extended m es) ks
@@ -73,19 +75,40 @@ rules_name_none (r ∷ rs) =
     ∙ ap (λ (xs : List (List ℕ)). xs ++ sets_of_rules (map view_rule rs)) (side_names_none r.destination)
     ∙ rules_name_none rs
 
-profile_names_none : (d : Direction) (name : List ℕ) (o : Option Profile) → sets_of_rules (profile_side d (view_profile name o)) ≡ []
-profile_names_none Ingress name None = refl
-profile_names_none Egress name None = refl
-profile_names_none Ingress name (Some p) = rules_name_none p.ingress
-profile_names_none Egress name (Some p) = rules_name_none p.egress
+none_of_kind : (k : SetKind) (names : List (List ℕ)) → names ≡ [] → AreOfKind k names
+none_of_kind k names none = subst (AreOfKind k) (sym none) tt
 
-module _ (dg : Digest) (R : Resources) (d : Direction) where
-  abbrev names_none : List ℕ → ViewProfile → Type 0
-  names_none key p = sets_of_rules (profile_side d p) ≡ []
+side_kinds : (s : Side) → SideNamesKinds (view_side s)
+side_kinds s = record {
+  set = tt;
+  not_set = tt;
+  ports = none_of_kind Ports (names_of (map Range s.ports)) (ranges_name_none s.ports);
+  not_ports = none_of_kind Ports (names_of (map Range s.not_ports)) (ranges_name_none s.not_ports);
+}
 
-  entries_name_none : (names : List (List ℕ)) → AllByRecursion (λ e. names_none e.0 e.1) (map (profile_entry dg R) names)
-  entries_name_none [] = tt
-  entries_name_none (n ∷ names) = (profile_names_none d n (maps.get R.profiles n), entries_name_none names)
+rules_kinds : (rs : List Rule) → AllByRecursion NamesKinds (map view_rule rs)
+rules_kinds [] = tt
+rules_kinds (r ∷ rs) = (record { source = side_kinds r.source; destination = side_kinds r.destination }, rules_kinds rs)
+
+rules_name : (sets : Sets) (rs : List Rule) → NameSets sets (map view_rule rs)
+rules_name sets rs = record { there = subst (AreThere sets) (sym (rules_name_none rs)) tt; kinds = rules_kinds rs }
+
+no_rules_name : (sets : Sets) → NameSets sets []
+no_rules_name sets = record { there = tt; kinds = tt }
+
+profile_names : (sets : Sets) (d : Direction) (name : List ℕ) (o : Option Profile) → NameSets sets (profile_side d (view_profile name o))
+profile_names sets Ingress name None = no_rules_name sets
+profile_names sets Egress name None = no_rules_name sets
+profile_names sets Ingress name (Some p) = rules_name sets p.ingress
+profile_names sets Egress name (Some p) = rules_name sets p.egress
+
+module _ (dg : Digest) (R : Resources) (d : Direction) (sets : Sets) where
+  abbrev NamesItsSets : List ℕ → ViewProfile → Type 0
+  NamesItsSets key p = NameSets sets (profile_side d p)
+
+  entries_name : (names : List (List ℕ)) → AllByRecursion (λ e. NamesItsSets e.0 e.1) (map (profile_entry dg R) names)
+  entries_name [] = tt
+  entries_name (n ∷ names) = (profile_names sets d n (maps.get R.profiles n), entries_name names)
 
 no_endpoint : {A : Type 0} (e : ViewEndpoint) → None ≡ Some e → A
 no_endpoint e is = cc
@@ -102,8 +125,6 @@ view_of-closed dg R = record {
       (λ q x is. no_endpoint x (sym (get_empty q) ∙ is))
       (entries_closed dg (view_of dg R) (served_endpoints R) (listed_there dg R maps.empty (served_endpoints R)));
   policies = λ d key p is. no_policy p (sym (get_empty key) ∙ is);
-  profiles = λ d key p is.
-      let none : sets_of_rules (profile_side d p) ≡ [] = at_extended (names_none dg R d) maps.empty (map (profile_entry dg R) (active_profiles R))
-      (λ q x found. no_profile x (sym (get_empty q) ∙ found)) (entries_name_none dg R d (active_profiles R)) key p is in
-      subst (AreThere (view_of dg R).sets) (sym none) tt;
+  profiles = λ d. at_extended (NamesItsSets dg R d (view_of dg R).sets) maps.empty (map (profile_entry dg R) (active_profiles R))
+      (λ q x found. no_profile x (sym (get_empty q) ∙ found)) (entries_name dg R d (view_of dg R).sets (active_profiles R));
 }

@@ -22,7 +22,7 @@ use Rattle.fx_model.specs.Tables.{ChainName, Chains, Sets, end_of, policy_chain,
 use Rattle.fx_model.specs.Rendering.{plain, tagged, is_set, accept_mark}
 use Rattle.fx_model.specs.Ranks.{LeadsBelow, AllLeadBelow, rank_of}
 use Rattle.fx_model.specs.Shapes.{has_shape, have_shape}
-use Rattle.fx_model.specs.Closed.{AreThere, TiersAreThere, EndpointIsClosed, IsClosedView, LeadsThere, MatchesNameThere, sets_of_rules}
+use Rattle.fx_model.specs.Closed.{AreThere, TiersAreThere, EndpointIsClosed, IsClosedView, NameSets, LeadsThere, MatchesNameThere}
 use Rattle.fx_model.specs.Writing.{IsWritable, CanBeWritten}
 use Rattle.fx_laws.proofs.Removing.{both}
 use Rattle.fx_laws.proofs.Shaping.{Lead, leaf_lead, rules_leaf}
@@ -30,17 +30,17 @@ use Rattle.fx_laws.proofs.Shaping.{Lead, leaf_lead, rules_leaf}
 -- ---- rules of policies and profiles lead nowhere
 
 module _ (sets : Sets) (chains : Chains) (rank : ℕ) where
-  told_drop : (why : Reason) → Lead sets chains rank (tagged [] target.Drop why ∷ [])
-  told_drop why = record { there = (tt, tt); below = (tt, tt); named = (tt, tt); shaped = refl }
+  tagged_drop : (why : Reason) → Lead sets chains rank (tagged [] target.Drop why ∷ [])
+  tagged_drop why = record { there = (tt, tt); below = (tt, tt); named = (tt, tt); shaped = refl }
 
   present_lead : (missing : Bool) (name : List ℕ) (rules : List ChainRule) → Lead sets chains rank rules → Lead sets chains rank (present_or_missing missing name rules)
-  present_lead true name rules h = told_drop (reason.MissingProfile name)
+  present_lead true name rules h = tagged_drop (reason.MissingProfile name)
   present_lead false name rules h = h
 
-  policy_lead : (d : Direction) (p : ViewPolicy) → AreThere sets (sets_of_rules (policy_side d p)) → Lead sets chains rank (policy_rules d p)
+  policy_lead : (d : Direction) (p : ViewPolicy) → NameSets sets (policy_side d p) → Lead sets chains rank (policy_rules d p)
   policy_lead d p there = leaf_lead sets chains rank (policy_rules d p) (rules_leaf sets (reason.Policy p.id) 1 (policy_side d p) there)
 
-  profile_lead : (d : Direction) (p : ViewProfile) → AreThere sets (sets_of_rules (profile_side d p)) → Lead sets chains rank (profile_rules d p)
+  profile_lead : (d : Direction) (p : ViewProfile) → NameSets sets (profile_side d p) → Lead sets chains rank (profile_rules d p)
   profile_lead d p there = present_lead p.missing p.name _ (leaf_lead sets chains rank _ (rules_leaf sets (reason.Profile p.name) 1 (profile_side d p) there))
 
 -- a rule before others
@@ -57,10 +57,10 @@ writable sets chains name rank rules e h = record { there = h.there; below = sub
 
 -- the sets of a policy's and a profile's rules are there, in both directions
 abbrev PolicyNames : Sets → ViewPolicy → Type 0
-PolicyNames sets p = (d : Direction) → AreThere sets (sets_of_rules (policy_side d p))
+PolicyNames sets p = (d : Direction) → NameSets sets (policy_side d p)
 
 abbrev ProfileNames : Sets → ViewProfile → Type 0
-ProfileNames sets p = (d : Direction) → AreThere sets (sets_of_rules (profile_side d p))
+ProfileNames sets p = (d : Direction) → NameSets sets (profile_side d p)
 
 policies_written : (sets : Sets) (chains : Chains) (es : List (List ℕ × ViewPolicy)) → AllByRecursion (λ e. PolicyNames sets e.1) es → CanBeWritten sets chains (flat_map policy_chains es)
 policies_written sets chains [] h = tt
@@ -116,7 +116,7 @@ module _ (v : View) (chains : Chains) (has : HasLower v chains) (d : Direction) 
       (return_lead v.sets chains 1 _ (policy_jumps_lead ks there.1 rest h))
 
   profile_jumps_lead : (keys : List (List ℕ)) → AreThere v.profiles keys → Lead v.sets chains 1 (profile_jumps d keys)
-  profile_jumps_lead [] there = told_drop v.sets chains 1 reason.NoProfileRule
+  profile_jumps_lead [] there = tagged_drop v.sets chains 1 reason.NoProfileRule
   profile_jumps_lead (k ∷ ks) there =
       lead_more v.sets chains 1 _ _ (has.profiles d k there.0) (profile_below d k) tt refl
       (return_lead v.sets chains 1 _ (profile_jumps_lead ks there.1))
@@ -166,7 +166,7 @@ goto_shape Ingress k = refl
 goto_shape Egress k = refl
 
 dispatch_lead : (sets : Sets) (chains : Chains) (d : Direction) (ks : List (List ℕ)) → ((k : List ℕ) → is_among k ks ≡ true → maps.contains_key chains (endpoint_chain d k) ≡ true) → Lead sets chains 3 (dispatch_rules d ks)
-dispatch_lead sets chains d [] there = told_drop sets chains 3 reason.UnknownInterface
+dispatch_lead sets chains d [] there = tagged_drop sets chains 3 reason.UnknownInterface
 dispatch_lead sets chains d (k ∷ ks) there =
     lead_more sets chains 3 _ _ (there k (among_first k ks)) (endpoint_below d k) (tt, tt) (goto_shape d k)
     (dispatch_lead sets chains d ks (λ q h. there q (among_later q k ks h)))
