@@ -6,7 +6,7 @@ use Rattle.fx_model.specs.declared.packet.Packet.{Packet}
 use Rattle.fx_model.specs.Tables.{Tables, forward}
 use Rattle.fx_model.specs.Machine.{Trace, holds, nothing_noted, hops_and_reasons}
 use Rattle.fx_model.specs.Walk.{Ended, verdict_of, noted_in, over_chain}
-use Rattle.fx_print.specs.PacketTexts.{packet_lines}
+use Rattle.fx_model.specs.PacketTexts.{packet_lines}
 
 abbrev pub deepest : ℕ
 deepest = 5

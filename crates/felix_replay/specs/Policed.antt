@@ -14,7 +14,7 @@ use Rattle.fx_model.specs.Tables.{ChainName, tables_of}
 use Rattle.fx_names.specs.Digests.{Digest}
 use Rattle.fx_model.specs.Views.{view_of}
 use Rattle.fx_lines.specs.declared.commands.Command.TheVariants as command
-use Rattle.fx_print.specs.PacketTexts.{packet_lines}
+use Rattle.fx_model.specs.PacketTexts.{packet_lines}
 use Rattle.felix_replay.specs.Output.{State, start, next, answer_of, text}
 use Rattle.felix_replay.specs.Run.{state_after}
 
