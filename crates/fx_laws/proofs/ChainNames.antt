@@ -1,12 +1,11 @@
 -- Each chain of the tables is a fixed one, or some resource claims it.
-use Rattle.std.proofs.Common.{◌≡◌, inl, inr, ◌<◌, ◌≤◌, ℕ, ◌+◌, Bool, true, false, ◌&&◌, ◌||◌, cond, List, [], ◌∷◌, ◌++◌, length, map, Some, None, refl, sym, ap, ◌∙◌, subst, arith}
-use Rattle.std.specs.Prelude.{filter, codes, nat_lt, nat_le, slice_index, ◌==◌, not, if◌then◌else◌}
+use Rattle.std.proofs.Common.{◌≡◌, inl, inr, ◌<◌, ℕ, Bool, true, false, ◌||◌, cond, List, [], ◌∷◌, ◌++◌, length, map, Some, None, refl, sym, ap, ◌∙◌, subst, arith}
+use Rattle.std.specs.Prelude.{filter, codes, nat_lt, nat_le, if◌then◌else◌}
 use Rattle.std.proofs.lemmas.Bool.Decides.{nat_tests}
 use Rattle.std.specs.List.{AllByRecursion, flat_map, list_all}
 use Rattle.std.specs.Cmp.Lexicographic.{nat_list_cmp_total}
 use Rattle.std.specs.FinMap as maps
 use Rattle.fx_base.specs.Same.{both_pass}
-use Rattle.fx_base.specs.Extended.{collected}
 use Rattle.std.specs.Ordering.{nat_cmp}
 use Rattle.std.specs.Cmp.Lexicographic.{slice_cmp}
 use Rattle.fx_base.proofs.Entries.{entries-empty}
@@ -15,11 +14,10 @@ use Rattle.fx_base.proofs.ExtendedKeys.{is_among, among_first, among_later, at_e
 use Rattle.fx_base.proofs.Found.{each, entries_found}
 use Rattle.fx_base.specs.declared.kernel_name.KernelName.TheVariants.{Chain}
 use Rattle.fx_names.specs.Digests.{Digest}
-use Rattle.fx_names.specs.Names.{prefix_text, key_of, chain_name_of, is_whole, shortened}
+use Rattle.fx_names.specs.Names.{prefix_text, chain_name_of, shortened}
 use Rattle.fx_names.specs.Claims.{times}
 use Rattle.fx_names.specs.declared.claim.Claim.{Claim}
-use Rattle.fx_names.specs.declared.prefix.Prefix.{Prefix}
-use Rattle.fx_names.specs.declared.prefix.Prefix.TheVariants.{ProfileIn, ProfileOut, ToEndpoint, FromEndpoint}
+use Rattle.fx_names.specs.declared.prefix.Prefix.TheVariants.{ToEndpoint, FromEndpoint}
 use Rattle.fx_names.proofs.ClaimLists.{times-append, times-itself}
 use Rattle.fx_model.specs.declared.ids.ItemKey.{ItemKey}
 use Rattle.fx_model.specs.declared.ids.ItemKey.TheVariants as item_key
@@ -34,10 +32,10 @@ use Rattle.fx_model.specs.Directions.{Ingress, Egress}
 use Rattle.fx_model.specs.Resources.{is_served, is_local, served_endpoints}
 use Rattle.fx_model.specs.Formed.{is_formed_namespace, is_formed_item_key, is_formed_endpoint, is_formed_endpoint_entry, are_formed}
 use Rattle.fx_model.specs.Claims.{item_text, profile_claims, interface_claims, endpoint_claims, all_claims}
-use Rattle.fx_model.specs.Views.{view_of, profile_key, profile_entry, endpoint_entry, active_profiles, is_active_profile}
-use Rattle.fx_model.specs.Tables.{ChainName, policy_chain, profile_chain, endpoint_chain, policy_chains, profile_chains, endpoint_chains, dispatch_chains, chains_of, tables_of}
-use Rattle.fx_laws.specs.ChainNames.{is_fixed_chain, IsClaimedChain, IsFixedOrClaimed}
-use Rattle.fx_laws.proofs.ClaimsOfKeys.{ingress_claim, egress_claim, ingress_claimed, egress_claimed}
+use Rattle.fx_model.specs.Views.{view_of, profile_entry, endpoint_entry, active_profiles, is_active_profile}
+use Rattle.fx_model.specs.Tables.{ChainName, profile_chain, endpoint_chain, policy_chains, profile_chains, endpoint_chains, dispatch_chains, chains_of, tables_of}
+use Rattle.fx_laws.specs.ChainNames.{IsFixedOrClaimed}
+use Rattle.fx_laws.proofs.ClaimsOfKeys.{ingress_claimed, egress_claimed}
 use Rattle.fx_laws.proofs.FormedLemmas.{parts, not_formed}
 
 abbrev Written : Type 0
@@ -139,8 +137,8 @@ module _ (dg : Digest) where
         elim (is_served R x.1) as (λ b. is_served R x.1 ≡ b → AllByRecursion (λ (e : List ℕ × ViewEndpoint). EndpointHeld e.0 e.1) (map (endpoint_entry dg) (cond b (x ∷ left) left))) [
           | true ↦ λ served. (
             endpoint_held x h.0
-            (more (to_claim x) (omega (arith, to_claimed x served, times-append (to_claim x) first (endpoints_claim es))))
-            (more (from_claim x) (omega (arith, from_claimed x served, times-append (from_claim x) first (endpoints_claim es)))),
+                (more (to_claim x) (omega (arith, to_claimed x served, times-append (to_claim x) first (endpoints_claim es))))
+                (more (from_claim x) (omega (arith, from_claimed x served, times-append (from_claim x) first (endpoints_claim es)))),
             rest,
           )
           | false ↦ λ served. rest

@@ -1,5 +1,5 @@
 -- An update that is let through keeps the claims apart.
-use Rattle.std.proofs.Common.{◌≡◌, ℕ, ◌+◌, ◌<◌, Bool, true, false, cond, ◌&&◌, not, List, [], ◌∷◌, ◌++◌, Option, Some, None, refl, sym, ap, ◌∙◌, subst, append_assoc, arith}
+use Rattle.std.proofs.Common.{◌≡◌, ℕ, ◌<◌, Bool, true, false, ◌&&◌, not, List, [], ◌∷◌, ◌++◌, None, refl, sym, ap, ◌∙◌, subst, append_assoc, arith}
 use Rattle.std.proofs.lemmas.List.{append-nil}
 use Rattle.std.specs.List.{flat_map}
 use Rattle.std.specs.Ordering.{nat_cmp}
@@ -8,7 +8,7 @@ use Rattle.std.specs.FinMap as maps
 use Rattle.fx_base.proofs.Entries.{entries-empty}
 use Rattle.fx_names.specs.Digests.{Digest}
 use Rattle.fx_names.specs.declared.claim.Claim.{Claim}
-use Rattle.fx_names.specs.Claims.{same_name, is_same, clashes, times, other_holder, first_clash}
+use Rattle.fx_names.specs.Claims.{is_same, clashes, times, other_holder, first_clash}
 use Rattle.fx_names.proofs.ClaimLists.{same_claim, same_name-refl, bytes_eq-refl, clashes-swap, times-append, times-other, times-none, first_clash-head, first_clash-tail}
 use Rattle.fx_model.specs.contracts.ids.ItemKeyOrd.TheImpl.{cmp-value}
 use Rattle.fx_model.specs.declared.ids.ItemKey.{ItemKey}
@@ -21,7 +21,7 @@ use Rattle.fx_model.specs.declared.resources.Update.{Update}
 use Rattle.fx_model.specs.declared.resources.Update.TheVariants as update
 use Rattle.fx_model.specs.Resources.{after, after_put, after_delete}
 use Rattle.fx_model.specs.Formed.{is_formed}
-use Rattle.fx_model.specs.Claims.{profile_claims, endpoint_claims, claims_of, claims_at, all_claims, clash, AreApart, IsClashFree}
+use Rattle.fx_model.specs.Claims.{profile_claims, endpoint_claims, claims_of, all_claims, clash, AreApart, IsClashFree}
 use Rattle.fx_laws.proofs.ClaimsCounted.{times-at, times-put}
 use Rattle.fx_laws.proofs.Clashing.{clash-put}
 

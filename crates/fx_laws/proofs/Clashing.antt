@@ -1,5 +1,5 @@
 -- The first clash of one update: of a put it is that of what is put, and a delete has none.
-use Rattle.std.proofs.Common.{◌≡◌, List, [], ◌++◌, Option, Some, None, cond, ap, ◌∙◌}
+use Rattle.std.proofs.Common.{◌≡◌, [], Some, None, cond, ap, ◌∙◌}
 use Rattle.std.proofs.lemmas.List.{append-nil}
 use Rattle.std.specs.Ordering.{is_eq}
 use Rattle.std.specs.declared.cmp.Ordering.{Ordering}
@@ -8,8 +8,7 @@ use Rattle.std.specs.Cmp.Lexicographic.{nat_list_cmp_total}
 use Rattle.std.specs.FinMap.{FinMap, get, insert, remove, get-insert, get-remove}
 use Rattle.std.proofs.Common.{true}
 use Rattle.fx_names.specs.Digests.{Digest}
-use Rattle.fx_names.specs.declared.claim.Claim.{Claim}
-use Rattle.fx_names.specs.Claims.{Clash, first_clash}
+use Rattle.fx_names.specs.Claims.{first_clash}
 use Rattle.fx_model.specs.declared.ids.ItemKey.TheVariants as item_key
 use Rattle.fx_model.specs.declared.ids.Key.{Key}
 use Rattle.fx_model.specs.declared.ids.Key.TheVariants as key

@@ -16,6 +16,10 @@ first_message : (n : ℕ) (s w : View) (c : Change) → next_message s w ≡ Som
 unfolding messages
 first_message n s w c is = ap (λ o. messages_from (λ after. messages n after w) o s w) is
 
+none_allowed : (s w : View) → messages zero s w ≡ []
+unfolding messages
+none_allowed s w = refl
+
 one_more : (m n : ℕ) → n + 1 ≡ m → m ≡ suc n
 one_more m n e = omega arith
 
@@ -70,11 +74,7 @@ module _ (w : View) (aim : IsClosedView w) where
   one_sent s c cs first rest = (first, rest)
 
   messages-closed : (n : ℕ) (s : View) → IsClosedView s → AllClosed (messages n s w) s
-  messages-closed zero s closed = subst (λ cs. AllClosed cs s) (sym none_sent) (nothing_sent s)
-    where
-      none_sent : messages zero s w ≡ []
-      unfolding messages
-      none_sent = refl
+  messages-closed zero s closed = subst (λ cs. AllClosed cs s) (sym (none_allowed s w)) (nothing_sent s)
   messages-closed (suc n) s closed =
       elim (next_message s w) as (λ o. next_message s w ≡ o → AllClosed (messages (suc n) s w) s) [
         | None ↦ λ none. subst (λ cs. AllClosed cs s) (sym (no_messages (suc n) s w none)) (nothing_sent s)

@@ -1,7 +1,7 @@
 -- Formed resources stay so, and have a formed view; and so do those whose local endpoints stand on interfaces of workloads.
-use Rattle.std.proofs.Common.{◌≡◌, ℕ, Bool, true, false, ◌&&◌, List, [], ◌∷◌, ◌++◌, map, cond, refl, sym, ap, ◌∙◌}
+use Rattle.std.proofs.Common.{◌≡◌, ℕ, Bool, true, false, ◌&&◌, List, [], ◌∷◌, map, cond, refl, sym, ap, ◌∙◌}
 use Rattle.std.specs.Prelude.{filter}
-use Rattle.std.specs.List.{list_all, flat_map}
+use Rattle.std.specs.List.{list_all}
 use Rattle.std.specs.Cmp.Lexicographic.{nat_list_cmp_total}
 use Rattle.std.specs.FinMap as maps
 use Rattle.fx_base.specs.Same.{both_pass}
@@ -32,7 +32,7 @@ not_formed true e = cc
 not_formed false e = cc
 
 module _ (R : Resources) (was : are_formed R ≡ true) where
-  parts : (list_all is_formed_endpoint_entry (maps.entries R.endpoints) ≡ true) × (list_all (λ x. is_formed_profile x.1) (maps.entries R.profiles) ≡ true)
+  pub parts : (list_all is_formed_endpoint_entry (maps.entries R.endpoints) ≡ true) × (list_all (λ x. is_formed_profile x.1) (maps.entries R.profiles) ≡ true)
   parts = both_pass _ _ was
 
   -- a formed update leaves formed resources

@@ -1,6 +1,6 @@
 -- A profile's key fits behind its chains' prefixes.
-use Rattle.std.proofs.Common.{◌≡◌, ◌≤◌, ◌-◌, ◌+◌, ◌||◌, ◌&&◌, ◌==◌, Bool, true, false, not, List, ℕ, length, take, refl, sym, subst, arith}
-use Rattle.std.specs.Prelude.{nat_lt, nat_le, slice_index, if◌then◌else◌, codes, min}
+use Rattle.std.proofs.Common.{◌≡◌, ◌≤◌, ◌||◌, ◌&&◌, ◌==◌, Bool, true, false, not, List, ℕ, length, refl, arith}
+use Rattle.std.specs.Prelude.{nat_lt, slice_index, if◌then◌else◌}
 use Rattle.std.proofs.lemmas.List.{length-take}
 use Rattle.std.proofs.lemmas.Bool.Decides.{nat_tests}
 use Rattle.std.proofs.lemmas.Bool.{le-leb}

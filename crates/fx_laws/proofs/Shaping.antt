@@ -1,5 +1,5 @@
 -- The rendered rules of policies and profiles lead nowhere, have the shapes of rules, and name the sets that the rules name.
-use Rattle.std.proofs.Common.{◌≡◌, ◌≤◌, ℕ, suc, ◌+◌, ◌-◌, Bool, true, false, ◌||◌, cond, List, [], ◌∷◌, ◌++◌, map, Option, Some, None, refl, sym, ap, ◌∙◌, subst, arith}
+use Rattle.std.proofs.Common.{◌≡◌, ◌≤◌, ℕ, suc, ◌+◌, ◌-◌, Bool, true, false, ◌&&◌, ◌||◌, cond, List, [], ◌∷◌, ◌++◌, map, Option, Some, None, refl, sym, ap, ◌∙◌, subst, arith}
 use Rattle.std.specs.Prelude.{nat_le, nat_eq}
 use Rattle.std.specs.List.{list_all, AllByRecursion}
 use Rattle.std.specs.FinMap as maps
@@ -326,28 +326,24 @@ module _ (sets : Sets) where
   }
 
   -- the sets of an end stand in four places, one behind the other
-  sets_piece : (end : End) (s : ViewSide) → SideThere s → Piece (sets_place end) (3 + sets_place end) (sets_match end s)
-  sets_piece end s h = by_place end
-    where
-      kinds : SideNamesKinds s
-      kinds = h.kinds
+  four_pieces : (end : End) (s : ViewSide) (k : ℕ) → least_after k ≡ k → least_after (1 + k) ≡ 1 + k → least_after (2 + k) ≡ 2 + k → least_after (3 + k) ≡ 3 + k
+      → Even k (set_match end false s.set) → Even (1 + k) (set_match end true s.not_set) → Even (2 + k) (in_set_match end (port_choices s.ports)) → Even (3 + k) (not_in_set_match end s.not_ports)
+      → Piece k (3 + k) (sets_match end s)
+  four_pieces end s k a b c d first second third fourth =
+      piece-append k k (1 + k) (3 + k) (set_match end false s.set) _ (omega arith) (omega arith) (omega arith) (even_piece k _ a first)
+      (piece-append (1 + k) (1 + k) (2 + k) (3 + k) (set_match end true s.not_set) _ (omega arith) (omega arith) (omega arith) (even_piece (1 + k) _ b second)
+      (piece-append (2 + k) (2 + k) (3 + k) (3 + k) (in_set_match end (port_choices s.ports)) (not_in_set_match end s.not_ports) (omega arith) (omega arith) (omega arith) (even_piece (2 + k) _ c third)
+      (even_piece (3 + k) _ d fourth)))
 
-      four : (end : End) (k : ℕ) → sets_place end ≡ k → least_after k ≡ k → least_after (1 + k) ≡ 1 + k → least_after (2 + k) ≡ 2 + k → least_after (3 + k) ≡ 3 + k
-          → Piece k (3 + k) (sets_match end s)
-      four end k is a b c d =
-          let ports = port_choices s.ports in
-          let positive : Even (2 + k) (in_set_match end ports) = subst (λ n. Even (2 + n) (in_set_match end ports)) is (in_set_even end ports (choices_fit s.ports h.ports kinds.ports)) in
-          let negative : Even (3 + k) (not_in_set_match end s.not_ports) = subst (λ n. Even (3 + n) (not_in_set_match end s.not_ports)) is (not_in_sets_even end (names_of s.not_ports) h.not_ports kinds.not_ports) in
-          let first : Even k (set_match end false s.set) = subst (λ n. Even n (set_match end false s.set)) is (set_even end false s.set h.set kinds.set) in
-          let second : Even (1 + k) (set_match end true s.not_set) = subst (λ n. Even (1 + n) (set_match end true s.not_set)) is (set_even end true s.not_set h.not_set kinds.not_set) in
-          piece-append k k (1 + k) (3 + k) (set_match end false s.set) _ (omega arith) (omega arith) (omega arith) (even_piece k _ a first)
-          (piece-append (1 + k) (1 + k) (2 + k) (3 + k) (set_match end true s.not_set) _ (omega arith) (omega arith) (omega arith) (even_piece (1 + k) _ b second)
-          (piece-append (2 + k) (2 + k) (3 + k) (3 + k) (in_set_match end ports) (not_in_set_match end s.not_ports) (omega arith) (omega arith) (omega arith) (even_piece (2 + k) _ c positive)
-          (even_piece (3 + k) _ d negative)))
+  source_sets : (s : ViewSide) → SideThere s → Piece 7 10 (sets_match Source s)
+  source_sets s h =
+      four_pieces Source s 7 refl refl refl refl (set_even Source false s.set h.set h.kinds.set) (set_even Source true s.not_set h.not_set h.kinds.not_set)
+      (in_set_even Source (port_choices s.ports) (choices_fit s.ports h.ports h.kinds.ports)) (not_in_sets_even Source (names_of s.not_ports) h.not_ports h.kinds.not_ports)
 
-      by_place : (end : End) → Piece (sets_place end) (3 + sets_place end) (sets_match end s)
-      by_place Source = four Source 7 refl refl refl refl refl
-      by_place Dest = four Dest 11 refl refl refl refl refl
+  dest_sets : (s : ViewSide) → SideThere s → Piece 11 14 (sets_match Dest s)
+  dest_sets s h =
+      four_pieces Dest s 11 refl refl refl refl (set_even Dest false s.set h.set h.kinds.set) (set_even Dest true s.not_set h.not_set h.kinds.not_set)
+      (in_set_even Dest (port_choices s.ports) (choices_fit s.ports h.ports h.kinds.ports)) (not_in_sets_even Dest (names_of s.not_ports) h.not_ports h.kinds.not_ports)
 
   source_ports : (s : ViewSide) → SideThere s → Piece 15 16 (ports_match Source s)
   source_ports s h =
@@ -366,8 +362,8 @@ module _ (sets : Sets) where
       let icmp = even_good 19 (icmp_match false r.icmp ++ icmp_match true r.not_icmp) refl (even-append 19 (icmp_match false r.icmp) (icmp_match true r.not_icmp) (icmp_even false r.icmp) (icmp_even true r.not_icmp)) in
       let ports_d = good_step 17 18 19 (ports_match Dest r.destination) _ (omega arith) (omega arith) (dest_ports r.destination d) icmp in
       let ports_s = good_step 15 16 17 (ports_match Source r.source) _ (omega arith) (omega arith) (source_ports r.source s) ports_d in
-      let sets_d = good_step 11 14 15 (sets_match Dest r.destination) _ (omega arith) (omega arith) (sets_piece Dest r.destination d) ports_s in
-      let sets_s = good_step 7 10 11 (sets_match Source r.source) _ (omega arith) (omega arith) (sets_piece Source r.source s) sets_d in
+      let sets_d = good_step 11 14 15 (sets_match Dest r.destination) _ (omega arith) (omega arith) (dest_sets r.destination d) ports_s in
+      let sets_s = good_step 7 10 11 (sets_match Source r.source) _ (omega arith) (omega arith) (source_sets r.source s) sets_d in
       let blocks = good_step 5 5 7 (block_match (blocks_of r)) _ (omega arith) (omega arith) (block_piece (blocks_of r)) sets_s in
       let nets_d = good_step 2 2 5 (nets_match Dest r.destination) _ (omega arith) (omega arith) (nets_piece Dest r.destination.nets r.destination.not_nets) blocks in
       let nets_s = good_step 1 1 2 (nets_match Source r.source) _ (omega arith) (omega arith) (nets_piece Source r.source.nets r.source.not_nets) nets_d in
@@ -446,12 +442,13 @@ module _ (sets : Sets) where
   listed_good Source c h = record { named = (tt, tt); ordered = refl; fit = both (nat_le (slots c) 15) true (le-leb (slots c) 15 h) refl }
   listed_good Dest c h = record { named = (tt, tt); ordered = refl; fit = both (nat_le (slots c) 15) true (le-leb (slots c) 15 h) refl }
 
-  in_set_good : (end : End) (name : List ℕ) → maps.contains_key sets name ≡ true → Good 0 (match.Set end name false ∷ [])
-  in_set_good end name h = record { named = (h, tt); ordered = refl; fit = refl }
+  in_set_good : (end : End) (name : List ℕ) → maps.contains_key sets name ≡ true → kind_of name ≡ Ports → Good 0 (match.Set end name false ∷ [])
+  in_set_good Source name h is = record { named = (h, tt); ordered = ap (λ (k : SetKind). nat_le 0 (set_place k false + 7) && true) is; fit = refl }
+  in_set_good Dest name h is = record { named = (h, tt); ordered = ap (λ (k : SetKind). nat_le 0 (set_place k false + 11) && true) is; fit = refl }
 
   choice_good : (end : End) (proto : Option Proto) (c : PortChoice) → ChoiceFits c → Good 0 (choice_alternative end proto c)
   choice_good end proto (Listed c) h = good_step 0 0 1 (proto_match proto None) (match.Ports end c false ∷ []) (omega arith) (omega arith) (proto_piece proto None) (listed_good end c h)
-  choice_good end proto (InSet name) h = in_set_good end name h.0
+  choice_good end proto (InSet name) h = in_set_good end name h.0 h.1
 
   choices_good : (end : End) (proto : Option Proto) (cs : List PortChoice) → AllByRecursion ChoiceFits cs → AllByRecursion (Good 0) (map (choice_alternative end proto) cs)
   choices_good end proto [] h = tt

@@ -1,5 +1,5 @@
 -- Whose chains stand in the tables. The names of the fixed chains and the prefixes of the others are Felix's.
-use Rattle.std.specs.Prelude.{◌≡◌, inl, inr, ◌⊎◌, ◌<◌, ℕ, List, Bool, true, ◌||◌}
+use Rattle.std.specs.Prelude.{◌≡◌, ◌⊎◌, ◌<◌, ℕ, List, Bool, true, ◌||◌}
 use Rattle.std.specs.Str.{bytes_eq}
 use Rattle.fx_base.specs.declared.kernel_name.KernelName.TheVariants.{Chain}
 use Rattle.fx_names.specs.Digests.{Digest}
