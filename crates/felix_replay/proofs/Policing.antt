@@ -22,13 +22,14 @@ use Rattle.fx_laws.proofs.Leading.{ranked-tables}
 use Rattle.fx_laws.proofs.ViewClosed.{view_of-closed}
 use Rattle.fx_walk.proofs.Agree.{policy_is_kept, traced_decides, run_has_one_end, walk_is_run}
 use Rattle.fx_walk.proofs.Families.{first_there}
-use Rattle.fx_walk.proofs.Walks.{ended-run, one-end}
+use Rattle.fx_walk.specs.PacketPaths.{first_walk}
+use Rattle.fx_walk.proofs.Walks.{one-end}
 use Rattle.fx_lines.specs.declared.commands.Command.TheVariants as command
 use Rattle.fx_model.specs.PacketTexts.{packet_lines}
 use Rattle.felix_replay.specs.Engine.{IsRendered}
 use Rattle.felix_replay.specs.declared.engine.Engine.{Engine}
 use Rattle.felix_replay.specs.Run.{state_after}
-use Rattle.felix_replay.specs.PacketRuns.{nothing_traced, packet_run, packet_text}
+use Rattle.felix_replay.specs.PacketRuns.{packet_text}
 use Rattle.felix_replay.specs.Output.{State, start, answer_of, next, answer_text}
 use Rattle.felix_replay.specs.Policed.{TellsRun, PathsAreRuns, TellsPolicy, KeepsPolicy}
 use Rattle.felix_replay.proofs.ClosingLemmas.{run_closed}
@@ -49,9 +50,9 @@ kept_ranked e kept = subst (λ (t : Tables). IsRanked t.chains) (sym kept.render
 pub run_text : (tables : Tables) (a : Packet) → IsRanked tables.chains → (path : List (ChainName × ℕ)) (v : Verdict) (e i : Option Reason) → Traces tables a [] path v e i
     → concat (packet_lines path a.iface_in a.iface_out e i v) ≡ packet_text tables a
 run_text tables a ranked path v e i run =
-    let end = one-end {S = Trace} hops_and_reasons (holds tables.sets a) tables.chains run.1 (ended-run hops_and_reasons (holds tables.sets a) tables.chains ranked nothing_traced) in
+    let end = one-end {S = Trace} hops_and_reasons (holds tables.sets a) tables.chains run.1 (walk_is_run tables a [] ranked).1 in
     ap (λ (w : Verdict). concat (packet_lines path a.iface_in a.iface_out e i w)) end.0
-    ∙ ap (λ (t : Trace). concat (packet_lines t.hops a.iface_in a.iface_out t.reasons.egress t.reasons.ingress (verdict_of (packet_run tables a)))) end.1
+    ∙ ap (λ (t : Trace). concat (packet_lines t.hops a.iface_in a.iface_out t.reasons.egress t.reasons.ingress (verdict_of (first_walk tables a [])))) end.1
 
 pub kept_text : (e : Engine) → IsRendered e → (a : Packet) (path : List (ChainName × ℕ)) (v : Verdict) (egress ingress : Option Reason) → Traces e.tables a [] path v egress ingress
     → concat (packet_lines path a.iface_in a.iface_out egress ingress v) ≡ packet_text (tables_of e.sent) a
@@ -63,7 +64,7 @@ kept_text e kept a path v egress ingress run =
 -- the walk that the text is made from is the machine's run
 told_run : (s : State) → IsClosedView s.sent → (line : List ℕ) (a : Packet) → answer_of s line ≡ Ok (command.Packet a) → TellsRun s line a
 told_run s closed line a said =
-    let run : Ended Trace = packet_run (tables_of s.sent) a in
+    let run : Ended Trace = first_walk (tables_of s.sent) a [] in
     record {
       path = (noted_in run).hops;
       verdict = verdict_of run;
