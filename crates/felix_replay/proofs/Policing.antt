@@ -8,7 +8,6 @@ use Rattle.fx_model.specs.declared.packet.State.TheVariants.{New}
 use Rattle.fx_model.specs.declared.packet.Verdict.{Verdict}
 use Rattle.fx_model.specs.declared.chain.Reason.{Reason}
 use Rattle.fx_model.specs.declared.resources.Resources.{Resources}
-use Rattle.fx_model.specs.declared.resources.Update.{Update}
 use Rattle.fx_model.specs.declared.view.View.{View}
 use Rattle.fx_model.specs.Machine.{Trace, holds, hops_and_reasons, Decides, Traces}
 use Rattle.fx_model.specs.Policy.{Outcome, packet_verdict}
@@ -17,34 +16,24 @@ use Rattle.fx_model.specs.Tables.{ChainName, Tables, forward, tables_of}
 use Rattle.fx_model.specs.ViewPolicy.{IsServable}
 use Rattle.fx_model.specs.Closed.{IsClosedView}
 use Rattle.fx_names.specs.Digests.{Digest}
-use Rattle.fx_names.specs.Claims.{Clash}
-use Rattle.fx_model.specs.Claims.{clash}
 use Rattle.fx_model.specs.Views.{view_of}
 use Rattle.fx_model.specs.Walk.{Ended, verdict_of, noted_in}
-use Rattle.fx_laws.proofs.ClaimsApart.{clash_free_after, clash_free_none}
-use Rattle.fx_laws.proofs.FormedLemmas.{are_formed-after, have_workload_interfaces-after}
 use Rattle.fx_laws.proofs.Leading.{ranked-tables}
 use Rattle.fx_laws.proofs.ViewClosed.{view_of-closed}
 use Rattle.fx_walk.proofs.Agree.{policy_is_kept, traced_decides, run_has_one_end, walk_is_run}
 use Rattle.fx_walk.proofs.Families.{first_there}
-use Rattle.fx_walk.proofs.Walks.{ended-run, one-end}
-use Rattle.fx_json.specs.declared.refusal.Refusal.{Refusal}
-use Rattle.fx_json.specs.declared.refusal.Refusal.TheVariants.{Read}
-use Rattle.fx_json.specs.declared.fault.ReadFault.TheVariants.{Unsupported}
-use Rattle.fx_lines.specs.declared.commands.Command.{Command}
+use Rattle.fx_walk.specs.PacketPaths.{first_walk}
+use Rattle.fx_walk.proofs.Walks.{one-end}
 use Rattle.fx_lines.specs.declared.commands.Command.TheVariants as command
-use Rattle.fx_lines.specs.Commands.{command_of}
-use Rattle.fx_lines.specs.Formed.{IsReadCommand}
-use Rattle.fx_lines.proofs.Kept.{command_of-formed}
 use Rattle.fx_model.specs.PacketTexts.{packet_lines}
 use Rattle.felix_replay.specs.Engine.{IsRendered}
 use Rattle.felix_replay.specs.declared.engine.Engine.{Engine}
 use Rattle.felix_replay.specs.Run.{state_after}
-use Rattle.felix_replay.specs.PacketRuns.{nothing_traced, packet_run, packet_text}
-use Rattle.felix_replay.specs.Output.{State, start, is_second_local, unless_taken, checked, accepted, answer_of, after_answer, next, answer_text}
+use Rattle.felix_replay.specs.PacketRuns.{packet_text}
+use Rattle.felix_replay.specs.Output.{State, start, answer_of, next, answer_text}
 use Rattle.felix_replay.specs.Policed.{TellsRun, PathsAreRuns, TellsPolicy, KeepsPolicy}
 use Rattle.felix_replay.proofs.ClosingLemmas.{run_closed}
-use Rattle.felix_replay.proofs.EmptyView.{start-formed, start-on_workloads}
+use Rattle.felix_replay.proofs.Served.{run_servable}
 
 -- ---- the engine
 
@@ -61,71 +50,21 @@ rendered_ranked e is = subst (λ (t : Tables). IsRanked t.chains) (sym is.render
 pub run_text : (tables : Tables) (a : Packet) → IsRanked tables.chains → (path : List (ChainName × ℕ)) (v : Verdict) (e i : Option Reason) → Traces tables a [] path v e i
     → concat (packet_lines path a.iface_in a.iface_out e i v) ≡ packet_text tables a
 run_text tables a ranked path v e i run =
-    let end = one-end {S = Trace} hops_and_reasons (holds tables.sets a) tables.chains run.1 (ended-run hops_and_reasons (holds tables.sets a) tables.chains ranked nothing_traced) in
+    let end = one-end {S = Trace} hops_and_reasons (holds tables.sets a) tables.chains run.1 (walk_is_run tables a [] ranked).1 in
     ap (λ (w : Verdict). concat (packet_lines path a.iface_in a.iface_out e i w)) end.0
-    ∙ ap (λ (t : Trace). concat (packet_lines t.hops a.iface_in a.iface_out t.reasons.egress t.reasons.ingress (verdict_of (packet_run tables a)))) end.1
+    ∙ ap (λ (t : Trace). concat (packet_lines t.hops a.iface_in a.iface_out t.reasons.egress t.reasons.ingress (verdict_of (first_walk tables a [])))) end.1
 
 pub rendered_text : (e : Engine) → IsRendered e → (a : Packet) (path : List (ChainName × ℕ)) (v : Verdict) (egress ingress : Option Reason) → Traces e.tables a [] path v egress ingress
     → concat (packet_lines path a.iface_in a.iface_out egress ingress v) ≡ packet_text (tables_of e.sent) a
 rendered_text e is a path v egress ingress run =
     run_text e.tables a (rendered_ranked e is) path v egress ingress run ∙ ap (λ (t : Tables). packet_text t a) is.rendered
 
--- ---- what is accepted stays servable
-
-start-safe : (dg : Digest) (node : List ℕ) → IsServable dg (start dg node).resources
-start-safe dg node = record {
-  formed = start-formed dg node;
-  clash_free = clash_free_none dg (start dg node).resources refl refl;
-  on_workloads = start-on_workloads dg node;
-}
-
-untaken-safe : (s : State) → IsServable s.digest s.resources → (u : Update) → IsReadCommand (command.Update u) → (o : Option Clash) → clash s.digest s.resources u ≡ o → IsServable s.digest (after_answer s (unless_taken o u)).resources
-untaken-safe s safe u said (Some c) is = safe
-untaken-safe s safe u said None is = record {
-  formed = are_formed-after s.resources safe.formed u said.formed;
-  clash_free = clash_free_after s.digest s.resources u said.formed safe.clash_free is;
-  on_workloads = have_workload_interfaces-after s.resources safe.on_workloads u (said.on_workloads s.resources.node);
-}
-
-updated-safe : (s : State) → IsServable s.digest s.resources → (u : Update) → IsReadCommand (command.Update u) → (b : Bool) → IsServable s.digest (after_answer s (if b then Err (Read (Unsupported (codes "spec.node"))) else unless_taken (clash s.digest s.resources u) u)).resources
-updated-safe s safe u said true = safe
-updated-safe s safe u said false = untaken-safe s safe u said (clash s.digest s.resources u) refl
-
-stepped-safe : (s : State) → IsServable s.digest s.resources → (said : Result Command Refusal) → IfOk said IsReadCommand → IsServable s.digest (after_answer s (checked s.digest s.resources said)).resources
-stepped-safe s safe (Ok command.Blank) said = safe
-stepped-safe s safe (Ok command.Tables) said = safe
-stepped-safe s safe (Ok command.Flush) said = safe
-stepped-safe s safe (Ok (command.Update u)) said = updated-safe s safe u said (is_second_local s.resources u)
-stepped-safe s safe (Ok (command.Packet a)) said = safe
-stepped-safe s safe (Err r) said = safe
-
--- the digest stays
-accepted-digest : (s : State) (c : Command) → (accepted s c).digest ≡ s.digest
-accepted-digest s command.Blank = refl
-accepted-digest s command.Tables = refl
-accepted-digest s command.Flush = refl
-accepted-digest s (command.Update u) = refl
-accepted-digest s (command.Packet a) = refl
-
-step-digest : (s : State) (r : Result Command Refusal) → (after_answer s r).digest ≡ s.digest
-step-digest s (Ok c) = accepted-digest (record s { lines = s.lines + 1 }) c
-step-digest s (Err r) = refl
-
-next-safe : (s : State) → IsServable s.digest s.resources → (line : List ℕ) → IsServable (next s line).digest (next s line).resources
-next-safe s safe line =
-    subst (λ dg. IsServable dg (next s line).resources) (sym (step-digest s (answer_of s line))) (stepped-safe s safe (command_of line) (command_of-formed line))
-
-along-safe : (s : State) (lines : List (List ℕ)) → IsServable s.digest s.resources → IsServable (state_after next s lines).digest (state_after next s lines).resources
-unfolding state_after
-along-safe s [] safe = safe
-along-safe s (line ∷ lines) safe = along-safe (next s line) lines (next-safe s safe line)
-
 -- ---- the run of a packet
 
 -- the walk that the text is made from is the machine's run
 line_run : (s : State) → IsClosedView s.sent → (line : List ℕ) (a : Packet) → answer_of s line ≡ Ok (command.Packet a) → TellsRun s line a
 line_run s closed line a said =
-    let run : Ended Trace = packet_run (tables_of s.sent) a in
+    let run : Ended Trace = first_walk (tables_of s.sent) a [] in
     record {
       path = (noted_in run).hops;
       verdict = verdict_of run;
@@ -142,13 +81,13 @@ paths_are_runs dg node lines line a said = line_run (state_after next (start dg 
 
 -- the run comes to what the policy reference says
 line_policy : (s : State) → IsServable s.digest s.resources → IsClosedView s.sent → (line : List ℕ) (a : Packet) → answer_of s line ≡ Ok (command.Packet a) → a.state ≡ New → s.sent ≡ view_of s.digest s.resources → TellsPolicy s line a
-line_policy s safe closed line a said new same =
+line_policy s servable closed line a said new same =
     let r : TellsRun s line a = line_run s closed line a said in
     let answer : Outcome = packet_verdict s.resources a in
     let decides : Decides (tables_of s.sent) a r.verdict r.egress r.ingress =
     traced_decides (tables_of s.sent) a (ranked-tables s.sent closed) [] r.path r.verdict r.egress r.ingress r.run in
     let wanted : Decides (tables_of s.sent) a answer.verdict answer.egress answer.ingress =
-    subst (λ (v : View). Decides (tables_of v) a answer.verdict answer.egress answer.ingress) (sym same) (policy_is_kept s.digest s.resources a safe new) in
+    subst (λ (v : View). Decides (tables_of v) a answer.verdict answer.egress answer.ingress) (sym same) (policy_is_kept s.digest s.resources a servable new) in
     let one = run_has_one_end (tables_of s.sent) a r.verdict answer.verdict r.egress answer.egress r.ingress answer.ingress decides wanted in
     record {
       path = r.path;
@@ -164,4 +103,4 @@ line_policy s safe closed line a said new same =
 
 pub keeps_policy : (dg : Digest) (node : List ℕ) → KeepsPolicy dg node
 keeps_policy dg node lines line a said new same =
-    line_policy (state_after next (start dg node) lines) (along-safe (start dg node) lines (start-safe dg node)) (run_closed dg node lines) line a said new same
+    line_policy (state_after next (start dg node) lines) (run_servable dg node lines) (run_closed dg node lines) line a said new same

@@ -1,6 +1,6 @@
 -- Local endpoints on one interface are one endpoint, where no claims clash and no namespace has a `/`.
 use Rattle.std.proofs.Common.{◌≡◌, ℕ, ◌<◌, true, false, not, ◌&&◌, List, [], ◌∷◌, ◌++◌, Some, refl, sym, ap, ◌∙◌, arith}
-use Rattle.std.specs.Prelude.{codes, nat_eq, if◌then◌else◌}
+use Rattle.std.specs.Prelude.{codes, ◌==◌, Option, if◌then◌else◌}
 use Rattle.std.proofs.lemmas.Bool.{not-false}
 use Rattle.std.proofs.lemmas.List.{append_cancel_left}
 use Rattle.std.specs.List.{flat_map}
@@ -20,32 +20,38 @@ use Rattle.fx_model.specs.declared.ids.Key.TheVariants as key
 use Rattle.fx_model.specs.declared.resources.Endpoint.{Endpoint}
 use Rattle.fx_model.specs.declared.resources.Resources.{Resources}
 use Rattle.fx_model.specs.Resources.{is_local}
+use Rattle.fx_model.specs.Formed.{is_formed_namespace, is_formed_item_key, is_formed_endpoint, is_formed_endpoint_entry}
 use Rattle.fx_model.specs.Claims.{item_text, interface_claims, profile_claims, listed_claims, claims_at, all_claims, IsClashFree}
-use Rattle.fx_model.proofs.ClaimsCounted.{times-at}
-use Rattle.fx_walk.specs.Serving.{has_no_slash, is_endpoint_key}
+use Rattle.fx_laws.proofs.ClaimsCounted.{times-at}
 
-no_slash_first : (b : ℕ) (bs : List ℕ) {P : Type 0} → has_no_slash (b ∷ bs) ≡ true → b ≡ 47 → P
+no_slash_first : (b : ℕ) (bs : List ℕ) {P : Type 0} → is_formed_namespace (b ∷ bs) ≡ true → b ≡ 47 → P
 no_slash_first b bs h e =
-    let one : not (nat_eq b 47) ≡ true = (both_pass (not (nat_eq b 47)) (has_no_slash bs) h).0 in
-    let same : nat_eq b 47 ≡ true = ap (λ c. nat_eq c 47) e in
+    let one : not (b == 47) ≡ true = (both_pass (not (b == 47)) (is_formed_namespace bs) h).0 in
+    let same : (b == 47) ≡ true = ap (λ c. c == 47) e in
     let wrong : false ≡ true = sym (ap not same) ∙ one in
     cc
 
 -- what stands before the first `/` and what stands behind it
-parted : (ns ms n m : List ℕ) → has_no_slash ns ≡ true → has_no_slash ms ≡ true → ns ++ 47 ∷ n ≡ ms ++ 47 ∷ m → (ns ≡ ms) × (n ≡ m)
+parted : (ns ms n m : List ℕ) → is_formed_namespace ns ≡ true → is_formed_namespace ms ≡ true → ns ++ 47 ∷ n ≡ ms ++ 47 ∷ m → (ns ≡ ms) × (n ≡ m)
 parted [] [] n m g h e = (refl, cc)
 parted [] (b ∷ ms) n m g h e = no_slash_first b ms h (cc)
 parted (a ∷ ns) [] n m g h e = no_slash_first a ns g (cc)
 parted (a ∷ ns) (b ∷ ms) n m g h e =
-    let rest = parted ns ms n m (both_pass (not (nat_eq a 47)) (has_no_slash ns) g).1 (both_pass (not (nat_eq b 47)) (has_no_slash ms) h).1 (cc) in
+    let rest = parted ns ms n m (both_pass (not (a == 47)) (is_formed_namespace ns) g).1 (both_pass (not (b == 47)) (is_formed_namespace ms) h).1 (cc) in
     let first : a ≡ b = cc in
     (λ i. first i ∷ rest.0 i, rest.1)
 
+-- no endpoint stands at a network set's key
+not_at_set : {P : Type 0} (ns : Option (List ℕ)) (n : List ℕ) (e : Endpoint) → is_formed_endpoint_entry (item_key.NetSet ns n, e) ≡ true → P
+not_at_set ns n e h = let wrong : false ≡ true = (both_pass (is_formed_item_key (item_key.NetSet ns n)) false h).1 in cc
+
 -- an endpoint's key is told by its text
-pub same_key : (k l : ItemKey) → is_endpoint_key k ≡ true → is_endpoint_key l ≡ true → item_text k ≡ item_text l → k ≡ l
-same_key (item_key.Endpoint ns n) (item_key.Endpoint ms m) g h e = let p = parted ns ms n m g h e in λ i. item_key.Endpoint (p.0 i) (p.1 i)
-same_key (item_key.Endpoint ns n) (item_key.NetSet ms m) g h e = cc
-same_key (item_key.NetSet ns n) l g h e = cc
+pub same_key : (k l : ItemKey) (e f : Endpoint) → is_formed_endpoint_entry (k, e) ≡ true → is_formed_endpoint_entry (l, f) ≡ true → item_text k ≡ item_text l → k ≡ l
+same_key (item_key.Endpoint ns n) (item_key.Endpoint ms m) e f g h same =
+    let p = parted ns ms n m (both_pass (is_formed_namespace ns) (is_formed_endpoint e) g).0 (both_pass (is_formed_namespace ms) (is_formed_endpoint f) h).0 same in
+    λ i. item_key.Endpoint (p.0 i) (p.1 i)
+same_key (item_key.Endpoint ns n) (item_key.NetSet ms m) e f g h same = not_at_set ms m f h
+same_key (item_key.NetSet ns n) l e f g h same = not_at_set ns n e g
 
 module _ (dg : Digest) (R : Resources) where
   -- an endpoint's claim on the chain of what goes to it

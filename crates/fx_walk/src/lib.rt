@@ -3,8 +3,8 @@
 
 pub use decision::decide;
 pub use laws::{
-    clash_free_is_servable, first_chain_is_there, lone_local_is_servable, packet_has_one_path,
-    policy_is_kept, rules_end_as_they_say, run_has_one_end, tables_agree, walk_is_a_run,
+    first_chain_is_there, packet_has_one_path, policy_is_kept, rules_end_as_they_say,
+    run_has_one_end, served_endpoints_are_apart, tables_agree, walk_is_a_run,
 };
 pub use outcome::{Hop, Outcome};
 pub use path::trace;
