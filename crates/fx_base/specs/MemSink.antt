@@ -1,5 +1,6 @@
 -- What a sink over bytes in memory shows of itself.
-use Rattle.std.specs.Prelude.{ℕ, List}
+use Rattle.std.specs.Prelude.{ℕ, List, Some}
+use Rattle.fx_base.specs.Streams.{SinkState}
 use Rattle.fx_base.specs.declared.memory_sink.MemSink.{MemSink}
 
 -- the bytes that it holds
@@ -10,9 +11,8 @@ held_bytes s = s.held.items
 abbrev pub room_of : MemSink → ℕ
 room_of s = s.room
 
--- how often it has failed
-abbrev pub fault_count : MemSink → ℕ
-fault_count s = s.faults
+abbrev pub sink_state : MemSink → SinkState
+sink_state s = record { held = Some (held_bytes s); faults = s.faults }
 
 -- how often it was called, to 2^64 - 1 at most
 abbrev pub call_count : MemSink → ℕ

@@ -1,5 +1,6 @@
 -- What a source over bytes in memory shows of itself.
-use Rattle.std.specs.Prelude.{ℕ, Bool, List, drop, length, min}
+use Rattle.std.specs.Prelude.{ℕ, List, Some, drop, length, min}
+use Rattle.fx_base.specs.Streams.{SourceState}
 use Rattle.fx_base.specs.declared.memory_source.SureSource.{SureSource}
 use Rattle.fx_base.specs.declared.memory_source.MemSource.{MemSource}
 
@@ -7,11 +8,8 @@ use Rattle.fx_base.specs.declared.memory_source.MemSource.{MemSource}
 abbrev pub sure_bytes_left : SureSource → List ℕ
 sure_bytes_left s = drop s.at s.bytes.items
 
-abbrev pub sure_given : SureSource → ℕ
-sure_given s = s.at
-
-abbrev pub sure_at_end : SureSource → Bool
-sure_at_end s = s.ended
+abbrev pub sure_state : SureSource → SourceState
+sure_state s = record { left = Some (sure_bytes_left s); given = s.at; ended = s.ended; faults = 0 }
 
 -- how many bytes a call gives at most
 abbrev pub sure_piece : SureSource → ℕ
@@ -22,21 +20,11 @@ abbrev pub given_by : SureSource → ℕ → ℕ
 given_by s room = min (min (length (sure_bytes_left s)) room) (sure_piece s)
 
 -- ---- of a source whose failures are listed
-abbrev pub bytes_left : MemSource → List ℕ
-bytes_left s = sure_bytes_left s.inner
-
-abbrev pub bytes_given : MemSource → ℕ
-bytes_given s = sure_given s.inner
-
-abbrev pub is_at_end : MemSource → Bool
-is_at_end s = sure_at_end s.inner
+abbrev pub source_state : MemSource → SourceState
+source_state s = record (sure_state s.inner) { faults = s.faults }
 
 abbrev pub piece_of : MemSource → ℕ
 piece_of s = sure_piece s.inner
-
--- how often it has failed
-abbrev pub fault_count : MemSource → ℕ
-fault_count s = s.faults
 
 -- how often it was called, to 2^64 - 1 at most
 abbrev pub call_count : MemSource → ℕ

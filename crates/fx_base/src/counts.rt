@@ -23,7 +23,7 @@ impl Model for CountSink {
 impl CountSink {
     pub fn new() -> CountSink
         ensures empty { result ≡ 0 }
-        ensures faultless { ⟦<CountSink as Sink>⟧.faults result ≡ 0 }
+        ensures faultless { (⟦<CountSink as Sink>⟧.state result).faults ≡ 0 }
     {
         CountSink { taken: 0 }
     }
@@ -36,9 +36,7 @@ impl CountSink {
 }
 
 impl Sink for CountSink {
-    ghost held = { λ _. None };
-
-    ghost faults = { λ _. 0 };
+    ghost state = { λ _. record { held = None; faults = 0 } };
 
     fn put(&mut self, bytes: &[u8]) -> Result<(), Failed>
         ensures ok { OnOk result (Appends None None bytes.now) }

@@ -1,7 +1,7 @@
 //! A sink over bytes in memory.
 ghost use Rattle.std.specs.Prelude.{◌≡◌, ◌↔◌, ◌⊎◌, ◌-◌, min, ◌<◌, ◌≤◌, ◌+◌, ◌^◌, ℕ, List, [], length, Option, Some, IfOk, OnOk, OnErr, IsErr, Contains, vec_len, vec_capacity};
 ghost use Rattle.std.specs.Io.KnownBytes.{Appends};
-ghost use Rattle.fx_base.specs.Streams.{CountsFaults, HasCause, AppendsPrefix};
+ghost use Rattle.fx_base.specs.Streams.{CountsFaults, HasCause, fresh_sink, AppendsPrefix};
 
 use crate::failing::is_next_listed;
 use crate::memory::Memory;
@@ -24,8 +24,7 @@ impl MemSink {
     ghost use Rattle.fx_base.specs.MemSink.{held_bytes, room_of, call_count, failing_puts};
 
     pub fn new(alloc: Global, room: u32, failing: Vec<u64>) -> Result<MemSink, Memory>
-        ensures held { IfOk result (λ s. ⟦<MemSink as Sink>⟧.held s ≡ Some []) }
-        ensures faultless { IfOk result (λ s. ⟦<MemSink as Sink>⟧.faults s ≡ 0) }
+        ensures fresh { IfOk result (λ s. ⟦<MemSink as Sink>⟧.state s ≡ fresh_sink) }
         ensures failing { IfOk result (λ s. (failing_puts s ≡ failing.items) × (call_count s ≡ 0)) }
         ensures room { IfOk result (λ s. (held_bytes s ≡ []) × (room_of s ≡ room)) }
     {
@@ -39,7 +38,7 @@ impl MemSink {
     }
 
     pub fn held(&self) -> &[u8]
-        ensures told { ⟦<MemSink as Sink>⟧.held self.now ≡ Some result.now }
+        ensures told { (⟦<MemSink as Sink>⟧.state self.now).held ≡ Some result.now }
         ensures bytes { result.now ≡ held_bytes self.now }
     {
         self.held.as_slice()
@@ -47,21 +46,19 @@ impl MemSink {
 }
 
 impl Sink for MemSink {
-    ghost use Rattle.fx_base.specs.MemSink.{held_bytes, room_of, fault_count, call_count, failing_puts};
+    ghost use Rattle.fx_base.specs.MemSink.{held_bytes, room_of, sink_state, call_count, failing_puts};
 
-    ghost held = { λ s. Some (held_bytes s) };
-
-    ghost faults = { fault_count };
+    ghost state = { sink_state };
 
     fn put(&mut self, bytes: &[u8]) -> Result<(), Failed>
-        ensures ok { OnOk result (Appends (Some (held_bytes self.old)) (Some (held_bytes self.new)) bytes.now) }
-        ensures err { OnErr result (AppendsPrefix (Some (held_bytes self.old)) (Some (held_bytes self.new)) bytes.now) }
-        ensures cause { HasCause (fault_count self.old) (fault_count self.new) result }
+        ensures ok { OnOk result (Appends (sink_state self.old).held (sink_state self.new).held bytes.now) }
+        ensures err { OnErr result (AppendsPrefix (sink_state self.old).held (sink_state self.new).held bytes.now) }
+        ensures cause { HasCause (sink_state self.old).faults (sink_state self.new).faults result }
 
         // Exactly the calls that are listed and those that don't fit fail. They append nothing, and each is counted.
         ensures listed { IsErr result ↔ (Contains (failing_puts self.old) (call_count self.old + 1) ⊎ (room_of self.old < length (held_bytes self.old) + length bytes.now)) }
         ensures nothing { OnErr result (held_bytes self.new ≡ held_bytes self.old) }
-        ensures counts { CountsFaults (fault_count self.old) (fault_count self.new) result }
+        ensures counts { CountsFaults (sink_state self.old).faults (sink_state self.new).faults result }
         ensures calls { call_count self.new ≡ min (call_count self.old + 1) (2 ^ 64 - 1) }
         ensures same { (failing_puts self.new ≡ failing_puts self.old) × (room_of self.new ≡ room_of self.old) }
     {

@@ -1,7 +1,7 @@
 //! Sources over bytes in memory.
 ghost use Rattle.std.specs.Prelude.{true, false, ◌≡◌, ◌↔◌, ◌-◌, min, ◌<◌, ◌≤◌, ◌+◌, ◌^◌, ℕ, List, [], length, drop, Bool, Option, Some, IfOk, OnOk, OnErr, IsTrue, IsOk, IsErr, Contains, vec_len};
 ghost use Rattle.std.proofs.lemmas.List.{drop_all};
-ghost use Rattle.fx_base.specs.Streams.{CountsFaults, HasCause, ReadsSome, ReadsNone};
+ghost use Rattle.fx_base.specs.Streams.{CountsFaults, HasCause, fresh_source, ReadsSome, ReadsNone};
 
 use crate::failing::is_next_listed;
 use crate::streams::{Failed, Source};
@@ -23,9 +23,7 @@ impl SureSource {
 
     pub fn new(bytes: Vec<u8>, piece: u32) -> SureSource
         requires { 0 < piece }
-        ensures left { ⟦<SureSource as Source>⟧.left result ≡ Some bytes.items }
-        ensures fresh { (⟦<SureSource as Source>⟧.given result ≡ 0) × (⟦<SureSource as Source>⟧.ended result ≡ false) }
-        ensures faultless { ⟦<SureSource as Source>⟧.faults result ≡ 0 }
+        ensures fresh { ⟦<SureSource as Source>⟧.state result ≡ fresh_source bytes.items }
         ensures piece { sure_piece result ≡ piece }
     {
         SureSource {
@@ -38,21 +36,15 @@ impl SureSource {
 }
 
 impl Source for SureSource {
-    ghost use Rattle.fx_base.specs.MemSource.{sure_bytes_left, sure_given, sure_at_end, sure_piece, given_by};
+    ghost use Rattle.fx_base.specs.MemSource.{sure_state, sure_piece, given_by};
 
-    ghost left = { λ s. Some (sure_bytes_left s) };
-
-    ghost given = { sure_given };
-
-    ghost ended = { sure_at_end };
-
-    ghost faults = { λ s. 0 };
+    ghost state = { sure_state };
 
     fn read(&mut self, buf: &mut [u8]) -> Result<usize, Failed>
         requires room { 0 < length buf.old }
-        requires fits { sure_given self.old + length buf.old < 2 ^ 64 }
-        ensures ok { IfOk result (λ n. ReadsSome (Some (sure_bytes_left self.old)) (Some (sure_bytes_left self.new)) (sure_given self.old) (sure_given self.new) (sure_at_end self.new) buf.new n) }
-        ensures err { OnErr result (ReadsNone (Some (sure_bytes_left self.old)) (Some (sure_bytes_left self.new)) (sure_given self.old) (sure_given self.new) (sure_at_end self.old) (sure_at_end self.new)) }
+        requires fits { (sure_state self.old).given + length buf.old < 2 ^ 64 }
+        ensures ok { IfOk result (λ n. ReadsSome (sure_state self.old) (sure_state self.new) buf.new n) }
+        ensures err { OnErr result (ReadsNone (sure_state self.old) (sure_state self.new)) }
         ensures cause { HasCause 0 0 result }
         ensures always { IsOk result }
 
@@ -87,9 +79,7 @@ impl MemSource {
 
     pub fn new(bytes: Vec<u8>, piece: u32, failing: Vec<u64>) -> MemSource
         requires { 0 < piece }
-        ensures left { ⟦<MemSource as Source>⟧.left result ≡ Some bytes.items }
-        ensures fresh { (⟦<MemSource as Source>⟧.given result ≡ 0) × (⟦<MemSource as Source>⟧.ended result ≡ false) }
-        ensures faultless { ⟦<MemSource as Source>⟧.faults result ≡ 0 }
+        ensures fresh { ⟦<MemSource as Source>⟧.state result ≡ fresh_source bytes.items }
         ensures failing { (failing_calls result ≡ failing.items) × (call_count result ≡ 0) }
         ensures piece { piece_of result ≡ piece }
     {
@@ -103,28 +93,22 @@ impl MemSource {
 }
 
 impl Source for MemSource {
-    ghost use Rattle.fx_base.specs.MemSource.{bytes_left, bytes_given, is_at_end, fault_count, call_count, failing_calls, piece_of, given_by};
+    ghost use Rattle.fx_base.specs.MemSource.{source_state, call_count, failing_calls, piece_of, given_by};
 
-    ghost left = { λ s. Some (bytes_left s) };
-
-    ghost given = { bytes_given };
-
-    ghost ended = { is_at_end };
-
-    ghost faults = { fault_count };
+    ghost state = { source_state };
 
     fn read(&mut self, buf: &mut [u8]) -> Result<usize, Failed>
         requires room { 0 < length buf.old }
-        requires fits { bytes_given self.old + length buf.old < 2 ^ 64 }
-        ensures ok { IfOk result (λ n. ReadsSome (Some (bytes_left self.old)) (Some (bytes_left self.new)) (bytes_given self.old) (bytes_given self.new) (is_at_end self.new) buf.new n) }
-        ensures err { OnErr result (ReadsNone (Some (bytes_left self.old)) (Some (bytes_left self.new)) (bytes_given self.old) (bytes_given self.new) (is_at_end self.old) (is_at_end self.new)) }
-        ensures cause { HasCause (fault_count self.old) (fault_count self.new) result }
+        requires fits { (source_state self.old).given + length buf.old < 2 ^ 64 }
+        ensures ok { IfOk result (λ n. ReadsSome (source_state self.old) (source_state self.new) buf.new n) }
+        ensures err { OnErr result (ReadsNone (source_state self.old) (source_state self.new)) }
+        ensures cause { HasCause (source_state self.old).faults (source_state self.new).faults result }
 
         // Exactly the calls that are listed fail, and each is counted.
         ensures listed { IsErr result ↔ Contains (failing_calls self.old) (call_count self.old + 1) }
         ensures calls { call_count self.new ≡ min (call_count self.old + 1) (2 ^ 64 - 1) }
         ensures failing { failing_calls self.new ≡ failing_calls self.old }
-        ensures counts { CountsFaults (fault_count self.old) (fault_count self.new) result }
+        ensures counts { CountsFaults (source_state self.old).faults (source_state self.new).faults result }
 
         // The others give as a source that never fails.
         ensures count { IfOk result (λ n. n ≡ given_by self.old.inner (length buf.old)) }

@@ -4,7 +4,7 @@ use Rattle.std.proofs.Common.{cond, Result, Ok, Err, OnErr}
 use Rattle.std.proofs.lemmas.List.{append-nil, get_or_append_left}
 use Rattle.std.proofs.lemmas.Bool.{cases_lt}
 use Rattle.std.proofs.lemmas.Bool.Decides.{nat_tests}
-use Rattle.fx_base.specs.Streams.{Gives}
+use Rattle.fx_base.specs.Streams.{SourceState, Gives}
 use Rattle.fx_base.proofs.Compose.{Gives-more, Gives-none}
 use Rattle.fx_lines.specs.Lines.{lines_of, HasNoNewline, has_newline, to_last_newline, answerable}
 use Rattle.fx_lines.specs.Reading.{IsNext, line_if, AreLines, IsCut, HasRead}
@@ -99,8 +99,8 @@ AreLines-more front line lines was none = record {
 }
 
 -- before the first line
-pub HasRead-none : (left : Option (List ℕ)) (given : ℕ) (ended : Bool) → HasRead left left given given [] ended []
-HasRead-none left given ended = record { taken = []; gives = Gives-none left given; cut = record { front = []; whole = refl; cut = inl AreLines-none } }
+pub HasRead-none : (s : SourceState) (ended : Bool) → HasRead s s [] ended []
+HasRead-none s ended = record { taken = []; gives = Gives-none s; cut = record { front = []; whole = refl; cut = inl AreLines-none } }
 
 -- one line more
 pub IsCut-more : (taken held piece : List ℕ) (ended ended_now : Bool) (lines : List (List ℕ)) (line now : List ℕ) → IsCut taken held ended lines → (ended ≡ true → piece ≡ []) → IsNext held piece (Some line) now ended_now
@@ -163,24 +163,24 @@ IsCut-end taken held piece ended ended_now lines now was is =
     ∙ lines_of-front taken held ended lines was
 
 -- a reader that has met the end takes nothing
-pub nothing_given : (left left_now : Option (List ℕ)) (given given_now : ℕ) (piece : List ℕ) → Gives left left_now given given_now piece → given_now ≡ given → piece ≡ []
-nothing_given left left_now given given_now [] gives same = refl
-nothing_given left left_now given given_now (b ∷ piece) gives same = absurd (omega (arith, gives.count))
+pub nothing_given : (s t : SourceState) (piece : List ℕ) → Gives s t piece → t.given ≡ s.given → piece ≡ []
+nothing_given s t [] gives same = refl
+nothing_given s t (b ∷ piece) gives same = absurd (omega (arith, gives.count))
 
-module _ (left_before left left_now : Option (List ℕ)) (given_before given given_now : ℕ) (held piece now : List ℕ) (ended ended_now : Bool) (lines : List (List ℕ)) where
-  pub HasRead-more : (line : List ℕ) → HasRead left_before left given_before given held ended lines → Gives left left_now given given_now piece → (ended ≡ true → given_now ≡ given) → IsNext held piece (Some line) now ended_now
-      → HasRead left_before left_now given_before given_now now ended_now (lines ++ line ∷ [])
+module _ (r s t : SourceState) (held piece now : List ℕ) (ended ended_now : Bool) (lines : List (List ℕ)) where
+  pub HasRead-more : (line : List ℕ) → HasRead r s held ended lines → Gives s t piece → (ended ≡ true → t.given ≡ s.given) → IsNext held piece (Some line) now ended_now
+      → HasRead r t now ended_now (lines ++ line ∷ [])
   HasRead-more line was gives quiet next = record {
     taken = was.taken ++ piece;
-    gives = Gives-more left_before left left_now given_before given given_now was.taken piece was.gives gives;
-    cut = IsCut-more was.taken held piece ended ended_now lines line now was.cut (λ end. nothing_given left left_now given given_now piece gives (quiet end)) next;
+    gives = Gives-more r s t was.taken piece was.gives gives;
+    cut = IsCut-more was.taken held piece ended ended_now lines line now was.cut (λ end. nothing_given s t piece gives (quiet end)) next;
   }
 
-  pub HasRead-end : HasRead left_before left given_before given held ended lines → Gives left left_now given given_now piece → IsNext held piece None now ended_now
-      → (bytes : List ℕ) × Gives left_before left_now given_before given_now bytes × (lines_of bytes ≡ lines) × (ended_now ≡ true)
+  pub HasRead-end : HasRead r s held ended lines → Gives s t piece → IsNext held piece None now ended_now
+      → (bytes : List ℕ) × Gives r t bytes × (lines_of bytes ≡ lines) × (ended_now ≡ true)
   HasRead-end was gives next = (
     was.taken ++ piece,
-    Gives-more left_before left left_now given_before given given_now was.taken piece was.gives gives,
+    Gives-more r s t was.taken piece was.gives gives,
     IsCut-end was.taken held piece ended ended_now lines now was.cut next,
     next.2,
   )
@@ -193,11 +193,11 @@ pub next_end : (held piece line now : List ℕ) (found ended : Bool) → found �
 next_end held piece line now found ended is next = subst (λ (b : Bool). IsNext held piece (line_if b line) now ended) is next
 
 -- a line takes at least one byte
-pub next_shrinks : (left left_now : Option (List ℕ)) (given given_now : ℕ) (held piece line now : List ℕ) (ended_now : Bool) → Gives left left_now given given_now piece → IsNext held piece (Some line) now ended_now
-    → given + length now < given_now + length held
-next_shrinks left left_now given given_now held piece line now ended_now gives (none, inl is) =
+pub next_shrinks : (s t : SourceState) (held piece line now : List ℕ) (ended_now : Bool) → Gives s t piece → IsNext held piece (Some line) now ended_now
+    → s.given + length now < t.given + length held
+next_shrinks s t held piece line now ended_now gives (none, inl is) =
     omega (arith, gives.count, ap length is, length-append held piece, length-append line (10 ∷ now))
-next_shrinks left left_now given given_now held piece line now ended_now gives (none, inr last) =
+next_shrinks s t held piece line now ended_now gives (none, inr last) =
     omega (arith, gives.count, ap length last.0, last.1, ap length last.2, length-append held piece)
 
 -- a fact that holds is a clause on an error

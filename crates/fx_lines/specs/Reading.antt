@@ -1,6 +1,6 @@
 -- How a reader of lines goes through a source.
 use Rattle.std.specs.Prelude.{◌≡◌, ◌⊎◌, ◌<◌, ℕ, List, [], ◌∷◌, ◌++◌, length, Bool, true, false, Option, Some, None}
-use Rattle.fx_base.specs.Streams.{Gives}
+use Rattle.fx_base.specs.Streams.{SourceState, Gives}
 use Rattle.fx_lines.specs.Lines.{lines_of, to_last_newline, HasNoNewline}
 
 -- the line, where one was found
@@ -25,7 +25,7 @@ pub record IsCut (taken held : List ℕ) (ended : Bool) (lines : List (List ℕ)
   pub cut : AreLines front lines ⊎ ((lines_of front ≡ lines) × (held ≡ []) × (ended ≡ true))
 
 -- since a moment the source gave bytes that are cut into these lines
-pub record HasRead (left_before left_now : Option (List ℕ)) (given_before given_now : ℕ) (held : List ℕ) (ended : Bool) (lines : List (List ℕ)) : Type 0 where
+pub record HasRead (before now : SourceState) (held : List ℕ) (ended : Bool) (lines : List (List ℕ)) : Type 0 where
   pub taken : List ℕ
-  pub gives : Gives left_before left_now given_before given_now taken
+  pub gives : Gives before now taken
   pub cut : IsCut taken held ended lines

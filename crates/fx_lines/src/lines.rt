@@ -72,22 +72,22 @@ impl LineReader {
 
     /// Goes on to the next line, and tells whether there is one.
     pub fn advance<S: Source>(&mut self, source: &mut S) -> Result<bool, LineFault>
-        requires given { S.given source.old ≡ self.old.taken }
-        requires ended { S.ended source.old ≡ self.old.ended }
-        ensures next { IfOk result (λ found. (piece : List ℕ) × Gives (S.left source.old) (S.left source.new) (S.given source.old) (S.given source.new) piece
+        requires given { (S.state source.old).given ≡ self.old.taken }
+        requires ended { (S.state source.old).ended ≡ self.old.ended }
+        ensures next { IfOk result (λ found. (piece : List ℕ) × Gives (S.state source.old) (S.state source.new) piece
             × IsNext (rest_of self.old) piece (line_if found (line_of self.new)) (rest_of self.new) self.new.ended) }
-        ensures stopped { OnErr result ((piece : List ℕ) × Gives (S.left source.old) (S.left source.new) (S.given source.old) (S.given source.new) piece) }
-        ensures given { OnOk result (S.given source.new ≡ self.new.taken) }
-        ensures ended { OnOk result (S.ended source.new ≡ self.new.ended) }
+        ensures stopped { OnErr result ((piece : List ℕ) × Gives (S.state source.old) (S.state source.new) piece) }
+        ensures given { OnOk result ((S.state source.new).given ≡ self.new.taken) }
+        ensures ended { OnOk result ((S.state source.new).ended ≡ self.new.ended) }
 
         // Behind the end nothing more is taken.
-        ensures quiet { self.old.ended ≡ true → (S.given source.new ≡ S.given source.old) × (S.ended source.new ≡ true) }
-        ensures later { S.faults source.old ≤ S.faults source.new }
+        ensures quiet { self.old.ended ≡ true → ((S.state source.new).given ≡ (S.state source.old).given) × ((S.state source.new).ended ≡ true) }
+        ensures later { (S.state source.old).faults ≤ (S.state source.new).faults }
 
         // Each fault has its cause.
-        ensures read_fault { IsErrOf result LineFault.ReadFault → Rose (S.faults source.old) (S.faults source.new) × (S.given source.new < 2 ^ 32) }
-        ensures too_long { IsErrOf result LineFault.InputTooLong → (S.given source.new ≡ 2 ^ 32) × (S.ended source.new ≡ false) }
-        ensures short { OnOk result (S.given source.new < 2 ^ 32) }
+        ensures read_fault { IsErrOf result LineFault.ReadFault → Rose (S.state source.old).faults (S.state source.new).faults × ((S.state source.new).given < 2 ^ 32) }
+        ensures too_long { IsErrOf result LineFault.InputTooLong → ((S.state source.new).given ≡ 2 ^ 32) × ((S.state source.new).ended ≡ false) }
+        ensures short { OnOk result ((S.state source.new).given < 2 ^ 32) }
     {
         let mut seen = 0;
         loop {
@@ -142,16 +142,16 @@ impl LineReader {
 
     // Takes one more piece. What is left moves to the front first, once for a line, however long it grows.
     fn fill<S: Source>(&mut self, source: &mut S) -> Result<(), LineFault>
-        requires given { S.given source.old ≡ self.old.taken }
+        requires given { (S.state source.old).given ≡ self.old.taken }
         requires below { self.old.taken < 2 ^ 32 }
         ensures ok { OnOk result ((piece : List ℕ) × (rest_of self.new ≡ rest_of self.old ++ piece)
-            × Gives (S.left source.old) (S.left source.new) (S.given source.old) (S.given source.new) piece
+            × Gives (S.state source.old) (S.state source.new) piece
             × (self.new.ended ≡ (length piece == 0))) }
-        ensures stopped { OnErr result ((piece : List ℕ) × Gives (S.left source.old) (S.left source.new) (S.given source.old) (S.given source.new) piece) }
-        ensures given { S.given source.new ≡ self.new.taken }
-        ensures ended { OnOk result (S.ended source.new ≡ self.new.ended) }
-        ensures later { S.faults source.old ≤ S.faults source.new }
-        ensures read_fault { IsErrOf result LineFault.ReadFault → Rose (S.faults source.old) (S.faults source.new) × (S.given source.new < 2 ^ 32) }
+        ensures stopped { OnErr result ((piece : List ℕ) × Gives (S.state source.old) (S.state source.new) piece) }
+        ensures given { (S.state source.new).given ≡ self.new.taken }
+        ensures ended { OnOk result ((S.state source.new).ended ≡ self.new.ended) }
+        ensures later { (S.state source.old).faults ≤ (S.state source.new).faults }
+        ensures read_fault { IsErrOf result LineFault.ReadFault → Rose (S.state source.old).faults (S.state source.new).faults × ((S.state source.new).given < 2 ^ 32) }
         ensures not_too_long { IsErrOf result LineFault.InputTooLong → ⊥ }
     {
         self.compact();

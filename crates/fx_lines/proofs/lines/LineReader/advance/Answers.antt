@@ -8,7 +8,7 @@ use Rattle.fx_lines.proofs.lines.LineReader.advance.Goals as goal
 
 pub loop-self-init : goal.loop-self-init
 loop-self-init g c = record {
-  seen = ([], sym (append-nil (rest_of c.args.self.now)), Gives-none _ _);
+  seen = ([], sym (append-nil (rest_of c.args.self.now)), Gives-none _);
   given = c.requires.given;
   ended = c.requires.ended;
   quiet = λ was. (was, refl);
@@ -45,7 +45,7 @@ loop-self-preserved g c =
       seen = (
         seen.0 ++ ok.0,
         ok.1 ∙ ap (λ (l : List ℕ). l ++ ok.0) seen.1 ∙ append_assoc (rest_of c.args.self.now) seen.0 ok.0,
-        Gives-more _ _ _ _ _ _ seen.0 ok.0 seen.2 ok.2,
+        Gives-more _ _ _ seen.0 ok.0 seen.2 ok.2,
       );
       given = c.in_ok-fill.ensures.given;
       ended = c.in_ok-fill.ensures.ended;
@@ -59,4 +59,4 @@ pub returns-in_err-fill-clause-stopped : goal.returns-in_err-fill-clause-stopped
 returns-in_err-fill-clause-stopped g c =
     let seen = c.loop-self.invariant.seen in
     let stop = c.in_err-fill.ensures.stopped in
-    OnErr-always c.from_residual.result (seen.0 ++ stop.0, Gives-more _ _ _ _ _ _ seen.0 stop.0 seen.2 stop.1)
+    OnErr-always c.from_residual.result (seen.0 ++ stop.0, Gives-more _ _ _ seen.0 stop.0 seen.2 stop.1)

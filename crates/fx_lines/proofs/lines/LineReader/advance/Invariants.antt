@@ -6,11 +6,11 @@ use Rattle.fx_lines.proofs.lines.LineReader.advance.Given as goal
 abbrev pub invariant-loop-self : goal.invariant-loop-self
 invariant-loop-self g l = record {
   seen : (piece : List ℕ) × (rest_of l.self ≡ rest_of l.fn.self ++ piece)
-      × Gives (g.S.Source.left l.fn.source) (g.S.Source.left l.source) (g.S.Source.given l.fn.source) (g.S.Source.given l.source) piece;
-  given : g.S.Source.given l.source ≡ l.self.taken;
-  ended : g.S.Source.ended l.source ≡ l.self.ended;
-  quiet : l.fn.self.ended ≡ true → (l.self.ended ≡ true) × (g.S.Source.given l.source ≡ g.S.Source.given l.fn.source);
-  later : g.S.Source.faults l.fn.source ≤ g.S.Source.faults l.source;
+      × Gives (g.S.Source.state l.fn.source) (g.S.Source.state l.source) piece;
+  given : (g.S.Source.state l.source).given ≡ l.self.taken;
+  ended : (g.S.Source.state l.source).ended ≡ l.self.ended;
+  quiet : l.fn.self.ended ≡ true → (l.self.ended ≡ true) × ((g.S.Source.state l.source).given ≡ (g.S.Source.state l.fn.source).given);
+  later : (g.S.Source.state l.fn.source).faults ≤ (g.S.Source.state l.source).faults;
   within : l.seen ≤ length (rest_of l.self);
   none : (k : ℕ) → k < l.seen → slice_index (rest_of l.self) k ≢ 10;
 }
