@@ -126,7 +126,10 @@ fn wrong_label<'r>(alloc: Global, resource: &str, rows: &'r str) -> Result<Optio
 #[test]
 fn labels_are_kept(rt: HostRuntime) -> Result<(), Fail> {
     assert_eq!(rt; wrong_label(rt.alloc(), GIVEN, GIVEN_LABELS)?, None);
-    assert_eq!(rt; wrong_label(rt.alloc(), WITH_ACCOUNT, ACCOUNT_LABELS)?, None);
+    assert_eq!(rt;
+        wrong_label(rt.alloc(), WITH_ACCOUNT, ACCOUNT_LABELS)?,
+        None
+    );
     assert_eq!(rt; wrong_label(rt.alloc(), TO_APPLY, APPLIED_LABELS)?, None);
     Ok(())
 }
