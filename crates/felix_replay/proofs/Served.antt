@@ -15,7 +15,7 @@ use Rattle.fx_lines.specs.declared.commands.Command.{Command}
 use Rattle.fx_lines.specs.declared.commands.Command.TheVariants as command
 use Rattle.fx_lines.specs.Commands.{command_of}
 use Rattle.fx_lines.specs.Formed.{IsReadCommand}
-use Rattle.fx_lines.proofs.Kept.{command_of-formed}
+use Rattle.fx_lines.proofs.Kept.{command_of-read}
 use Rattle.felix_replay.specs.Run.{state_after}
 use Rattle.felix_replay.specs.Output.{State, start, is_second_local, unless_taken, checked, accepted, answer_of, after_answer, next}
 use Rattle.felix_replay.proofs.EmptyView.{start-formed, start-on_workloads}
@@ -61,7 +61,7 @@ answer-digest s (Err r) = refl
 
 next-servable : (s : State) → IsServable s.digest s.resources → (line : List ℕ) → IsServable (next s line).digest (next s line).resources
 next-servable s was line =
-    subst (λ dg. IsServable dg (next s line).resources) (sym (answer-digest s (answer_of s line))) (answered s was (command_of line) (command_of-formed line))
+    subst (λ dg. IsServable dg (next s line).resources) (sym (answer-digest s (answer_of s line))) (answered s was (command_of line) (command_of-read line))
 
 along : (s : State) (lines : List (List ℕ)) → IsServable s.digest s.resources → IsServable (state_after next s lines).digest (state_after next s lines).resources
 unfolding state_after

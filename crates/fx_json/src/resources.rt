@@ -1,6 +1,7 @@
 //! Reads a resource that is put or deleted: a Profile or a WorkloadEndpoint.
-ghost use Rattle.std.specs.Prelude.{◌≡◌, option_map};
+ghost use Rattle.std.specs.Prelude.{◌≡◌, ℕ, List, true, IfOk, option_map};
 ghost use Rattle.serde_json.specs.View.{view};
+ghost use Rattle.fx_model.specs.Formed.{is_formed, puts_workload_interface};
 ghost use Rattle.fx_json.specs.Faults.{IsReadFault, IsAnswerOf};
 ghost use Rattle.fx_json.specs.Paths.{text_of};
 ghost use Rattle.fx_json.specs.Resources.{unread_kind, calico_kind, core_kind, network_kind, kind_named, text_at, kind_of, profile_of, profile_put, namespaced_name, endpoint_key, port_fields, endpoint_port, endpoint_of, endpoint_put, put_of, resource_of, key_of, delete_of};
@@ -26,8 +27,16 @@ enum Kind {
 }
 
 /// The update that a put of this resource is, or the first fault of the resource.
-#[tactic(auto, unfolding(crate::specs::Resources::resource_of))]
 pub fn read_resource(alloc: Global, value: &Value) -> Result<Update, ReadFault>
+    ensures answer { IsAnswerOf (resource_of (view value.now)) result }
+    ensures formed { IfOk result (λ update. is_formed update ≡ true) }
+    ensures interface { IfOk result (λ update. (node : List ℕ) → puts_workload_interface node update ≡ true) }
+{
+    put_of(alloc, value)
+}
+
+#[tactic(auto, unfolding(crate::specs::Resources::resource_of))]
+fn put_of(alloc: Global, value: &Value) -> Result<Update, ReadFault>
     ensures { IsAnswerOf (resource_of (view value.now)) result }
 {
     match kind_of(alloc, value)? {
@@ -37,8 +46,16 @@ pub fn read_resource(alloc: Global, value: &Value) -> Result<Update, ReadFault>
 }
 
 /// The update that a delete of this resource is, or the first fault of what names the resource.
-#[tactic(auto, unfolding(crate::specs::Resources::delete_of))]
 pub fn read_delete(alloc: Global, value: &Value) -> Result<Update, ReadFault>
+    ensures answer { IsAnswerOf (delete_of (view value.now)) result }
+    ensures formed { IfOk result (λ update. is_formed update ≡ true) }
+    ensures interface { IfOk result (λ update. (node : List ℕ) → puts_workload_interface node update ≡ true) }
+{
+    delete_of(alloc, value)
+}
+
+#[tactic(auto, unfolding(crate::specs::Resources::delete_of))]
+fn delete_of(alloc: Global, value: &Value) -> Result<Update, ReadFault>
     ensures { IsAnswerOf (delete_of (view value.now)) result }
 {
     let kind = kind_of(alloc, value)?;

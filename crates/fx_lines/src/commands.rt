@@ -27,7 +27,7 @@ pub enum Command {
 /// The command of a line, or its refusal.
 pub fn read_command(alloc: Global, line: &[u8]) -> Result<Command, Refusal>
     ensures answer { Refuses (command_of line.now) result }
-    ensures formed { IfOk result IsReadCommand }
+    ensures read { IfOk result IsReadCommand }
 {
     if is_blank(line) {
         return Ok(Command::Blank);
