@@ -84,7 +84,7 @@ pub fn store(alloc: Global) -> Result<Store, Fail>
 
 // Makes an update that clashes with nothing.
 pub fn make(store: &mut Store, update: Update) -> Result<(), Fail>
-    requires keeps { KeepsClaims plain_digest store.old }
+    requires claims { KeepsClaims plain_digest store.old }
     requires formed { is_formed update ≡ true }
     ensures { OnOk result (KeepsClaims plain_digest store.new) }
 {
