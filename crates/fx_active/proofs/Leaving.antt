@@ -1,4 +1,4 @@
--- What the sink has before an endpoint goes, and then.
+-- What the sink has before an endpoint is removed, and then.
 use Rattle.std.proofs.Common.{◌≡◌, ℕ, true, false, not, ◌&&◌, List, Option, Some, None, is_some, refl, ap, subst}
 use Rattle.std.specs.FinMap.{get, insert, remove, contains_key}
 use Rattle.fx_base.specs.Set as set

@@ -1,4 +1,4 @@
--- What the sink has before a match comes or goes, and then.
+-- What the sink has before a match is added or removed, and then.
 use Rattle.std.proofs.Common.{◌≡◌, ℕ, Bool, true, false, not, ◌&&◌, List, is_some, nat_eq, sym}
 use Rattle.std.specs.Cmp.Lexicographic.{pointwise}
 use Rattle.std.specs.FinMap.{get, contains_key}

@@ -105,7 +105,7 @@ module _ {X : Type 0} (policies : Policies) (concerned others : PolicyId → Boo
       pub policy_before : ((id : PolicyId) → (concerned id && not (others id)) ≡ true → is_some (get m id) ≡ not added) → others e.0 ≡ false → is_some (get m' e.0) ≡ not added
       policy_before was none = ap is_some policy_head ∙ was e.0 (λ j. (yes j) && not (none j))
 
-      -- the policy was turned
+      -- the policy was updated
       pub half_next : (p : Policy) → get policies e.0 ≡ Some p → (m'' : Policies) (s'' : PolicyPairs) → m'' ≡ cond (others e.0) m' (insert_or_remove m' e.0 p added) → s'' ≡ put s' (e.0, item) added → IsHalfUpdated policies concerned others item added m s w m'' s'' es
       half_next p there m'' s'' is are =
           let policy : (q : PolicyId) → get m'' q ≡ cond (same_id q e.0 && not (others e.0)) (cond added (Some p) None) (get m' q) = get_updated m' m'' e.0 p (others e.0) added is in

@@ -1,4 +1,4 @@
--- What the sink has after an endpoint or a match came or went.
+-- What the sink has after an endpoint or a match was added or removed.
 use Rattle.std.proofs.Common.{◌≡◌, ℕ, Bool, true, false, cond, not, ◌&&◌, ◌||◌, List, Option, Some, None, is_some, refl, sym, ap, ◌∙◌}
 use Rattle.std.specs.declared.cmp.Ordering.TheVariants.{Less, Equal, Greater}
 use Rattle.std.specs.Ordering.{is_eq}
@@ -90,7 +90,7 @@ item_same i k h = elim (cmp-value.it i k) as (λ r. cmp-value.it i k ≡ r → i
 pub own_item : (i : ItemKey) → same_item i i ≡ true
 own_item i = ap is_eq (tied_itself item_total i)
 
--- the larger endpoints and matches have one pair more of each policy that c tells, with this item
+-- the larger endpoints and matches have one pair more of each policy that passes c, with this item
 pub record IsLarger (E : Endpoints) (M : Pairs) (E' : Endpoints) (M' : Pairs) (item : ItemKey) (c : Policy → Bool) : Type 0 where
   pub holds : (p : Policy) → holds_somewhere E' M' (text_of p) ≡ (holds_somewhere E M (text_of p) || c p)
   pub pairs : (p : Policy) (i : ItemKey) → (contains_key E' i && set.contains M' (text_of p, i)) ≡ cond (c p && same_item i item) true (contains_key E i && set.contains M (text_of p, i))
@@ -161,7 +161,7 @@ module _ (E : Endpoints) (M : Pairs) (E' : Endpoints) (M' : Pairs) (item : ItemK
       ∙ ap (λ b. is_some (cond b (Some p) None)) (surely (holds_somewhere E M (text_of p)))
 
   module _ (policies P : Policies) (S : PolicyPairs) where
-    -- it comes
+    -- it is added
     module _ (was : ArePolicies policies E M P) (had : ArePairs policies E M S) where
       pub pair_absent : (id : PolicyId) → concerned (get policies id) ≡ true → set.contains S (id, item) ≡ false
       pair_absent id h = had id item ∙ pair_small (get policies id) h
@@ -176,7 +176,7 @@ module _ (E : Endpoints) (M : Pairs) (E' : Endpoints) (M' : Pairs) (item : ItemK
         pub pairs_grown : ArePairs policies E' M' S'
         pairs_grown id i = updated.pairs_now id i ∙ ap (cond (concerned (get policies id) && same_item i item) true) (had id i) ∙ pair_grown (get policies id) i
 
-    -- it goes
+    -- it is removed
     module _ (was : ArePolicies policies E' M' P) (had : ArePairs policies E' M' S) where
       pub pair_there : (id : PolicyId) → concerned (get policies id) ≡ true → set.contains S (id, item) ≡ true
       pair_there id h = had id item ∙ pair_large (get policies id) h

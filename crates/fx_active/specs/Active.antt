@@ -1,4 +1,4 @@
--- What the node has told its sink. From Felix's documented calculation graph: a policy is active while it applies to some endpoint
+-- What the sink is to have. From Felix's documented calculation graph: a policy is active while it applies to some endpoint
 -- of the node, and a profile while some endpoint lists it, whether it is there or not.
 use Rattle.std.specs.Prelude.{◌≡◌, ℕ, Bool, true, false, cond, ◌&&◌, nat_eq, List, Option, Some, None}
 use Rattle.std.specs.Cmp.Lexicographic.{pointwise}

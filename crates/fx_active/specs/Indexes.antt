@@ -1,4 +1,4 @@
--- What the node keeps beside its inputs, so as to find things.
+-- What the node holds beside its inputs, so as to find things.
 use Rattle.std.specs.Prelude.{◌≡◌, ◌==◌, ℕ, Bool, false, cond, nat_eq, List, Option, Some, None, unwrap_or}
 use Rattle.std.specs.declared.cmp.Ordering.{Ordering}
 use Rattle.std.specs.Ordering.{nat_cmp}

@@ -156,11 +156,12 @@ impl ActiveRules {
         ensures inputs { OnOk result (self.new ≡ record self.old { endpoints = map.remove self.old.endpoints key.now }) }
         ensures active { OnOk result (IsActive self.new (S.policies sink.new) (S.profiles sink.new) (S.pairs sink.new)) }
     {
-        let inputs = &mut self.inputs;
-        if inputs.endpoints.contains_key(key) {
-            inputs.endpoints.remove(key, &inputs.profiles, sink)?;
-            update_endpoint(inputs, key, false, sink)?;
+        if !self.inputs.endpoints.contains_key(key) {
+            return Ok(());
         }
+        let inputs = &mut self.inputs;
+        inputs.endpoints.remove(key, &inputs.profiles, sink)?;
+        update_endpoint(inputs, key, false, sink)?;
         Ok(())
     }
 

@@ -5,7 +5,8 @@ ghost use Rattle.fx_active.specs.Node.{IsActive};
 
 use crate::ActiveRules;
 use fx_base::{Memory, Seq, Text};
-use fx_model::{ItemKey, Policy, PolicyId, Profile, RecordActive};
+use fx_model::{ItemKey, Policy, PolicyId, Profile};
+use fx_record::RecordActive;
 use fx_selector::{Labels, Selector};
 use std::alloc::Global;
 use std::test::Fail;

@@ -4,7 +4,8 @@ ghost use Rattle.fx_label_index.specs.Matched.{IsMatched};
 
 use crate::LabelIndex;
 use fx_base::{Counter, Memory, Text};
-use fx_model::{ItemKey, RecordMatches};
+use fx_model::ItemKey;
+use fx_record::RecordMatches;
 use fx_selector::{Labels, Selector};
 use std::alloc::Global;
 use std::test::Fail;
