@@ -2,12 +2,12 @@ use Rattle.std.proofs.Common.{refl, sym, ap, ◌∙◌, subst}
 use Rattle.std.specs.Option.{option_copied}
 use Rattle.fx_model.specs.Pairs.{put}
 use Rattle.fx_active.proofs.PairWalk.{IsHalfPaired, pairs_start, pairs_next, pairs_end, pair_was}
-use Rattle.fx_active.proofs.turning.turn_pairs.Goals as goal
+use Rattle.fx_active.proofs.pairs.update_policy.Goals as goal
 
 pub loop-key-init : goal.loop-key-init
 loop-key-init g c =
-    let endpoints = c.args.endpoints.now in
-    let matched = c.args.matched.now in
+    let endpoints = c.args.inputs.now.endpoints in
+    let matched = c.args.inputs.now.matched in
     let id = c.args.id.now in
     let before = option_copied c.args.before in
     let after = option_copied c.args.after in
@@ -21,8 +21,8 @@ loop-key-init g c =
 
 pub set_pair-requires : goal.set_pair-requires
 set_pair-requires g c =
-    let endpoints = c.args.endpoints.now in
-    let matched = c.args.matched.now in
+    let endpoints = c.args.inputs.now.endpoints in
+    let matched = c.args.inputs.now.matched in
     let id = c.args.id.now in
     let before = option_copied c.args.before in
     let after = option_copied c.args.after in
@@ -33,8 +33,8 @@ set_pair-requires g c =
 
 pub loop-key-preserved : goal.loop-key-preserved
 loop-key-preserved g c =
-    let endpoints = c.args.endpoints.now in
-    let matched = c.args.matched.now in
+    let endpoints = c.args.inputs.now.endpoints in
+    let matched = c.args.inputs.now.matched in
     let id = c.args.id.now in
     let before = option_copied c.args.before in
     let after = option_copied c.args.after in
@@ -50,8 +50,8 @@ loop-key-preserved g c =
 
 pub returns-clause-pairs : goal.returns-clause-pairs
 returns-clause-pairs g c =
-    let endpoints = c.args.endpoints.now in
-    let matched = c.args.matched.now in
+    let endpoints = c.args.inputs.now.endpoints in
+    let matched = c.args.inputs.now.matched in
     let id = c.args.id.now in
     let after = option_copied c.args.after in
     let s = g.S.ActiveSink.pairs c.args.sink.now in

@@ -1,4 +1,4 @@
-//! A policy as the node keeps it.
+//! A policy with what finds it.
 ghost use Rattle.std.specs.Prelude.{◌≡◌, IfOk};
 ghost use Rattle.fx_active.specs.Active.{text_of};
 
@@ -9,12 +9,12 @@ use std::marker::Model;
 
 /// A policy beside its selector's canonical text, which is computed once.
 #[derive(Drop)]
-pub struct Kept {
+pub struct IndexedPolicy {
     policy: Policy,
     text: Text,
 }
 
-impl Model for Kept {
+impl Model for IndexedPolicy {
     ghost use Rattle.std.specs.Prelude.{◌≡◌};
     ghost use Rattle.fx_model.specs.declared.policy.Policy.{Policy};
     ghost use Rattle.fx_model.specs.contracts.policy.Policy as policies;
@@ -29,12 +29,12 @@ impl Model for Kept {
     ghost invariant = { λ k. k.text ≡ text_of k.policy };
 }
 
-impl Kept {
+impl IndexedPolicy {
     pub fn new(alloc: Global, policy: &Policy) -> Result<Self, Memory>
-        ensures { IfOk result (λ kept. kept ≡ policy.now) }
+        ensures { IfOk result (λ indexed. indexed ≡ policy.now) }
     {
         let text = policy.selector.canonical(alloc)?;
-        Ok(Kept {
+        Ok(IndexedPolicy {
             policy: policy.clone()?,
             text,
         })

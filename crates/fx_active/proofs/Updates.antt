@@ -1,4 +1,4 @@
--- What the sink has after an endpoint or a match came or went.
+-- What the sink has after an endpoint or a match was added or removed.
 use Rattle.std.proofs.Common.{◌≡◌, ℕ, Bool, true, false, cond, not, ◌&&◌, ◌||◌, List, Option, Some, None, is_some, refl, sym, ap, ◌∙◌}
 use Rattle.std.specs.declared.cmp.Ordering.TheVariants.{Less, Equal, Greater}
 use Rattle.std.specs.Ordering.{is_eq}
@@ -16,7 +16,7 @@ use Rattle.fx_model.specs.contracts.ids.ItemKeyOrd.TheImpl.{cmp-value}
 use Rattle.fx_model.proofs.Orders.{item_total, exact_item}
 use Rattle.fx_active.specs.Inputs.{Endpoints}
 use Rattle.fx_active.specs.Active.{text_of, holds_somewhere, where_active, applies_to, ArePolicies, ArePairs}
-use Rattle.fx_active.specs.Steps.{same_item, IsTurned}
+use Rattle.fx_active.specs.Steps.{same_item, IsUpdated}
 
 -- ---- the same endpoints and matches, as far as policies are concerned
 module _ (E E' : Endpoints) (M M' : Pairs) (holds : (t : List ℕ) → holds_somewhere E' M' t ≡ holds_somewhere E M t) (pairs : (t : List ℕ) (i : ItemKey) → (contains_key E' i && set.contains M' (t, i)) ≡ (contains_key E i && set.contains M (t, i))) where
@@ -35,29 +35,29 @@ module _ (E E' : Endpoints) (M M' : Pairs) (holds : (t : List ℕ) → holds_som
   pairs_stay policies S was id i = was id i ∙ same_applies (get policies id) i
 
 -- ---- one endpoint or match more, and one less
-comes_at : (t c h : Bool) (o : Option Policy) → cond ((t && c) && not h) o (cond (t && h) o None) ≡ cond (t && (h || c)) o None
-comes_at false c h o = refl
-comes_at true false false o = refl
-comes_at true false true o = refl
-comes_at true true false o = refl
-comes_at true true true o = refl
+added_at : (t c h : Bool) (o : Option Policy) → cond ((t && c) && not h) o (cond (t && h) o None) ≡ cond (t && (h || c)) o None
+added_at false c h o = refl
+added_at true false false o = refl
+added_at true false true o = refl
+added_at true true false o = refl
+added_at true true true o = refl
 
-goes_at : (t c h : Bool) (o : Option Policy) → cond ((t && c) && not h) None (cond (t && (h || c)) o None) ≡ cond (t && h) o None
-goes_at false c h o = refl
-goes_at true false false o = refl
-goes_at true false true o = refl
-goes_at true true false o = refl
-goes_at true true true o = refl
+removed_at : (t c h : Bool) (o : Option Policy) → cond ((t && c) && not h) None (cond (t && (h || c)) o None) ≡ cond (t && h) o None
+removed_at false c h o = refl
+removed_at true false false o = refl
+removed_at true false true o = refl
+removed_at true true false o = refl
+removed_at true true true o = refl
 
-pair_comes_at : (t c s x : Bool) → cond ((t && c) && s) true (t && x) ≡ (t && cond (c && s) true x)
-pair_comes_at false c s x = refl
-pair_comes_at true c s x = refl
+pair_added_at : (t c s x : Bool) → cond ((t && c) && s) true (t && x) ≡ (t && cond (c && s) true x)
+pair_added_at false c s x = refl
+pair_added_at true c s x = refl
 
-pair_goes_at : (t c s x : Bool) → (c ≡ true → s ≡ true → x ≡ false) → cond ((t && c) && s) false (t && cond (c && s) true x) ≡ (t && x)
-pair_goes_at false c s x h = refl
-pair_goes_at true false s x h = refl
-pair_goes_at true true false x h = refl
-pair_goes_at true true true x h = sym (h refl refl)
+pair_removed_at : (t c s x : Bool) → (c ≡ true → s ≡ true → x ≡ false) → cond ((t && c) && s) false (t && cond (c && s) true x) ≡ (t && x)
+pair_removed_at false c s x h = refl
+pair_removed_at true false s x h = refl
+pair_removed_at true true false x h = refl
+pair_removed_at true true true x h = sym (h refl refl)
 
 unless_concerned : {A : Type 0} (t c : Bool) (a b : Bool) (x y : A) → (c ≡ true → a ≡ b) → cond ((t && c) && not a) x y ≡ cond ((t && c) && not b) x y
 unless_concerned false c a b x y h = refl
@@ -90,7 +90,7 @@ item_same i k h = elim (cmp-value.it i k) as (λ r. cmp-value.it i k ≡ r → i
 pub own_item : (i : ItemKey) → same_item i i ≡ true
 own_item i = ap is_eq (tied_itself item_total i)
 
--- the larger endpoints and matches have one pair more of each policy that c tells, with this item
+-- the larger endpoints and matches have one pair more of each policy that passes c, with this item
 pub record IsLarger (E : Endpoints) (M : Pairs) (E' : Endpoints) (M' : Pairs) (item : ItemKey) (c : Policy → Bool) : Type 0 where
   pub holds : (p : Policy) → holds_somewhere E' M' (text_of p) ≡ (holds_somewhere E M (text_of p) || c p)
   pub pairs : (p : Policy) (i : ItemKey) → (contains_key E' i && set.contains M' (text_of p, i)) ≡ cond (c p && same_item i item) true (contains_key E i && set.contains M (text_of p, i))
@@ -107,31 +107,31 @@ module _ (E : Endpoints) (M : Pairs) (E' : Endpoints) (M' : Pairs) (item : ItemK
   chosen : {A : Type 0} (p : Policy) (x y : A) → cond (concerned (Some p) && not (others (Some p))) x y ≡ cond ((has_types p && c p) && not (holds_somewhere E M (text_of p))) x y
   chosen p x y = ap (λ b. cond (b && not (others (Some p))) x y) (t.some p) ∙ unless_concerned (has_types p) (c p) (others (Some p)) (holds_somewhere E M (text_of p)) x y (t.other p)
 
-  policy_comes : (o : Option Policy) → cond (concerned o && not (others o)) o (where_active E M o) ≡ where_active E' M' o
-  policy_comes None = ap (λ b. cond (b && not (others None)) None None) t.none
-  policy_comes (Some p) =
-      chosen p (Some p) (where_active E M (Some p)) ∙ comes_at (has_types p) (c p) (holds_somewhere E M (text_of p)) (Some p)
+  policy_grown : (o : Option Policy) → cond (concerned o && not (others o)) o (where_active E M o) ≡ where_active E' M' o
+  policy_grown None = ap (λ b. cond (b && not (others None)) None None) t.none
+  policy_grown (Some p) =
+      chosen p (Some p) (where_active E M (Some p)) ∙ added_at (has_types p) (c p) (holds_somewhere E M (text_of p)) (Some p)
       ∙ ap (λ b. cond (has_types p && b) (Some p) None) (sym (l.holds p))
 
-  policy_goes : (o : Option Policy) → cond (concerned o && not (others o)) None (where_active E' M' o) ≡ where_active E M o
-  policy_goes None = ap (λ b. cond (b && not (others None)) None None) t.none
-  policy_goes (Some p) =
+  policy_shrunk : (o : Option Policy) → cond (concerned o && not (others o)) None (where_active E' M' o) ≡ where_active E M o
+  policy_shrunk None = ap (λ b. cond (b && not (others None)) None None) t.none
+  policy_shrunk (Some p) =
       chosen p None (where_active E' M' (Some p)) ∙ ap (λ b. cond ((has_types p && c p) && not (holds_somewhere E M (text_of p))) None (cond (has_types p && b) (Some p) None)) (l.holds p)
-      ∙ goes_at (has_types p) (c p) (holds_somewhere E M (text_of p)) (Some p)
+      ∙ removed_at (has_types p) (c p) (holds_somewhere E M (text_of p)) (Some p)
 
-  pair_comes : (o : Option Policy) (i : ItemKey) → cond (concerned o && same_item i item) true (applies_to E M o i) ≡ applies_to E' M' o i
-  pair_comes None i = ap (λ b. cond (b && same_item i item) true false) t.none
-  pair_comes (Some p) i =
+  pair_grown : (o : Option Policy) (i : ItemKey) → cond (concerned o && same_item i item) true (applies_to E M o i) ≡ applies_to E' M' o i
+  pair_grown None i = ap (λ b. cond (b && same_item i item) true false) t.none
+  pair_grown (Some p) i =
       ap (λ b. cond (b && same_item i item) true (applies_to E M (Some p) i)) (t.some p)
-      ∙ pair_comes_at (has_types p) (c p) (same_item i item) (contains_key E i && set.contains M (text_of p, i))
+      ∙ pair_added_at (has_types p) (c p) (same_item i item) (contains_key E i && set.contains M (text_of p, i))
       ∙ ap (λ b. has_types p && b) (sym (l.pairs p i))
 
-  pair_goes : (o : Option Policy) (i : ItemKey) → cond (concerned o && same_item i item) false (applies_to E' M' o i) ≡ applies_to E M o i
-  pair_goes None i = ap (λ b. cond (b && same_item i item) false false) t.none
-  pair_goes (Some p) i =
+  pair_shrunk : (o : Option Policy) (i : ItemKey) → cond (concerned o && same_item i item) false (applies_to E' M' o i) ≡ applies_to E M o i
+  pair_shrunk None i = ap (λ b. cond (b && same_item i item) false false) t.none
+  pair_shrunk (Some p) i =
       ap (λ b. cond (b && same_item i item) false (applies_to E' M' (Some p) i)) (t.some p)
       ∙ ap (λ b. cond ((has_types p && c p) && same_item i item) false (has_types p && b)) (l.pairs p i)
-      ∙ pair_goes_at (has_types p) (c p) (same_item i item) (contains_key E i && set.contains M (text_of p, i))
+      ∙ pair_removed_at (has_types p) (c p) (same_item i item) (contains_key E i && set.contains M (text_of p, i))
       (λ h k. ap (λ n. contains_key E n && set.contains M (text_of p, n)) (item_same i item k) ∙ l.absent p h)
 
   pair_small : (o : Option Policy) → concerned o ≡ true → applies_to E M o item ≡ false
@@ -161,7 +161,7 @@ module _ (E : Endpoints) (M : Pairs) (E' : Endpoints) (M' : Pairs) (item : ItemK
       ∙ ap (λ b. is_some (cond b (Some p) None)) (surely (holds_somewhere E M (text_of p)))
 
   module _ (policies P : Policies) (S : PolicyPairs) where
-    -- it comes
+    -- it is added
     module _ (was : ArePolicies policies E M P) (had : ArePairs policies E M S) where
       pub pair_absent : (id : PolicyId) → concerned (get policies id) ≡ true → set.contains S (id, item) ≡ false
       pair_absent id h = had id item ∙ pair_small (get policies id) h
@@ -169,14 +169,14 @@ module _ (E : Endpoints) (M : Pairs) (E' : Endpoints) (M' : Pairs) (item : ItemK
       pub policy_absent : (id : PolicyId) → (concerned (get policies id) && not (others (get policies id))) ≡ true → is_some (get P id) ≡ false
       policy_absent id h = ap is_some (was id) ∙ policy_small (get policies id) h
 
-      module _ (P' : Policies) (S' : PolicyPairs) (turned : IsTurned policies (λ id. concerned (get policies id)) (λ id. others (get policies id)) item true P S P' S') where
-        pub policies_come : ArePolicies policies E' M' P'
-        policies_come id = turned.policies_now id ∙ ap (cond (concerned (get policies id) && not (others (get policies id))) (get policies id)) (was id) ∙ policy_comes (get policies id)
+      module _ (P' : Policies) (S' : PolicyPairs) (updated : IsUpdated policies (λ id. concerned (get policies id)) (λ id. others (get policies id)) item true P S P' S') where
+        pub policies_grown : ArePolicies policies E' M' P'
+        policies_grown id = updated.policies_now id ∙ ap (cond (concerned (get policies id) && not (others (get policies id))) (get policies id)) (was id) ∙ policy_grown (get policies id)
 
-        pub pairs_come : ArePairs policies E' M' S'
-        pairs_come id i = turned.pairs_now id i ∙ ap (cond (concerned (get policies id) && same_item i item) true) (had id i) ∙ pair_comes (get policies id) i
+        pub pairs_grown : ArePairs policies E' M' S'
+        pairs_grown id i = updated.pairs_now id i ∙ ap (cond (concerned (get policies id) && same_item i item) true) (had id i) ∙ pair_grown (get policies id) i
 
-    -- it goes
+    -- it is removed
     module _ (was : ArePolicies policies E' M' P) (had : ArePairs policies E' M' S) where
       pub pair_there : (id : PolicyId) → concerned (get policies id) ≡ true → set.contains S (id, item) ≡ true
       pair_there id h = had id item ∙ pair_large (get policies id) h
@@ -184,9 +184,9 @@ module _ (E : Endpoints) (M : Pairs) (E' : Endpoints) (M' : Pairs) (item : ItemK
       pub policy_there : (id : PolicyId) → (concerned (get policies id) && not (others (get policies id))) ≡ true → is_some (get P id) ≡ true
       policy_there id h = ap is_some (was id) ∙ policy_large (get policies id) h
 
-      module _ (P' : Policies) (S' : PolicyPairs) (turned : IsTurned policies (λ id. concerned (get policies id)) (λ id. others (get policies id)) item false P S P' S') where
-        pub policies_go : ArePolicies policies E M P'
-        policies_go id = turned.policies_now id ∙ ap (cond (concerned (get policies id) && not (others (get policies id))) None) (was id) ∙ policy_goes (get policies id)
+      module _ (P' : Policies) (S' : PolicyPairs) (updated : IsUpdated policies (λ id. concerned (get policies id)) (λ id. others (get policies id)) item false P S P' S') where
+        pub policies_shrunk : ArePolicies policies E M P'
+        policies_shrunk id = updated.policies_now id ∙ ap (cond (concerned (get policies id) && not (others (get policies id))) None) (was id) ∙ policy_shrunk (get policies id)
 
-        pub pairs_go : ArePairs policies E M S'
-        pairs_go id i = turned.pairs_now id i ∙ ap (cond (concerned (get policies id) && same_item i item) false) (had id i) ∙ pair_goes (get policies id) i
+        pub pairs_shrunk : ArePairs policies E M S'
+        pairs_shrunk id i = updated.pairs_now id i ∙ ap (cond (concerned (get policies id) && same_item i item) false) (had id i) ∙ pair_shrunk (get policies id) i
