@@ -15,8 +15,6 @@ use Rattle.fx_model.specs.declared.resources.Resources.{Resources}
 use Rattle.fx_model.specs.Resources.{is_local}
 use Rattle.fx_model.specs.Policy.{is_workload}
 use Rattle.fx_model.specs.Formed.{implies, is_formed_endpoint_entry, is_formed_profile, are_formed, has_workload_interface, have_workload_interfaces}
-use Rattle.fx_names.specs.Digests.{Digest}
-use Rattle.fx_model.specs.ViewPolicy.{IsServable}
 use Rattle.fx_walk.specs.Serving.{ServedEndpointsAreApart}
 use Rattle.fx_walk.proofs.Interfaces.{same_key, one_interface}
 
