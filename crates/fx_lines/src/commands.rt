@@ -1,5 +1,5 @@
 //! What a line says.
-ghost use Rattle.std.specs.Prelude.{◌≡◌, IfOk, Some, Ok, true};
+ghost use Rattle.std.specs.Prelude.{◌≡◌, ℕ, List, IfOk, Some, Ok, true};
 ghost use Rattle.std.specs.List.{list_all};
 ghost use Rattle.serde_json.specs.View.{view};
 ghost use Rattle.fx_json.specs.Fields.{is_object};
@@ -7,7 +7,7 @@ ghost use Rattle.fx_json.specs.Packets.{packet_of};
 ghost use Rattle.fx_json.specs.Refusals.{Refuses};
 ghost use Rattle.fx_json.specs.Resources.{resource_of, delete_of};
 ghost use Rattle.fx_lines.specs.Commands.{is_blank_byte, is_true, by_name, command_of, shaped, of_value, update_answer, packet_answer};
-ghost use Rattle.fx_lines.specs.Formed.{is_formed_command};
+ghost use Rattle.fx_lines.specs.Formed.{is_formed_command, asks_workload_interface};
 
 use fx_json::{ReadFault, Refusal, field, has_members, read_delete, read_packet, read_resource};
 use fx_model::{Packet, Update};
@@ -28,6 +28,7 @@ pub enum Command {
 pub fn read_command(alloc: Global, line: &[u8]) -> Result<Command, Refusal>
     ensures answer { Refuses (command_of line.now) result }
     ensures formed { IfOk result (λ command. is_formed_command command ≡ true) }
+    ensures interface { IfOk result (λ command. (node : List ℕ) → asks_workload_interface node command ≡ true) }
 {
     if is_blank(line) {
         return Ok(Command::Blank);

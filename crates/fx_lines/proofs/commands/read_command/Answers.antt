@@ -1,12 +1,12 @@
-use Rattle.std.proofs.Common.{◌≡◌, true, Some, Result, sym, subst, inr}
+use Rattle.std.proofs.Common.{◌≡◌, ℕ, List, true, Some, Result, sym, subst, inr}
 use Rattle.std.proofs.lemmas.Bool.{false≢true}
 use Rattle.serde_json.specs.View.{view}
 use Rattle.fx_json.specs.declared.refusal.Refusal.{Refusal}
 use Rattle.fx_json.specs.Refusals.{Refuses}
 use Rattle.fx_lines.specs.declared.commands.Command.{Command}
-use Rattle.fx_lines.specs.Formed.{is_formed_command}
+use Rattle.fx_lines.specs.Formed.{is_formed_command, asks_workload_interface}
 use Rattle.fx_lines.specs.Commands.{of_value}
-use Rattle.fx_lines.proofs.Kept.{of_value-formed}
+use Rattle.fx_lines.proofs.Kept.{of_value-formed, of_value-workload}
 use Rattle.fx_lines.proofs.Asking.{command_of-blank, command_of-value, command_of-none, kept}
 use Rattle.fx_lines.proofs.commands.read_command.Goals as goal
 
@@ -21,6 +21,10 @@ returns-in-Ok-clause-answer c =
 pub returns-in-Ok-clause-formed : goal.returns-in-Ok-clause-formed
 returns-in-Ok-clause-formed c =
     kept (λ (command : Command). is_formed_command command ≡ true) (of_value (Some (view c.in-Ok.value))) c.command_in.result c.command_in.ensures (of_value-formed (Some (view c.in-Ok.value)))
+
+pub returns-in-Ok-clause-interface : goal.returns-in-Ok-clause-interface
+returns-in-Ok-clause-interface c =
+    kept (λ (command : Command). (node : List ℕ) → asks_workload_interface node command ≡ true) (of_value (Some (view c.in-Ok.value))) c.command_in.result c.command_in.ensures (of_value-workload (Some (view c.in-Ok.value)))
 
 pub returns-else-is_memory-clause-answer : goal.returns-else-is_memory-clause-answer
 returns-else-is_memory-clause-answer c = inr (command_of-none c.args.line.now c.if-is_blank.ensures (c.in-Err.ensures.err (λ memory. false≢true (c.if-is_memory.ensures.1 memory))))
