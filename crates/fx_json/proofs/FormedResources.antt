@@ -29,15 +29,18 @@ use Rattle.fx_json.specs.declared.resources.Kind.{Kind}
 use Rattle.fx_json.specs.declared.resources.Kind.TheVariants.{Profile as AProfile, WorkloadEndpoint}
 use Rattle.fx_json.specs.declared.rules.ReadProtocols.{ReadProtocols}
 use Rattle.fx_json.specs.declared.sides.ReadSide.{ReadSide}
+use Rattle.fx_json.specs.declared.sides.ReadPorts.{ReadPorts}
+use Rattle.fx_json.specs.declared.resources.EndpointMetadata.{EndpointMetadata}
+use Rattle.fx_json.specs.declared.resources.Workload.{Workload}
 use Rattle.fx_json.specs.declared.texts.TextForm.{TextForm}
 use Rattle.fx_json.specs.declared.texts.TextForm.TheVariants.{Name, Namespace, WorkloadInterface}
 use Rattle.fx_json.specs.Forms.{is_name_byte, is_namespace_byte, has_length, is_namespace, is_interface, is_workload_interface, is_in, passing, text}
 use Rattle.fx_json.specs.Paths.{member_path, item_path}
 use Rattle.fx_json.specs.Fields.{◌>>=◌, Reader, field, is_absent, formed, required, defaulted, optional, unread, items_from, list_at, items, object_at, section}
 use Rattle.fx_json.specs.Values.{version, protocol, net, host_net, port}
-use Rattle.fx_json.specs.Sides.{selectors, with_ports, ports_in, ports_at, side}
+use Rattle.fx_json.specs.Sides.{selectors, with_ports, ports_in, ports_at, nets_of, ports_of, side}
 use Rattle.fx_json.specs.Rules.{action_named, profile_action, has_messages, with_messages, message, asked_message, icmp_at, of_ipv4, protocols, side_at, rule_fields, rule}
-use Rattle.fx_json.specs.Resources.{labels_at, endpoint_key, endpoint_port, profile_of, profile_put, namespaced_name, endpoint_of, endpoint_put, kind_of, put_of, resource_of, key_of, delete_of}
+use Rattle.fx_json.specs.Resources.{labels_at, endpoint_key, endpoint_port, profile_of, profile_put, namespaced_name, endpoint_of, endpoint_put, kind_of, put_of, resource_of, key_of, delete_of, key_in, name_in, profile_in, metadata_in, metadata_of, endpoint_in, workload, endpoint_profiles}
 
 -- ---- what a reading says of what it gives
 
@@ -143,24 +146,32 @@ ports_at-formed proto path k d =
 abbrev lists : ReadSide → Bool
 lists s = is_given s.side.ports || is_given s.side.not_ports
 
-side-formed : (proto : Option Proto) (path : List ℕ) (d : Data) → IfOk (side proto path d) (λ s. implies (lists s) (has_port_protocol proto) ≡ true)
-unfolding side
-side-formed proto path d =
-    then-if P (items net path (codes "nets") d) _ (λ nets _.
-    then-if P (items net path (codes "notNets") d) _ (λ not_nets _.
-    then-if P (selectors path d) _ (λ none _.
+ports_of-formed : (proto : Option Proto) (path : List ℕ) (d : Data) → IfOk (ports_of proto path d) (λ p. implies (is_given p.ports || is_given p.not_ports) (has_port_protocol proto) ≡ true)
+unfolding ports_of
+ports_of-formed proto path d =
     then-if P (ports_at proto path (codes "ports") d) _ (λ ports ports_read.
     then-if P (ports_at proto path (codes "notPorts") d) _ (λ not_ports not_ports_read.
-    then-if P (optional unread path (codes "services") d) _ (λ absent _.
     implies_either (is_given ports) (is_given not_ports) (has_port_protocol proto)
     (read-if Q (ports_at proto path (codes "ports") d) ports (ports_at-formed proto path (codes "ports") d) ports_read)
-    (read-if Q (ports_at proto path (codes "notPorts") d) not_ports (ports_at-formed proto path (codes "notPorts") d) not_ports_read)))))))
+    (read-if Q (ports_at proto path (codes "notPorts") d) not_ports (ports_at-formed proto path (codes "notPorts") d) not_ports_read)))
   where
-    P : ReadSide → Type 0
-    P s = implies (lists s) (has_port_protocol proto) ≡ true
+    P : ReadPorts → Type 0
+    P p = implies (is_given p.ports || is_given p.not_ports) (has_port_protocol proto) ≡ true
 
     Q : List PortRange → Type 0
     Q ports = implies (is_given ports) (has_port_protocol proto) ≡ true
+
+side-formed : (proto : Option Proto) (path : List ℕ) (d : Data) → IfOk (side proto path d) (λ s. implies (lists s) (has_port_protocol proto) ≡ true)
+unfolding side
+side-formed proto path d =
+    then-if P (nets_of path d) _ (λ nets _.
+    then-if P (selectors path d) _ (λ none _.
+    then-if P (ports_of proto path d) _ (λ ports ports_read.
+    then-if P (optional unread path (codes "services") d) _ (λ absent _.
+    read-if (λ (p : ReadPorts). implies (is_given p.ports || is_given p.not_ports) (has_port_protocol proto) ≡ true) (ports_of proto path d) ports (ports_of-formed proto path d) ports_read))))
+  where
+    P : ReadSide → Type 0
+    P s = implies (lists s) (has_port_protocol proto) ≡ true
 
 side_at-formed : (proto : Option Proto) (path k : List ℕ) (d : Data) → IfOk (side_at proto path k d) (λ s. implies (lists s) (has_port_protocol proto) ≡ true)
 unfolding side_at
@@ -271,16 +282,16 @@ profile_of-formed path d =
 abbrev pub IsTakable : Update → Type 0
 IsTakable u = (is_formed u ≡ true) × ((node : List ℕ) → puts_workload_interface node u ≡ true)
 
+profile_in-formed : (d : Data) → IfOk (profile_in d) (λ p. is_formed_profile p ≡ true)
+unfolding profile_in
+profile_in-formed d = then-if (λ p. is_formed_profile p ≡ true) (section (codes "spec") (codes "spec") d) _ (λ spec _. profile_of-formed (codes "spec") spec)
+
 profile_put-formed : (d : Data) → IfOk (profile_put d) IsTakable
 unfolding profile_put
 profile_put-formed d =
-    then-if IsTakable (section (codes "metadata") (codes "metadata") d) _ (λ metadata _.
-    then-if IsTakable (required (text Name) (codes "metadata") (codes "name") metadata) _ (λ name _.
-    then-if IsTakable (section (codes "spec") (codes "spec") d) _ (λ spec _.
-    then-if IsTakable (profile_of (codes "spec") spec) _ (λ profile profile_read. (
-      read-if (λ (p : Profile). is_formed_profile p ≡ true) (profile_of (codes "spec") spec) profile (profile_of-formed (codes "spec") spec) profile_read,
-      λ node. refl,
-    )))))
+    then-if IsTakable (name_in d) _ (λ name _.
+    then-if IsTakable (profile_in d) _ (λ profile profile_read.
+    (read-if (λ (p : Profile). is_formed_profile p ≡ true) (profile_in d) profile (profile_in-formed d) profile_read, λ node. refl)))
 
 -- ---- keys
 
@@ -317,46 +328,72 @@ key_of-formed : (kind : Kind) (path : List ℕ) (d : Data) → IfOk (key_of kind
 key_of-formed AProfile path d = then-if (λ k. is_formed_key k ≡ true) (required (text Name) path (codes "name") d) _ (λ name _. refl)
 key_of-formed WorkloadEndpoint path d = then-if (λ k. is_formed_key k ≡ true) (namespaced_name path d) _ (λ named is. named-formed path d named is)
 
+key_in-formed : (kind : Kind) (d : Data) → IfOk (key_in kind d) (λ k. is_formed_key k ≡ true)
+unfolding key_in
+key_in-formed kind d = then-if (λ k. is_formed_key k ≡ true) (section (codes "metadata") (codes "metadata") d) _ (λ metadata _. key_of-formed kind (codes "metadata") metadata)
+
 -- ---- endpoints
 
 workload_interface-formed : (s : List ℕ) → is_workload_interface s ≡ true → (nat_le (length s) 15 ≡ true) × (is_workload s ≡ true)
 workload_interface-formed s e =
     (second_of (nat_le 1 (length s)) (nat_le (length s) 15) (first_of (has_length 1 15 s) (list_all is_name_byte s) (first_of (is_interface s) (starts_with nat_eq s (codes "cali")) e)), second_of (is_interface s) (starts_with nat_eq s (codes "cali")) e)
 
--- an endpoint on an interface of workloads, whose name isn't too long
-abbrev IsOnWorkloadInterface : Endpoint → Type 0
-IsOnWorkloadInterface e = (is_formed_endpoint e ≡ true) × (is_workload e.iface ≡ true)
+-- an interface of workloads, whose name isn't too long
+abbrev IsFit : List ℕ → Type 0
+IsFit iface = (nat_le (length iface) 15 ≡ true) × (is_workload iface ≡ true)
 
-endpoint_of-formed : (given : LabelMap) (namespace path : List ℕ) (d : Data) → IfOk (endpoint_of given namespace path d) IsOnWorkloadInterface
-unfolding endpoint_of
-endpoint_of-formed given namespace path d =
+workload-formed : (path : List ℕ) (d : Data) → IfOk (workload path d) (λ w. IsFit w.iface)
+unfolding workload
+workload-formed path d =
     then-if P (required (text Name) path (codes "node") d) _ (λ node _.
     then-if P (optional (text Name) path (codes "orchestrator") d) _ (λ orchestrator _.
     then-if P (optional (text Name) path (codes "serviceAccountName") d) _ (λ account _.
     then-if P (required (text WorkloadInterface) path (codes "interfaceName") d) _ (λ iface iface_read.
-    then-if P (items host_net path (codes "ipNetworks") d) _ (λ networks _.
-    then-if P (items (text Name) path (codes "profiles") d) _ (λ profiles _.
-    then-if P (items endpoint_port path (codes "ports") d) _ (λ ports _.
-    workload_interface-formed iface (read-if (λ (s : List ℕ). is_workload_interface s ≡ true) (required (text WorkloadInterface) path (codes "interfaceName") d) iface (required-if (λ s. is_workload_interface s ≡ true) (text WorkloadInterface) (text-formed WorkloadInterface) path (codes "interfaceName") d) iface_read))))))))
+    workload_interface-formed iface (read-if (λ (s : List ℕ). is_workload_interface s ≡ true) (required (text WorkloadInterface) path (codes "interfaceName") d) iface (required-if (λ s. is_workload_interface s ≡ true) (text WorkloadInterface) (text-formed WorkloadInterface) path (codes "interfaceName") d) iface_read)))))
+  where
+    P : Workload → Type 0
+    P w = IsFit w.iface
+
+endpoint_of-formed : (given : LabelMap) (namespace path : List ℕ) (d : Data) → IfOk (endpoint_of given namespace path d) (λ e. IsFit e.iface)
+unfolding endpoint_of
+endpoint_of-formed given namespace path d =
+    then-if P (workload path d) _ (λ w workload_read.
+    then-if P (endpoint_profiles path d) _ (λ profiles _.
+    read-if (λ (w : Workload). IsFit w.iface) (workload path d) w (workload-formed path d) workload_read))
   where
     P : Endpoint → Type 0
-    P = IsOnWorkloadInterface
+    P e = IsFit e.iface
+
+endpoint_in-formed : (given : LabelMap) (namespace : List ℕ) (d : Data) → IfOk (endpoint_in given namespace d) (λ e. IsFit e.iface)
+unfolding endpoint_in
+endpoint_in-formed given namespace d = then-if (λ e. IsFit e.iface) (section (codes "spec") (codes "spec") d) _ (λ spec _. endpoint_of-formed given namespace (codes "spec") spec)
+
+metadata_of-formed : (path : List ℕ) (d : Data) → IfOk (metadata_of path d) (λ m. is_formed_namespace m.named.ns ≡ true)
+unfolding metadata_of
+metadata_of-formed path d =
+    then-if P (namespaced_name path d) _ (λ named named_read.
+    then-if P (labels_at path (codes "labels") d) _ (λ given _. named-formed path d named named_read))
+  where
+    P : EndpointMetadata → Type 0
+    P m = is_formed_namespace m.named.ns ≡ true
+
+metadata_in-formed : (d : Data) → IfOk (metadata_in d) (λ m. is_formed_namespace m.named.ns ≡ true)
+unfolding metadata_in
+metadata_in-formed d = then-if (λ m. is_formed_namespace m.named.ns ≡ true) (section (codes "metadata") (codes "metadata") d) _ (λ metadata _. metadata_of-formed (codes "metadata") metadata)
 
 endpoint_put-formed : (d : Data) → IfOk (endpoint_put d) IsTakable
 unfolding endpoint_put
 endpoint_put-formed d =
-    then-if IsTakable (section (codes "metadata") (codes "metadata") d) _ (λ metadata _.
-    then-if IsTakable (namespaced_name (codes "metadata") metadata) _ (λ named named_read.
-    then-if IsTakable (labels_at (codes "metadata") (codes "labels") metadata) _ (λ given _.
-    then-if IsTakable (section (codes "spec") (codes "spec") d) _ (λ spec _.
-    then-if IsTakable (endpoint_of given named.ns (codes "spec") spec) _ (λ endpoint endpoint_read.
-    takable named endpoint (named-formed (codes "metadata") metadata named named_read)
-    (read-if IsOnWorkloadInterface (endpoint_of given named.ns (codes "spec") spec) endpoint (endpoint_of-formed given named.ns (codes "spec") spec) endpoint_read))))))
+    then-if IsTakable (metadata_in d) _ (λ about about_read.
+    then-if IsTakable (endpoint_in about.labels about.named.ns d) _ (λ endpoint endpoint_read.
+    takable about.named endpoint
+    (read-if (λ (m : EndpointMetadata). is_formed_namespace m.named.ns ≡ true) (metadata_in d) about (metadata_in-formed d) about_read)
+    (read-if (λ (e : Endpoint). IsFit e.iface) (endpoint_in about.labels about.named.ns d) endpoint (endpoint_in-formed about.labels about.named.ns d) endpoint_read)))
   where
-    takable : (named : NamespacedName) (e : Endpoint) → is_formed_namespace named.ns ≡ true → IsOnWorkloadInterface e → IsTakable (update.Put (endpoint_key named) (item.Endpoint e))
-    takable named e key_formed on = (
-      both (is_formed_key (endpoint_key named)) (is_formed_endpoint e) key_formed on.0,
-      λ node. implied (bytes_eq e.node node) (is_workload e.iface) on.1,
+    takable : (named : NamespacedName) (e : Endpoint) → is_formed_namespace named.ns ≡ true → IsFit e.iface → IsTakable (update.Put (endpoint_key named) (item.Endpoint e))
+    takable named e key_formed fit = (
+      both (is_formed_key (endpoint_key named)) (is_formed_endpoint e) key_formed fit.0,
+      λ node. implied (bytes_eq e.node node) (is_workload e.iface) fit.1,
     )
 
 -- ---- puts and deletes
@@ -365,17 +402,16 @@ put_of-formed : (kind : Kind) (d : Data) → IfOk (put_of kind d) IsTakable
 put_of-formed AProfile d = profile_put-formed d
 put_of-formed WorkloadEndpoint d = endpoint_put-formed d
 
-resource_of-takable : (d : Data) → IfOk (resource_of d) IsTakable
+pub resource_of-takable : (d : Data) → IfOk (resource_of d) IsTakable
 unfolding resource_of
 resource_of-takable d = then-if IsTakable (kind_of d) _ (λ kind _. put_of-formed kind d)
 
-delete_of-takable : (d : Data) → IfOk (delete_of d) IsTakable
+pub delete_of-takable : (d : Data) → IfOk (delete_of d) IsTakable
 unfolding delete_of
 delete_of-takable d =
     then-if IsTakable (kind_of d) _ (λ kind _.
-    then-if IsTakable (section (codes "metadata") (codes "metadata") d) _ (λ metadata _.
-    then-if IsTakable (key_of kind (codes "metadata") metadata) _ (λ k k_read.
-    (read-if (λ (k : Key). is_formed_key k ≡ true) (key_of kind (codes "metadata") metadata) k (key_of-formed kind (codes "metadata") metadata) k_read, λ node. refl))))
+    then-if IsTakable (key_in kind d) _ (λ k k_read.
+    (read-if (λ (k : Key). is_formed_key k ≡ true) (key_in kind d) k (key_in-formed kind d) k_read, λ node. refl)))
 
 first-if : (answer : Result Update ReadFault) → IfOk answer IsTakable → IfOk answer (λ u. is_formed u ≡ true)
 first-if (Ok u) is = is.0
