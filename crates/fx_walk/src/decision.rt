@@ -36,8 +36,10 @@ impl Notes for ReasonsAlone {
 /// What the run of a packet gives. It takes no memory.
 pub fn decide<'a>(tables: &'a Tables, packet: &Packet) -> Outcome<'a>
     requires { map.contains_key tables.now.chains forward ≡ true }
-    ensures machine { Decides tables.entry.now packet.now result.verdict (option_copied result.egress) (option_copied result.ingress) }
-    ensures policy { IsPolicyAnswer tables.entry.now packet.now result.verdict (option_copied result.egress) (option_copied result.ingress) }
+    ensures machine { Decides tables.entry.now packet.now
+        result.verdict (option_copied result.egress) (option_copied result.ingress) }
+    ensures policy { IsPolicyAnswer tables.entry.now packet.now
+        result.verdict (option_copied result.egress) (option_copied result.ingress) }
 {
     let mut notes = ReasonsAlone;
     match walk_chain(

@@ -49,7 +49,8 @@ pub trait Notes {
     ghost noted: { Self → Reasons → State };
 
     fn note(&mut self, hop: &Hop, rule: &ChainRule) -> Result<(), Self::Fault>
-        ensures ok { OnOk result ((s : Reasons) → noted self.new (last_reason hop.now.chain hop.now.place rule.now s) ≡ note hop.now.chain hop.now.place rule.now (noted self.old s)) }
+        ensures ok { OnOk result ((s : Reasons) → noted self.new (last_reason hop.now.chain hop.now.place rule.now s)
+            ≡ note hop.now.chain hop.now.place rule.now (noted self.old s)) }
         ensures err { OnErr result ((s : Reasons) → noted self.new s ≡ noted self.old s) };
 }
 

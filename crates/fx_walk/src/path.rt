@@ -58,8 +58,10 @@ pub fn trace<'a>(
     path: &mut Vec<Hop>,
 ) -> Result<Outcome<'a>, Memory>
     requires { map.contains_key tables.now.chains forward ≡ true }
-    ensures machine { IfOk result (λ o. Traces tables.entry.now packet.now (hops_of path.old.items) (hops_of path.new.items) o.verdict (option_copied o.egress) (option_copied o.ingress)) }
-    ensures policy { IfOk result (λ o. IsPolicyAnswer tables.entry.now packet.now o.verdict (option_copied o.egress) (option_copied o.ingress)) }
+    ensures machine { IfOk result (λ o. Traces tables.entry.now packet.now (hops_of path.old.items) (hops_of path.new.items)
+        o.verdict (option_copied o.egress) (option_copied o.ingress)) }
+    ensures policy { IfOk result (λ o. IsPolicyAnswer tables.entry.now packet.now
+        o.verdict (option_copied o.egress) (option_copied o.ingress)) }
     // On want of memory the path has grown by a prefix of the hops.
     ensures err { OnErr result (CutsRun tables.entry.now packet.now (hops_of path.old.items) (hops_of path.new.items)) }
 {

@@ -20,7 +20,8 @@ fn note_match<'a, N: Notes>(
     notes: &mut N,
 ) -> Result<Seen<'a>, N::Fault>
     ensures mark { IfOk result (λ s. s.mark ≡ seen.entry.mark) }
-    ensures ok { IfOk result (λ s. N.noted notes.new (reasons_of s) ≡ N.note hop.now.chain hop.now.place rule.entry.now (N.noted notes.old (reasons_of seen.entry))) }
+    ensures ok { IfOk result (λ s. N.noted notes.new (reasons_of s)
+        ≡ N.note hop.now.chain hop.now.place rule.entry.now (N.noted notes.old (reasons_of seen.entry))) }
     ensures err { OnErr result ((s : Reasons) → N.noted notes.new s ≡ N.noted notes.old s) }
 {
     notes.note(hop, rule)?;
@@ -37,8 +38,12 @@ fn follow<'a, N: Notes>(
     seen: Seen<'a>,
     notes: &mut N,
 ) -> Result<WalkEnd<'a>, N::Fault>
-    ensures ok { IfOk result (λ end. ended_by (N.noted notes.new) end ≡ obeyed (chain_walk N.note tables.entry.now packet.now depth) target.now seen.entry.mark (N.noted notes.old (reasons_of seen.entry))) }
-    ensures err { OnErr result (BreaksOff N.State N.note (N.noted notes.new) (N.noted notes.old (reasons_of seen.entry)) (obeyed (chain_walk N.note tables.entry.now packet.now depth) target.now seen.entry.mark (N.noted notes.old (reasons_of seen.entry)))) }
+    ensures ok { IfOk result (λ end. ended_by (N.noted notes.new) end
+        ≡ obeyed (chain_walk N.note tables.entry.now packet.now depth) target.now seen.entry.mark
+        (N.noted notes.old (reasons_of seen.entry))) }
+    ensures err { OnErr result (BreaksOff N.State N.note (N.noted notes.new) (N.noted notes.old (reasons_of seen.entry))
+        (obeyed (chain_walk N.note tables.entry.now packet.now depth) target.now seen.entry.mark
+        (N.noted notes.old (reasons_of seen.entry)))) }
 {
     match target {
         Target::Accept => Ok(WalkEnd::Accepted(seen)),
@@ -72,8 +77,14 @@ fn walk_rule<'a, N: Notes>(
     seen: Seen<'a>,
     notes: &mut N,
 ) -> Result<WalkEnd<'a>, N::Fault>
-    ensures ok { IfOk result (λ end. ended_by (N.noted notes.new) end ≡ over_rule N.note (holds tables.entry.now.sets packet.now) (chain_walk N.note tables.entry.now packet.now depth) hop.chain hop.place rule.entry.now seen.entry.mark (N.noted notes.old (reasons_of seen.entry))) }
-    ensures err { OnErr result (BreaksOff N.State N.note (N.noted notes.new) (N.noted notes.old (reasons_of seen.entry)) (over_rule N.note (holds tables.entry.now.sets packet.now) (chain_walk N.note tables.entry.now packet.now depth) hop.chain hop.place rule.entry.now seen.entry.mark (N.noted notes.old (reasons_of seen.entry)))) }
+    ensures ok { IfOk result (λ end. ended_by (N.noted notes.new) end
+        ≡ over_rule N.note (holds tables.entry.now.sets packet.now) (chain_walk N.note tables.entry.now packet.now depth)
+        hop.chain hop.place rule.entry.now seen.entry.mark
+        (N.noted notes.old (reasons_of seen.entry))) }
+    ensures err { OnErr result (BreaksOff N.State N.note (N.noted notes.new) (N.noted notes.old (reasons_of seen.entry))
+        (over_rule N.note (holds tables.entry.now.sets packet.now) (chain_walk N.note tables.entry.now packet.now depth)
+        hop.chain hop.place rule.entry.now seen.entry.mark
+        (N.noted notes.old (reasons_of seen.entry)))) }
 {
     if all_hold(tables.sets(), packet, seen.mark, rule.matches.as_slice()) {
         let now = note_match(&hop, rule, seen, notes)?;
@@ -94,8 +105,14 @@ fn walk_rules<'a, N: Notes>(
     before: Seen<'a>,
     notes: &mut N,
 ) -> Result<WalkEnd<'a>, N::Fault>
-    ensures ok { IfOk result (λ end. ended_by (N.noted notes.new) end ≡ over_rules N.note (holds tables.entry.now.sets packet.now) (chain_walk N.note tables.entry.now packet.now depth) chain 1 rules.entry.now before.entry.mark (N.noted notes.old (reasons_of before.entry))) }
-    ensures err { OnErr result (BreaksOff N.State N.note (N.noted notes.new) (N.noted notes.old (reasons_of before.entry)) (over_rules N.note (holds tables.entry.now.sets packet.now) (chain_walk N.note tables.entry.now packet.now depth) chain 1 rules.entry.now before.entry.mark (N.noted notes.old (reasons_of before.entry)))) }
+    ensures ok { IfOk result (λ end. ended_by (N.noted notes.new) end
+        ≡ over_rules N.note (holds tables.entry.now.sets packet.now) (chain_walk N.note tables.entry.now packet.now depth)
+        chain 1 rules.entry.now before.entry.mark
+        (N.noted notes.old (reasons_of before.entry))) }
+    ensures err { OnErr result (BreaksOff N.State N.note (N.noted notes.new) (N.noted notes.old (reasons_of before.entry))
+        (over_rules N.note (holds tables.entry.now.sets packet.now) (chain_walk N.note tables.entry.now packet.now depth)
+        chain 1 rules.entry.now before.entry.mark
+        (N.noted notes.old (reasons_of before.entry)))) }
 {
     let mut seen = before;
     for (i, rule) in rules.iter().enumerate() {
@@ -126,8 +143,12 @@ pub fn walk_chain<'a, N: Notes>(
     seen: Seen<'a>,
     notes: &mut N,
 ) -> Result<WalkEnd<'a>, N::Fault>
-    ensures ok { IfOk result (λ end. ended_by (N.noted notes.new) end ≡ chain_walk N.note tables.entry.now packet.now depth chain seen.entry.mark (N.noted notes.old (reasons_of seen.entry))) }
-    ensures err { OnErr result (BreaksOff N.State N.note (N.noted notes.new) (N.noted notes.old (reasons_of seen.entry)) (chain_walk N.note tables.entry.now packet.now depth chain seen.entry.mark (N.noted notes.old (reasons_of seen.entry)))) }
+    ensures ok { IfOk result (λ end. ended_by (N.noted notes.new) end
+        ≡ chain_walk N.note tables.entry.now packet.now depth chain seen.entry.mark
+        (N.noted notes.old (reasons_of seen.entry))) }
+    ensures err { OnErr result (BreaksOff N.State N.note (N.noted notes.new) (N.noted notes.old (reasons_of seen.entry))
+        (chain_walk N.note tables.entry.now packet.now depth chain seen.entry.mark
+        (N.noted notes.old (reasons_of seen.entry)))) }
     ensures ranked { IsRanked tables.entry.now.chains }
 {
     let Some(rules) = tables.chain(chain) else {
