@@ -40,7 +40,10 @@ fn write_policies(
     tables: &mut Tables,
 ) -> Result<(), Memory>
     requires { CanBeWritten tables.old.sets tables.old.chains (flat_map policy_chains (maps.entries policies.now)) }
-    ensures { OnOk result (tables.new ≡ record tables.old { chains = extended tables.old.chains (flat_map policy_chains (maps.entries policies.now)) }) }
+    ensures { OnOk result (tables.new ≡ record tables.old {
+      chains = extended tables.old.chains
+          (flat_map policy_chains (maps.entries policies.now));
+    }) }
 {
     for (key, policy) in policies.iter() {
         write_policy(alloc, key, policy, tables)?;
@@ -55,7 +58,10 @@ fn write_policy(
     tables: &mut Tables,
 ) -> Result<(), Memory>
     requires { CanBeWritten tables.old.sets tables.old.chains (policy_chains (key.now, policy.now)) }
-    ensures { OnOk result (tables.new ≡ record tables.old { chains = extended tables.old.chains (policy_chains (key.now, policy.now)) }) }
+    ensures { OnOk result (tables.new ≡ record tables.old {
+      chains = extended tables.old.chains
+          (policy_chains (key.now, policy.now));
+    }) }
 {
     let ingress = policy_chain(alloc, policy, true)?;
     tables.write_chain(policy_name(true, key), ingress)?;
@@ -68,9 +74,13 @@ fn write_profiles(
     profiles: &NameMap<ViewProfile>,
     tables: &mut Tables,
 ) -> Result<(), Memory>
-    requires writable { CanBeWritten tables.old.sets tables.old.chains (flat_map profile_chains (maps.entries profiles.now)) }
+    requires writable { CanBeWritten tables.old.sets tables.old.chains
+        (flat_map profile_chains (maps.entries profiles.now)) }
     requires formed { list_all is_formed_view_profile (maps.entries profiles.now) ≡ true }
-    ensures { OnOk result (tables.new ≡ record tables.old { chains = extended tables.old.chains (flat_map profile_chains (maps.entries profiles.now)) }) }
+    ensures { OnOk result (tables.new ≡ record tables.old {
+      chains = extended tables.old.chains
+          (flat_map profile_chains (maps.entries profiles.now));
+    }) }
 {
     for (key, profile) in profiles.iter() {
         write_profile(alloc, key, profile, tables)?;
@@ -86,7 +96,10 @@ fn write_profile(
 ) -> Result<(), Memory>
     requires writable { CanBeWritten tables.old.sets tables.old.chains (profile_chains (key.now, profile.now)) }
     requires formed { is_formed_view_profile (key.now, profile.now) ≡ true }
-    ensures { OnOk result (tables.new ≡ record tables.old { chains = extended tables.old.chains (profile_chains (key.now, profile.now)) }) }
+    ensures { OnOk result (tables.new ≡ record tables.old {
+      chains = extended tables.old.chains
+          (profile_chains (key.now, profile.now));
+    }) }
 {
     let ingress = profile_chain(alloc, profile, true)?;
     tables.write_chain(profile_name(true, key), ingress)?;
@@ -99,9 +112,13 @@ fn write_endpoints(
     endpoints: &TextMap<ViewEndpoint>,
     tables: &mut Tables,
 ) -> Result<(), Memory>
-    requires writable { CanBeWritten tables.old.sets tables.old.chains (flat_map endpoint_chains (maps.entries endpoints.now)) }
+    requires writable { CanBeWritten tables.old.sets tables.old.chains
+        (flat_map endpoint_chains (maps.entries endpoints.now)) }
     requires formed { list_all is_formed_view_endpoint (maps.entries endpoints.now) ≡ true }
-    ensures { OnOk result (tables.new ≡ record tables.old { chains = extended tables.old.chains (flat_map endpoint_chains (maps.entries endpoints.now)) }) }
+    ensures { OnOk result (tables.new ≡ record tables.old {
+      chains = extended tables.old.chains
+          (flat_map endpoint_chains (maps.entries endpoints.now));
+    }) }
 {
     for (iface, endpoint) in endpoints.iter() {
         write_endpoint(alloc, iface, endpoint, tables)?;
@@ -117,7 +134,10 @@ fn write_endpoint(
 ) -> Result<(), Memory>
     requires writable { CanBeWritten tables.old.sets tables.old.chains (endpoint_chains (iface.now, endpoint.now)) }
     requires formed { is_formed_view_endpoint (iface.now, endpoint.now) ≡ true }
-    ensures { OnOk result (tables.new ≡ record tables.old { chains = extended tables.old.chains (endpoint_chains (iface.now, endpoint.now)) }) }
+    ensures { OnOk result (tables.new ≡ record tables.old {
+      chains = extended tables.old.chains
+          (endpoint_chains (iface.now, endpoint.now));
+    }) }
 {
     let ingress = endpoint_chain(alloc, endpoint, true)?;
     tables.write_chain(endpoint_name(true, iface), ingress)?;
@@ -128,7 +148,10 @@ fn write_endpoint(
 fn write_dispatch(alloc: Global, view: &View, tables: &mut Tables) -> Result<(), Memory>
     requires writable { CanBeWritten tables.old.sets tables.old.chains (dispatch_chains view.now) }
     requires formed { list_all is_formed_view_endpoint (maps.entries view.now.endpoints) ≡ true }
-    ensures { OnOk result (tables.new ≡ record tables.old { chains = extended tables.old.chains (dispatch_chains view.now) }) }
+    ensures { OnOk result (tables.new ≡ record tables.old {
+      chains = extended tables.old.chains
+          (dispatch_chains view.now);
+    }) }
 {
     let to = dispatch_chain(alloc, &view.endpoints, true)?;
     tables.write_chain(root_name(true), to)?;

@@ -74,7 +74,8 @@ impl Engine {
         requires few { self.old.lines < 2 ^ 64 - 1 }
         ensures invariant { OnOk result (HoldsInvariant R.digest_of self.new) }
         ensures state { OnOk result (state_of R.digest_of self.new ≡ next (state_of R.digest_of self.old) line.now) }
-        ensures writes { Writes (K.state sink.old) (K.state sink.new) (text (state_of R.digest_of self.old) line.now) result }
+        ensures writes { Writes (K.state sink.old) (K.state sink.new)
+            (text (state_of R.digest_of self.old) line.now) result }
     {
         let said = command_in(self.alloc, line)?;
         let answer = checked(self.alloc, &self.store, said, namer)?;
@@ -92,7 +93,8 @@ impl Engine {
         requires fits { IfOk answer (Fits R.digest_of self.old.store.resources) }
         ensures invariant { OnOk result (HoldsInvariant R.digest_of self.new) }
         ensures state { OnOk result (state_of R.digest_of self.new ≡ after_answer (state_of R.digest_of self.old) answer) }
-        ensures writes { Writes (K.state sink.old) (K.state sink.new) (answer_text (state_of R.digest_of self.old) answer) result }
+        ensures writes { Writes (K.state sink.old) (K.state sink.new)
+            (answer_text (state_of R.digest_of self.old) answer) result }
     {
         self.lines += 1;
         match answer {
@@ -113,7 +115,8 @@ impl Engine {
         requires invariant { HoldsInvariant R.digest_of self.old }
         requires fits { Fits R.digest_of self.old.store.resources (Command.Update update) }
         ensures invariant { OnOk result (HoldsInvariant R.digest_of self.new) }
-        ensures state { OnOk result (state_of R.digest_of self.new ≡ record (state_of R.digest_of self.old) { resources = after self.old.store.resources update }) }
+        ensures state { OnOk result (state_of R.digest_of self.new
+            ≡ record (state_of R.digest_of self.old) { resources = after self.old.store.resources update }) }
     {
         self.store.apply(update, namer)?;
         Ok(())
@@ -121,7 +124,8 @@ impl Engine {
 
     fn put_tables<K: Sink>(&self, sink: &mut K) -> Result<(), RunFault>
         requires rendered { IsRendered self.now }
-        ensures writes { Writes (K.state sink.old) (K.state sink.new) (concat (table_lines (tables_of self.now.sent))) result }
+        ensures writes { Writes (K.state sink.old) (K.state sink.new)
+            (concat (table_lines (tables_of self.now.sent))) result }
     {
         let lines = tables_text(self.alloc, self.tables.sets(), self.tables.chains())?;
         put_all(&lines, sink)
@@ -129,7 +133,8 @@ impl Engine {
 
     fn put_packet<K: Sink>(&self, packet: &Packet, sink: &mut K) -> Result<(), RunFault>
         requires rendered { IsRendered self.now }
-        ensures writes { Writes (K.state sink.old) (K.state sink.new) (packet_text (tables_of self.now.sent) packet.now) result }
+        ensures writes { Writes (K.state sink.old) (K.state sink.new)
+            (packet_text (tables_of self.now.sent) packet.now) result }
     {
         let lines = self.decided(packet)?;
         put_all(&lines, sink)
@@ -171,8 +176,13 @@ impl Engine {
     ) -> Result<(), RunFault>
         requires invariant { HoldsInvariant R.digest_of self.old }
         ensures invariant { OnOk result (HoldsInvariant R.digest_of self.new) }
-        ensures state { OnOk result (state_of R.digest_of self.new ≡ record (state_of R.digest_of self.old) { sent = (flush None self.old.sent (view_of R.digest_of self.old.store.resources)).ends }) }
-        ensures writes { Writes (K.state sink.old) (K.state sink.new) (flush_text self.old.sent (view_of R.digest_of self.old.store.resources)) result }
+        ensures state { OnOk result (state_of R.digest_of self.new
+            ≡ record (state_of R.digest_of self.old) {
+              sent = (flush None self.old.sent
+                  (view_of R.digest_of self.old.store.resources)).ends;
+            }) }
+        ensures writes { Writes (K.state sink.old) (K.state sink.new)
+            (flush_text self.old.sent (view_of R.digest_of self.old.store.resources)) result }
     {
         let wanted = view_of(self.alloc, self.store.resources(), namer)?;
         let tables = tables_of(self.alloc, &wanted)?;
@@ -260,7 +270,8 @@ fn is_second_local(resources: &Resources, update: &Update) -> bool
 
 // Whether an endpoint with another key is local.
 fn has_other_local(resources: &Resources, key: &ItemKey) -> bool
-    ensures { result ≡ list_any (λ x. is_local resources.now x.1 && not (item_eq.eq-value.it x.0 key.now)) (maps.entries resources.now.endpoints) }
+    ensures { result ≡ list_any (λ x. is_local resources.now x.1 && not (item_eq.eq-value.it x.0 key.now))
+        (maps.entries resources.now.endpoints) }
 {
     for (other, endpoint) in resources.endpoints.iter() {
         if resources.is_local(endpoint) && other != key {

@@ -87,7 +87,8 @@ pub fn felix_replay<S: Source, K: Sink, R: DigestRule, F: DigestFunction<R> + Dr
     // What a run that ended early has written is a prefix of the output.
     ensures stopped { IsSome (node_of words.now) → EndedEarly result
         → Stopped R.digest_of (node_name words.now) (S.state source.old) (S.state source.new) (K.state sink.old) (K.state sink.new) }
-    ensures usage_prefix { node_of words.now ≡ None → AppendsPrefix (K.state sink.old).held (K.state sink.new).held usage_line }
+    ensures usage_prefix { node_of words.now ≡ None
+        → AppendsPrefix (K.state sink.old).held (K.state sink.new).held usage_line }
 
     // Each other end has its cause.
     ensures read_fault { result ≡ Status.ReadFault → SourceFailed (S.state source.old) (S.state source.new) }

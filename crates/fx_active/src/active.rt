@@ -174,7 +174,10 @@ impl ActiveRules {
     ) -> Result<(), Memory>
         requires absent { set.contains self.old.matched (selector.now, item.now) ≡ false }
         requires active { IsActive self.old (S.policies sink.old) (S.profiles sink.old) (S.pairs sink.old) }
-        ensures inputs { OnOk result (self.new ≡ record self.old { matched = set.insert self.old.matched (selector.now, item.now) }) }
+        ensures inputs { OnOk result (self.new ≡ record self.old {
+          matched = set.insert self.old.matched
+              (selector.now, item.now);
+        }) }
         ensures active { OnOk result (IsActive self.new (S.policies sink.new) (S.profiles sink.new) (S.pairs sink.new)) }
     {
         tell_match(&self.inputs, selector, item, true, sink)?;
@@ -191,7 +194,10 @@ impl ActiveRules {
     ) -> Result<(), Memory>
         requires present { set.contains self.old.matched (selector.now, item.now) ≡ true }
         requires active { IsActive self.old (S.policies sink.old) (S.profiles sink.old) (S.pairs sink.old) }
-        ensures inputs { OnOk result (self.new ≡ record self.old { matched = set.remove self.old.matched (selector.now, item.now) }) }
+        ensures inputs { OnOk result (self.new ≡ record self.old {
+          matched = set.remove self.old.matched
+              (selector.now, item.now);
+        }) }
         ensures active { OnOk result (IsActive self.new (S.policies sink.new) (S.profiles sink.new) (S.pairs sink.new)) }
     {
         self.inputs.matched.remove(selector, item);

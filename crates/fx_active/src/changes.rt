@@ -22,10 +22,15 @@ pub fn tell_policy<S: ActiveSink>(
     indexed: &IndexedPolicy,
     sink: &mut S,
 ) -> Result<(), Memory>
-    requires policies { is_some (map.get (S.policies sink.old) id.now) ≡ is_some (where_active inputs.now.endpoints inputs.now.matched (option_copied before)) }
-    requires pairs { (i : ItemKey) → set.contains (S.pairs sink.old) (id.now, i) ≡ applies_to inputs.now.endpoints inputs.now.matched (option_copied before) i }
-    ensures policies { OnOk result (S.policies sink.new ≡ insert_or_remove (S.policies sink.old) id.now indexed.now (is_some (where_active inputs.now.endpoints inputs.now.matched (Some indexed.now)))) }
-    ensures pairs { OnOk result (IsRowSet id.now (λ i. applies_to inputs.now.endpoints inputs.now.matched (Some indexed.now) i) (S.pairs sink.old) (S.pairs sink.new)) }
+    requires policies { is_some (map.get (S.policies sink.old) id.now)
+        ≡ is_some (where_active inputs.now.endpoints inputs.now.matched (option_copied before)) }
+    requires pairs { (i : ItemKey) → set.contains (S.pairs sink.old) (id.now, i)
+        ≡ applies_to inputs.now.endpoints inputs.now.matched (option_copied before) i }
+    ensures policies { OnOk result (S.policies sink.new
+        ≡ insert_or_remove (S.policies sink.old) id.now indexed.now
+        (is_some (where_active inputs.now.endpoints inputs.now.matched (Some indexed.now)))) }
+    ensures pairs { OnOk result (IsRowSet id.now (λ i. applies_to inputs.now.endpoints inputs.now.matched
+        (Some indexed.now) i) (S.pairs sink.old) (S.pairs sink.new)) }
     ensures profiles { OnOk result (S.profiles sink.new ≡ S.profiles sink.old) }
 {
     if is_active(inputs, Some(indexed)) {
@@ -45,8 +50,10 @@ pub fn withdraw_policy<S: ActiveSink>(
     before: Option<&IndexedPolicy>,
     sink: &mut S,
 ) -> Result<(), Memory>
-    requires policies { is_some (map.get (S.policies sink.old) id.now) ≡ is_some (where_active inputs.now.endpoints inputs.now.matched (option_copied before)) }
-    requires pairs { (i : ItemKey) → set.contains (S.pairs sink.old) (id.now, i) ≡ applies_to inputs.now.endpoints inputs.now.matched (option_copied before) i }
+    requires policies { is_some (map.get (S.policies sink.old) id.now)
+        ≡ is_some (where_active inputs.now.endpoints inputs.now.matched (option_copied before)) }
+    requires pairs { (i : ItemKey) → set.contains (S.pairs sink.old) (id.now, i)
+        ≡ applies_to inputs.now.endpoints inputs.now.matched (option_copied before) i }
     ensures policies { OnOk result (S.policies sink.new ≡ map.remove (S.policies sink.old) id.now) }
     ensures pairs { OnOk result (IsRowSet id.now (λ _. false) (S.pairs sink.old) (S.pairs sink.new)) }
     ensures profiles { OnOk result (S.profiles sink.new ≡ S.profiles sink.old) }
@@ -64,8 +71,12 @@ pub fn tell_endpoint<S: ActiveSink>(
 ) -> Result<(), Memory>
     requires policies { ArePolicies inputs.now.policies inputs.now.endpoints inputs.now.matched (S.policies sink.old) }
     requires pairs { ArePairs inputs.now.policies inputs.now.endpoints inputs.now.matched (S.pairs sink.old) }
-    ensures policies { OnOk result ((names : List (List ℕ)) → ArePolicies inputs.now.policies (map.insert inputs.now.endpoints key.now names) inputs.now.matched (S.policies sink.new)) }
-    ensures pairs { OnOk result ((names : List (List ℕ)) → ArePairs inputs.now.policies (map.insert inputs.now.endpoints key.now names) inputs.now.matched (S.pairs sink.new)) }
+    ensures policies { OnOk result ((names : List (List ℕ))
+        → ArePolicies inputs.now.policies (map.insert inputs.now.endpoints key.now names) inputs.now.matched
+        (S.policies sink.new)) }
+    ensures pairs { OnOk result ((names : List (List ℕ))
+        → ArePairs inputs.now.policies (map.insert inputs.now.endpoints key.now names) inputs.now.matched
+        (S.pairs sink.new)) }
     ensures profiles { OnOk result (S.profiles sink.new ≡ S.profiles sink.old) }
 {
     if !inputs.endpoints.contains_key(key) {
@@ -83,10 +94,14 @@ pub fn tell_match<S: ActiveSink>(
     sink: &mut S,
 ) -> Result<(), Memory>
     requires absent { set.contains inputs.now.matched (selector.now, item.now) ≡ false }
-    requires policies { ArePolicies inputs.now.policies inputs.now.endpoints (beside inputs.now.matched (selector.now, item.now) (not added)) (S.policies sink.old) }
-    requires pairs { ArePairs inputs.now.policies inputs.now.endpoints (beside inputs.now.matched (selector.now, item.now) (not added)) (S.pairs sink.old) }
-    ensures policies { OnOk result (ArePolicies inputs.now.policies inputs.now.endpoints (beside inputs.now.matched (selector.now, item.now) added) (S.policies sink.new)) }
-    ensures pairs { OnOk result (ArePairs inputs.now.policies inputs.now.endpoints (beside inputs.now.matched (selector.now, item.now) added) (S.pairs sink.new)) }
+    requires policies { ArePolicies inputs.now.policies inputs.now.endpoints
+        (beside inputs.now.matched (selector.now, item.now) (not added)) (S.policies sink.old) }
+    requires pairs { ArePairs inputs.now.policies inputs.now.endpoints
+        (beside inputs.now.matched (selector.now, item.now) (not added)) (S.pairs sink.old) }
+    ensures policies { OnOk result (ArePolicies inputs.now.policies inputs.now.endpoints
+        (beside inputs.now.matched (selector.now, item.now) added) (S.policies sink.new)) }
+    ensures pairs { OnOk result (ArePairs inputs.now.policies inputs.now.endpoints
+        (beside inputs.now.matched (selector.now, item.now) added) (S.pairs sink.new)) }
     ensures profiles { OnOk result (S.profiles sink.new ≡ S.profiles sink.old) }
 {
     if inputs.endpoints.contains_key(item) {

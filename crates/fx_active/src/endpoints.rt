@@ -76,7 +76,9 @@ impl Endpoints {
         profile: Option<&Profile>,
         sink: &mut S,
     ) -> Result<(), Memory>
-        ensures profiles { OnOk result (S.profiles sink.new ≡ cond (is_listed self.now name.now) (map.insert (S.profiles sink.old) name.now (option_copied profile.entry)) (S.profiles sink.old)) }
+        ensures profiles { OnOk result (S.profiles sink.new
+            ≡ cond (is_listed self.now name.now) (map.insert (S.profiles sink.old) name.now
+            (option_copied profile.entry)) (S.profiles sink.old)) }
         ensures policies { OnOk result (S.policies sink.new ≡ S.policies sink.old) }
         ensures pairs { OnOk result (S.pairs sink.new ≡ S.pairs sink.old) }
     {

@@ -49,7 +49,8 @@ impl Listings {
 
     /// Whether this is the profile's first listing.
     fn raise(&mut self, name: &Text) -> Result<bool, Memory>
-        ensures counts { OnOk result ((q : List ℕ) → count_at self.new q ≡ cond (pointwise nat_eq name.now q) 1 0 + count_at self.old q) }
+        ensures counts { OnOk result ((q : List ℕ)
+            → count_at self.new q ≡ cond (pointwise nat_eq name.now q) 1 0 + count_at self.old q) }
         ensures first { IfOk result (λ first. first ≡ (count_at self.old name.now == 0)) }
     {
         let mut uses = self.counts.remove(name).unwrap_or(Uses::new(self.alloc));
@@ -102,7 +103,8 @@ impl Listings {
         sink: &mut S,
     ) -> Result<(), Memory>
         requires { AreCounted profiles.now self.old (S.profiles sink.old) }
-        ensures counts { OnOk result ((q : List ℕ) → count_at self.new q ≡ cond (pointwise nat_eq name.now q) 1 0 + count_at self.old q) }
+        ensures counts { OnOk result ((q : List ℕ)
+            → count_at self.new q ≡ cond (pointwise nat_eq name.now q) 1 0 + count_at self.old q) }
         ensures profiles { OnOk result (AreCounted profiles.now self.new (S.profiles sink.new)) }
         ensures policies { OnOk result (S.policies sink.new ≡ S.policies sink.old) }
         ensures pairs { OnOk result (S.pairs sink.new ≡ S.pairs sink.old) }
@@ -141,7 +143,8 @@ impl Listings {
     ) -> Result<(), Memory>
         requires counts { 0 < count_at self.old name.now }
         requires profiles { AreCounted profiles.now self.old (S.profiles sink.old) }
-        ensures counts { OnOk result ((q : List ℕ) → cond (pointwise nat_eq name.now q) 1 0 + count_at self.new q ≡ count_at self.old q) }
+        ensures counts { OnOk result ((q : List ℕ)
+            → cond (pointwise nat_eq name.now q) 1 0 + count_at self.new q ≡ count_at self.old q) }
         ensures profiles { OnOk result (AreCounted profiles.now self.new (S.profiles sink.new)) }
         ensures policies { OnOk result (S.policies sink.new ≡ S.policies sink.old) }
         ensures pairs { OnOk result (S.pairs sink.new ≡ S.pairs sink.old) }

@@ -63,7 +63,8 @@ fn update_pair<S: ActiveSink>(
 ) -> Result<(), Memory>
     requires pair { set.contains (S.pairs sink.old) (id.now, item.now) ≡ not added }
     requires policy { others ≡ false → is_some (map.get (S.policies sink.old) id.now) ≡ not added }
-    ensures policies { OnOk result (S.policies sink.new ≡ cond others (S.policies sink.old) (insert_or_remove (S.policies sink.old) id.now policy.now added)) }
+    ensures policies { OnOk result (S.policies sink.new
+        ≡ cond others (S.policies sink.old) (insert_or_remove (S.policies sink.old) id.now policy.now added)) }
     ensures pairs { OnOk result (S.pairs sink.new ≡ put (S.pairs sink.old) (id.now, item.now) added) }
     ensures profiles { OnOk result (S.profiles sink.new ≡ S.profiles sink.old) }
 {
@@ -86,9 +87,13 @@ pub fn update_with_text<S: ActiveSink>(
     others: bool,
     sink: &mut S,
 ) -> Result<(), Memory>
-    requires pairs { (id : PolicyId) → has_typed_text text.now (map.get policies.now id) ≡ true → set.contains (S.pairs sink.old) (id, item.now) ≡ not added }
-    requires policies { (id : PolicyId) → (has_typed_text text.now (map.get policies.now id) && not others) ≡ true → is_some (map.get (S.policies sink.old) id) ≡ not added }
-    ensures updated { OnOk result (IsUpdated policies.now (λ id. has_typed_text text.now (map.get policies.now id)) (λ id. others) item.now added (S.policies sink.old) (S.pairs sink.old) (S.policies sink.new) (S.pairs sink.new)) }
+    requires pairs { (id : PolicyId) → has_typed_text text.now (map.get policies.now id) ≡ true
+        → set.contains (S.pairs sink.old) (id, item.now) ≡ not added }
+    requires policies { (id : PolicyId) → (has_typed_text text.now (map.get policies.now id) && not others) ≡ true
+        → is_some (map.get (S.policies sink.old) id) ≡ not added }
+    ensures updated { OnOk result (IsUpdated policies.now (λ id. has_typed_text text.now (map.get policies.now id))
+        (λ id. others) item.now added (S.policies sink.old) (S.pairs sink.old) (S.policies sink.new)
+        (S.pairs sink.new)) }
     ensures profiles { OnOk result (S.profiles sink.new ≡ S.profiles sink.old) }
 {
     if let Some(ids) = policies.with_text(text) {
@@ -105,9 +110,13 @@ fn update_ids<S: ActiveSink>(
     others: bool,
     sink: &mut S,
 ) -> Result<(), Memory>
-    requires pairs { (id : PolicyId) → (set.contains ids.now id && is_typed (map.get policies.now id)) ≡ true → set.contains (S.pairs sink.old) (id, item.now) ≡ not added }
-    requires policies { (id : PolicyId) → ((set.contains ids.now id && is_typed (map.get policies.now id)) && not others) ≡ true → is_some (map.get (S.policies sink.old) id) ≡ not added }
-    ensures updated { OnOk result (IsUpdated policies.now (λ id. set.contains ids.now id && is_typed (map.get policies.now id)) (λ id. others) item.now added (S.policies sink.old) (S.pairs sink.old) (S.policies sink.new) (S.pairs sink.new)) }
+    requires pairs { (id : PolicyId) → (set.contains ids.now id && is_typed (map.get policies.now id)) ≡ true
+        → set.contains (S.pairs sink.old) (id, item.now) ≡ not added }
+    requires policies { (id : PolicyId) → ((set.contains ids.now id && is_typed
+        (map.get policies.now id)) && not others) ≡ true → is_some (map.get (S.policies sink.old) id) ≡ not added }
+    ensures updated { OnOk result (IsUpdated policies.now
+        (λ id. set.contains ids.now id && is_typed (map.get policies.now id)) (λ id. others) item.now added
+        (S.policies sink.old) (S.pairs sink.old) (S.policies sink.new) (S.pairs sink.new)) }
     ensures profiles { OnOk result (S.profiles sink.new ≡ S.profiles sink.old) }
 {
     for (id, _) in ids.iter() {
@@ -125,9 +134,15 @@ pub fn update_endpoint<S: ActiveSink>(
     added: bool,
     sink: &mut S,
 ) -> Result<(), Memory>
-    requires pairs { (id : PolicyId) → selects inputs.now.matched item.now (map.get inputs.now.policies id) ≡ true → set.contains (S.pairs sink.old) (id, item.now) ≡ not added }
-    requires policies { (id : PolicyId) → (selects inputs.now.matched item.now (map.get inputs.now.policies id) && not (holds_of inputs.now.endpoints inputs.now.matched (map.get inputs.now.policies id))) ≡ true → is_some (map.get (S.policies sink.old) id) ≡ not added }
-    ensures updated { OnOk result (IsUpdated inputs.now.policies (λ id. selects inputs.now.matched item.now (map.get inputs.now.policies id)) (λ id. holds_of inputs.now.endpoints inputs.now.matched (map.get inputs.now.policies id)) item.now added (S.policies sink.old) (S.pairs sink.old) (S.policies sink.new) (S.pairs sink.new)) }
+    requires pairs { (id : PolicyId) → selects inputs.now.matched item.now (map.get inputs.now.policies id) ≡ true
+        → set.contains (S.pairs sink.old) (id, item.now) ≡ not added }
+    requires policies { (id : PolicyId) → (selects inputs.now.matched item.now (map.get inputs.now.policies id) && not
+        (holds_of inputs.now.endpoints inputs.now.matched (map.get inputs.now.policies id))) ≡ true
+        → is_some (map.get (S.policies sink.old) id) ≡ not added }
+    ensures updated { OnOk result (IsUpdated inputs.now.policies
+        (λ id. selects inputs.now.matched item.now (map.get inputs.now.policies id))
+        (λ id. holds_of inputs.now.endpoints inputs.now.matched (map.get inputs.now.policies id)) item.now added
+        (S.policies sink.old) (S.pairs sink.old) (S.policies sink.new) (S.pairs sink.new)) }
     ensures profiles { OnOk result (S.profiles sink.new ≡ S.profiles sink.old) }
 {
     for (id, indexed) in inputs.policies.iter() {
@@ -147,8 +162,10 @@ pub fn update_policy<S: ActiveSink>(
     after: Option<&IndexedPolicy>,
     sink: &mut S,
 ) -> Result<(), Memory>
-    requires { (i : ItemKey) → set.contains (S.pairs sink.old) (id.now, i) ≡ applies_to inputs.now.endpoints inputs.now.matched (option_copied before) i }
-    ensures pairs { OnOk result (IsRowSet id.now (λ i. applies_to inputs.now.endpoints inputs.now.matched (option_copied after.entry) i) (S.pairs sink.old) (S.pairs sink.new)) }
+    requires { (i : ItemKey) → set.contains (S.pairs sink.old) (id.now, i)
+        ≡ applies_to inputs.now.endpoints inputs.now.matched (option_copied before) i }
+    ensures pairs { OnOk result (IsRowSet id.now (λ i. applies_to inputs.now.endpoints inputs.now.matched
+        (option_copied after.entry) i) (S.pairs sink.old) (S.pairs sink.new)) }
     ensures policies { OnOk result (S.policies sink.new ≡ S.policies sink.old) }
     ensures profiles { OnOk result (S.profiles sink.new ≡ S.profiles sink.old) }
 {

@@ -111,7 +111,9 @@ fn add_id(
     text: &Text,
     id: &PolicyId,
 ) -> Result<(), Memory>
-    ensures { OnOk result ((t : List ℕ) (q : PolicyId) → has_key (map.get by_text.new t) q ≡ cond (pointwise nat_eq text.now t && same_id q id.now) true (has_key (map.get by_text.old t) q)) }
+    ensures { OnOk result ((t : List ℕ) (q : PolicyId)
+        → has_key (map.get by_text.new t) q ≡ cond (pointwise nat_eq text.now t && same_id q id.now) true
+        (has_key (map.get by_text.old t) q)) }
 {
     let mut ids = by_text.remove(text).unwrap_or(PolicyMap::new(alloc));
     ids.insert(id.clone()?, ())?;
@@ -122,7 +124,8 @@ fn add_id(
 // Without memory, so the ids are exchanged for none while they change.
 fn remove_id(alloc: Global, by_text: &mut TextMap<PolicyMap<()>>, text: &Text, id: &PolicyId)
     requires { IsSome (map.get by_text.old text.now) }
-    ensures { (t : List ℕ) (q : PolicyId) → has_key (map.get by_text.new t) q ≡ cond (pointwise nat_eq text.now t && same_id q id.now) false (has_key (map.get by_text.old t) q) }
+    ensures { (t : List ℕ) (q : PolicyId) → has_key (map.get by_text.new t) q
+        ≡ cond (pointwise nat_eq text.now t && same_id q id.now) false (has_key (map.get by_text.old t) q) }
 {
     let mut ids = PolicyMap::new(alloc);
     by_text.swap(text, &mut ids);

@@ -56,7 +56,8 @@ impl Sink for MemSink {
         ensures cause { HasCause (sink_state self.old).faults (sink_state self.new).faults result }
 
         // Exactly the calls that are listed and those that don't fit fail. They append nothing, and each is counted.
-        ensures listed { IsErr result ↔ (Contains (failing_puts self.old) (call_count self.old + 1) ⊎ (room_of self.old < length (held_bytes self.old) + length bytes.now)) }
+        ensures listed { IsErr result ↔ (Contains (failing_puts self.old) (call_count self.old + 1)
+            ⊎ (room_of self.old < length (held_bytes self.old) + length bytes.now)) }
         ensures nothing { OnErr result (held_bytes self.new ≡ held_bytes self.old) }
         ensures counts { CountsFaults (sink_state self.old).faults (sink_state self.new).faults result }
         ensures calls { call_count self.new ≡ min (call_count self.old + 1) (2 ^ 64 - 1) }

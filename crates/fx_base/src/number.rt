@@ -64,8 +64,10 @@ fn longer(read: Option<u32>, digit: u8, low: u32, high: u32) -> Option<u32>
 /// its length, and else the prefix's length.
 pub(crate) fn number(text: &[u8], low: u32, high: u32) -> Result<(u32, usize), usize>
     requires range { (low ≤ high) × (high < 2 ^ 16) }
-    ensures ok { IfOk result (λ found. IsNumber low high (take found.1 text.now) found.0 × GoesTo (IsNumber low high) text.now found.1) }
-    ensures err { IfErr result (λ at. (¬ IsIn (IsNumber low high) (take at text.now)) × GoesTo (IsNumber low high) text.now at) }
+    ensures ok { IfOk result (λ found. IsNumber low high (take found.1 text.now) found.0
+        × GoesTo (IsNumber low high) text.now found.1) }
+    ensures err { IfErr result (λ at. (¬ IsIn (IsNumber low high) (take at text.now))
+        × GoesTo (IsNumber low high) text.now at) }
 {
     let mut read = None;
     for (at, byte) in text.iter().enumerate() {

@@ -66,7 +66,8 @@ fn named(text: &[u8], name: &[u8], number: u8) -> Result<u8, usize>
 fn shared(text: &[u8], name: &[u8]) -> usize
     ensures within { (result ≤ length text.now) × (result ≤ length name.now) }
     ensures same { str_to_ascii_lowercase (take result text.now) ≡ take result name.now }
-    ensures stop { result < length text.now → result < length name.now → to_ascii_lowercase (slice_index text.now result) ≢ slice_index name.now result }
+    ensures stop { result < length text.now → result < length name.now
+        → to_ascii_lowercase (slice_index text.now result) ≢ slice_index name.now result }
 {
     for (at, byte) in text.iter().enumerate() {
         if at == name.len() || byte.to_ascii_lowercase() != name[at] {

@@ -135,7 +135,8 @@ pub fn defaulted<F: Form>(
 /// The value, which has to be an object.
 #[tactic(auto, unfolding(crate::specs::Fields::object_at))]
 pub fn object<'v>(alloc: Global, path: &Path<'_>, value: &'v Value) -> Result<&'v Value, ReadFault>
-    ensures { MatchResult result (λ v. object_at (text_of path.now) (view value.now) ≡ Ok (view v.now)) (IsReadFault (object_at (text_of path.now) (view value.now))) }
+    ensures { MatchResult result (λ v. object_at (text_of path.now) (view value.now) ≡ Ok (view v.now))
+        (IsReadFault (object_at (text_of path.now) (view value.now))) }
 {
     if value.is_object() {
         Ok(value)
@@ -156,7 +157,8 @@ pub fn section<'v>(
     nothing: &'v Value,
 ) -> Result<&'v Value, ReadFault>
     requires { view nothing.now ≡ null }
-    ensures { MatchResult result (λ v. section (text_of path.now) key.now (view outer.now) ≡ Ok (view v.now)) (IsReadFault (section (text_of path.now) key.now (view outer.now))) }
+    ensures { MatchResult result (λ v. section (text_of path.now) key.now (view outer.now) ≡ Ok (view v.now))
+        (IsReadFault (section (text_of path.now) key.now (view outer.now))) }
 {
     match field(outer, key) {
         Some(value) => object(alloc, path, value),
@@ -172,7 +174,8 @@ pub fn list_at<'v>(
     key: &str,
     object: &'v Value,
 ) -> Result<&'v [Value], ReadFault>
-    ensures { MatchResult result (λ values. list_at (text_of path.now) key.now (view object.now) ≡ Ok (items_view values.now)) (IsReadFault (list_at (text_of path.now) key.now (view object.now))) }
+    ensures { MatchResult result (λ values. list_at (text_of path.now) key.now (view object.now)
+        ≡ Ok (items_view values.now)) (IsReadFault (list_at (text_of path.now) key.now (view object.now))) }
 {
     let Some(value) = field(object, key) else {
         return Ok(&[]);

@@ -85,7 +85,8 @@ impl SelectorMap {
         requires selector { IsSelector selector.now }
         ensures raised { OnOk result (self.new ≡ raised self.old text.now selector.now) }
         // A text stands for one tree.
-        ensures same { OnOk result ((counted : Counted) → map.get self.old text.now ≡ Some counted → counted.selector ≡ selector.now) }
+        ensures same { OnOk result ((counted : Counted) → map.get self.old text.now ≡ Some counted
+            → counted.selector ≡ selector.now) }
     {
         let key = text.clone()?;
         let found = self.held.remove(text);

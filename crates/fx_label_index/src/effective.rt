@@ -33,7 +33,8 @@ pub fn effective_with(
     name: &Text,
     labels: Option<&Labels>,
 ) -> Result<Labels, Memory>
-    ensures { IfOk result (λ all. all ≡ effective (with_parent (map.get parents.now) name.now (option_copied labels.entry)) held.now.labels held.now.parents) }
+    ensures { IfOk result (λ all. all ≡ effective
+        (with_parent (map.get parents.now) name.now (option_copied labels.entry)) held.now.labels held.now.parents) }
 {
     let mut all = Labels::new(alloc);
     for listed in held.parents.as_slice().iter().rev() {

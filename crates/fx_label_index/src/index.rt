@@ -66,7 +66,10 @@ impl LabelIndex {
         ticks: &mut T,
     ) -> Result<(), Memory>
         requires { IsMatched self.old (S.pairs sink.old) }
-        ensures inputs { OnOk result (self.new ≡ record self.old { items = map.insert self.old.items key.now (record { labels = labels.now; parents = parents.now }) }) }
+        ensures inputs { OnOk result (self.new ≡ record self.old {
+          items = map.insert self.old.items key.now
+              (record { labels = labels.now; parents = parents.now });
+        }) }
         ensures matched { OnOk result (IsMatched self.new (S.pairs sink.new)) }
     {
         let held = Held {

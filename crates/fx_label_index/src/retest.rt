@@ -58,8 +58,11 @@ pub fn retest<S: MatchSink, T: Ticker>(
     sink: &mut S,
     ticks: &mut T,
 ) -> Result<(), Memory>
-    requires { (t : List ℕ) → set.contains (S.pairs sink.old) (t, key.now) ≡ tests (map.get selectors.now t) (option_copied before) }
-    ensures { OnOk result ((t : List ℕ) (i : ItemKey) → set.contains (S.pairs sink.new) (t, i) ≡ cond (item_eq i key.now) (tests (map.get selectors.now t) (option_copied after.entry)) (set.contains (S.pairs sink.old) (t, i))) }
+    requires { (t : List ℕ) → set.contains (S.pairs sink.old) (t, key.now)
+        ≡ tests (map.get selectors.now t) (option_copied before) }
+    ensures { OnOk result ((t : List ℕ) (i : ItemKey)
+        → set.contains (S.pairs sink.new) (t, i) ≡ cond (item_eq i key.now)
+        (tests (map.get selectors.now t) (option_copied after.entry)) (set.contains (S.pairs sink.old) (t, i))) }
 {
     for (text, counted) in selectors.iter() {
         let stood = holds_on(&counted.selector, before, ticks);
@@ -85,7 +88,8 @@ pub fn retest_items<S: MatchSink, T: Ticker>(
     ticks: &mut T,
 ) -> Result<(), Memory>
     requires { IsMatched inputs.now (S.pairs sink.old) }
-    ensures { OnOk result (IsMatchedBy inputs.now (with_parent (map.get inputs.now.parents) name.now (option_copied labels.entry)) (S.pairs sink.new)) }
+    ensures { OnOk result (IsMatchedBy inputs.now
+        (with_parent (map.get inputs.now.parents) name.now (option_copied labels.entry)) (S.pairs sink.new)) }
 {
     for (key, held) in inputs.items.iter() {
         if lists(held.parents.as_slice(), name) {
@@ -120,8 +124,12 @@ pub fn retest_selector<S: MatchSink, T: Ticker>(
     sink: &mut S,
     ticks: &mut T,
 ) -> Result<(), Memory>
-    requires { (i : ItemKey) → set.contains (S.pairs sink.old) (text.now, i) ≡ (stood && holds_on selector.now (labels_of (map.get inputs.now.parents) (map.get inputs.now.items i))) }
-    ensures { OnOk result ((t : List ℕ) (i : ItemKey) → set.contains (S.pairs sink.new) (t, i) ≡ cond (text_eq t text.now) (not stood && holds_on selector.now (labels_of (map.get inputs.now.parents) (map.get inputs.now.items i))) (set.contains (S.pairs sink.old) (t, i))) }
+    requires { (i : ItemKey) → set.contains (S.pairs sink.old) (text.now, i)
+        ≡ (stood && holds_on selector.now (labels_of (map.get inputs.now.parents) (map.get inputs.now.items i))) }
+    ensures { OnOk result ((t : List ℕ) (i : ItemKey)
+        → set.contains (S.pairs sink.new) (t, i) ≡ cond (text_eq t text.now)
+        (not stood && holds_on selector.now (labels_of (map.get inputs.now.parents) (map.get inputs.now.items i)))
+        (set.contains (S.pairs sink.old) (t, i))) }
 {
     for (key, held) in inputs.items.iter() {
         let labels = effective(alloc, held, &inputs.parents)?;
@@ -140,7 +148,8 @@ pub fn retest_last<S: MatchSink, T: Ticker>(
     ticks: &mut T,
 ) -> Result<(), Memory>
     requires { IsMatched inputs.now (S.pairs sink.old) }
-    ensures { OnOk result (IsMatched (record inputs.now { selectors = lowered inputs.now.selectors text.now }) (S.pairs sink.new)) }
+    ensures { OnOk result (IsMatched (record inputs.now { selectors = lowered inputs.now.selectors text.now })
+        (S.pairs sink.new)) }
 {
     let Some(selector) = inputs.selectors.last(text) else {
         return Ok(());

@@ -43,12 +43,14 @@ pub fn messages_stop_at_the_wanted_view()
 
 /// The next message settles one of the keys that differ, and unsettles none.
 pub fn message_leaves_one_difference_fewer()
-    ensures { (sent wanted : View) (next : Change) → next_message sent wanted ≡ Some next → differences (step_at next sent wanted) wanted + 1 ≡ differences sent wanted }
+    ensures { (sent wanted : View) (next : Change) → next_message sent wanted ≡ Some next
+        → differences (step_at next sent wanted) wanted + 1 ≡ differences sent wanted }
 {}
 
 /// On the way from a closed view to a closed view nothing is named that isn't there.
 pub fn message_keeps_the_sent_view_closed()
-    ensures { (sent wanted : View) (next : Change) → IsClosedView sent → IsClosedView wanted → next_message sent wanted ≡ Some next → IsClosedView (step_at next sent wanted) }
+    ensures { (sent wanted : View) (next : Change) → IsClosedView sent → IsClosedView wanted
+        → next_message sent wanted ≡ Some next → IsClosedView (step_at next sent wanted) }
 {}
 
 /// A flush without a limit ends at the wanted view.
@@ -58,28 +60,34 @@ pub fn flush_ends_at_the_wanted_view()
 
 /// Each view on the way of a flush is closed, whatever its limit.
 pub fn flush_keeps_views_closed()
-    ensures { (limit : Option ℕ) (sent wanted : View) → IsClosedView sent → IsClosedView wanted → AllByRecursion IsClosedView (sent_views (flush limit sent wanted).messages sent wanted) }
+    ensures { (limit : Option ℕ) (sent wanted : View) → IsClosedView sent → IsClosedView wanted
+        → AllByRecursion IsClosedView (sent_views (flush limit sent wanted).messages sent wanted) }
 {}
 
 /// Formed updates leave formed resources, which have a formed view.
 pub fn formed_updates_keep_resources_formed()
-    ensures after { (R : Resources) → are_formed R ≡ true → (u : Update) → is_formed u ≡ true → are_formed (after R u) ≡ true }
+    ensures after { (R : Resources) → are_formed R ≡ true → (u : Update) → is_formed u ≡ true
+        → are_formed (after R u) ≡ true }
     ensures view { (dg : Digest) (R : Resources) → are_formed R ≡ true → is_formed_view (view_of dg R) ≡ true }
 {}
 
 /// While updates put local endpoints on interfaces of workloads alone, they stand there, and so do those of the view.
 pub fn workload_interfaces_stay()
-    ensures after { (R : Resources) → have_workload_interfaces R ≡ true → (u : Update) → puts_workload_interface R.node u ≡ true → have_workload_interfaces (after R u) ≡ true }
-    ensures view { (dg : Digest) (R : Resources) → have_workload_interfaces R ≡ true → has_workload_interfaces (view_of dg R) ≡ true }
+    ensures after { (R : Resources) → have_workload_interfaces R ≡ true → (u : Update)
+        → puts_workload_interface R.node u ≡ true → have_workload_interfaces (after R u) ≡ true }
+    ensures view { (dg : Digest) (R : Resources) → have_workload_interfaces R ≡ true
+        → has_workload_interfaces (view_of dg R) ≡ true }
 {}
 
 /// No two holders claim one name at the start, nor after an update that clashes with nothing.
 pub fn accepted_updates_keep_claims_apart()
     ensures start { (dg : Digest) (node : List ℕ) → IsClashFree dg (empty_resources node) }
-    ensures after { (dg : Digest) (R : Resources) (u : Update) → is_formed u ≡ true → IsClashFree dg R → clash dg R u ≡ None → IsClashFree dg (after R u) }
+    ensures after { (dg : Digest) (R : Resources) (u : Update) → is_formed u ≡ true → IsClashFree dg R
+        → clash dg R u ≡ None → IsClashFree dg (after R u) }
 {}
 
 /// Each chain of the tables is one of the three that always stand, or some resource claims its name.
 pub fn chains_are_claimed()
-    ensures { (dg : Digest) (R : Resources) (name : ChainName) (rules : List ChainRule) → are_formed R ≡ true → map.get (tables_of (view_of dg R)).chains name ≡ Some rules → IsFixedOrClaimed dg R name }
+    ensures { (dg : Digest) (R : Resources) (name : ChainName) (rules : List ChainRule) → are_formed R ≡ true
+        → map.get (tables_of (view_of dg R)).chains name ≡ Some rules → IsFixedOrClaimed dg R name }
 {}

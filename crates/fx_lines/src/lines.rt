@@ -81,7 +81,8 @@ impl LineReader {
         ensures ended { OnOk result ((S.state source.new).ended ≡ self.new.ended) }
 
         // Behind the end nothing more is taken.
-        ensures quiet { self.old.ended ≡ true → ((S.state source.new).given ≡ (S.state source.old).given) × ((S.state source.new).ended ≡ true) }
+        ensures quiet { self.old.ended ≡ true → ((S.state source.new).given ≡ (S.state source.old).given)
+            × ((S.state source.new).ended ≡ true) }
         ensures later { (S.state source.old).faults ≤ (S.state source.new).faults }
 
         // Each fault has its cause.

@@ -18,7 +18,8 @@ pub fn effective_labels(
     own: &Labels,
     parents: &[Text],
 ) -> Result<Labels, Memory>
-    ensures { IfOk result (λ labels. labels ≡ effective_labels resources.now (record { labels = own.now; parents = parents.now })) }
+    ensures { IfOk result (λ labels. labels ≡ effective_labels resources.now
+        (record { labels = own.now; parents = parents.now })) }
 {
     let mut labels = Labels::new(alloc);
     for name in parents.iter().rev() {
@@ -39,7 +40,8 @@ pub fn applies<T: Ticker>(
     ingress: bool,
     ticks: &mut T,
 ) -> Result<bool, Memory>
-    ensures { IfOk result (λ yes. yes ≡ applies resources.now (if ingress then Ingress else Egress) policy.now endpoint.now) }
+    ensures { IfOk result (λ yes. yes ≡ applies resources.now
+        (if ingress then Ingress else Egress) policy.now endpoint.now) }
 {
     let parents = endpoint.profiles.as_slice();
     let labels = effective_labels(alloc, resources, &endpoint.labels, parents)?;

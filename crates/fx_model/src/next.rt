@@ -84,7 +84,8 @@ fn absent_set<'a>(
 
 // The first set that the map has with other members.
 fn other_set<'a>(sent: &'a SetMap<MemberSet>, wanted: &'a SetMap<MemberSet>) -> Option<Message<'a>>
-    ensures { option_map change_of result ≡ option_map (set_changed sent.now) (first_other members_eq.eq-value.it sent.now wanted.now) }
+    ensures { option_map change_of result ≡ option_map (set_changed sent.now)
+        (first_other members_eq.eq-value.it sent.now wanted.now) }
 {
     for (name, members) in wanted.iter() {
         if let Some(before) = sent.get(*name) {

@@ -53,7 +53,8 @@ pub trait ActiveSink {
 
     /// A profile that is listed already is replaced.
     fn profile_on(&mut self, name: &Text, profile: Option<&Profile>) -> Result<(), Memory>
-        ensures profiles { OnOk result (profiles self.new ≡ map.insert (profiles self.old) name.now (option_copied profile.entry)) }
+        ensures profiles { OnOk result (profiles self.new
+            ≡ map.insert (profiles self.old) name.now (option_copied profile.entry)) }
         ensures policies { OnOk result (policies self.new ≡ policies self.old) }
         ensures pairs { OnOk result (pairs self.new ≡ pairs self.old) };
 

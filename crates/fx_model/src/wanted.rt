@@ -41,8 +41,10 @@ fn put_served<R: DigestRule, F: DigestFunction<R> + Drop>(
     endpoint: &Endpoint,
     view: &mut View,
 ) -> Result<(), Memory>
-    ensures profiles { OnOk result (view.new.profiles ≡ extended view.old.profiles (map (profile_entry R.digest_of resources.now) endpoint.now.profiles)) }
-    ensures endpoint { OnOk result (view.new.endpoints ≡ maps.insert view.old.endpoints endpoint.now.iface (view_endpoint R.digest_of key.now endpoint.now)) }
+    ensures profiles { OnOk result (view.new.profiles
+        ≡ extended view.old.profiles (map (profile_entry R.digest_of resources.now) endpoint.now.profiles)) }
+    ensures endpoint { OnOk result (view.new.endpoints
+        ≡ maps.insert view.old.endpoints endpoint.now.iface (view_endpoint R.digest_of key.now endpoint.now)) }
     ensures others { (view.new.sets ≡ view.old.sets) × (view.new.policies ≡ view.old.policies) }
 {
     put_profiles(

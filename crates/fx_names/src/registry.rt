@@ -36,7 +36,8 @@ impl Registry {
     /// The first of the new claims that another holder claims: among those that are held once `old` is taken out, or
     /// among the new ones before it. It takes no memory, so each new claim is compared with those before it.
     pub fn check<'a>(&'a self, old: &[Claim], new: &'a [Claim]) -> Result<(), Taken<'a>>
-        ensures { (kept : List Claim) → HoldsClaims self.now (old.now ++ kept) → clash_told result ≡ first_clash kept new.now }
+        ensures { (kept : List Claim) → HoldsClaims self.now (old.now ++ kept)
+            → clash_told result ≡ first_clash kept new.now }
     {
         for (i, claim) in new.iter().enumerate() {
             if let Some(holder) = self.other_holder(old, claim) {
@@ -57,7 +58,8 @@ impl Registry {
 
     /// Takes the old claims out and puts the new ones in.
     pub fn swap(&mut self, old: &[Claim], new: &[Claim]) -> Result<(), Memory>
-        ensures { OnOk result ((kept : List Claim) → HoldsClaims self.old (old.now ++ kept) → first_clash kept new.now ≡ None → HoldsClaims self.new (kept ++ new.now)) }
+        ensures { OnOk result ((kept : List Claim) → HoldsClaims self.old (old.now ++ kept)
+            → first_clash kept new.now ≡ None → HoldsClaims self.new (kept ++ new.now)) }
     {
         self.give_back_all(old)?;
         self.take_all(new)?;
@@ -66,7 +68,8 @@ impl Registry {
 
     // Who else holds a claim's name once `old` is taken out.
     fn other_holder(&self, old: &[Claim], claim: &Claim) -> Option<&Text>
-        ensures { (kept : List Claim) → HoldsClaims self.now (old.now ++ kept) → option_map (λ text. text.now) result ≡ other_holder kept claim.now }
+        ensures { (kept : List Claim) → HoldsClaims self.now (old.now ++ kept)
+            → option_map (λ text. text.now) result ≡ other_holder kept claim.now }
     {
         let holding = self.names.get(&claim.name)?;
         if holding.holder != claim.holder && holding.outlasts(old, &claim.name) {
@@ -77,7 +80,8 @@ impl Registry {
     }
 
     fn give_back_all(&mut self, claims: &[Claim]) -> Result<(), Memory>
-        ensures { OnOk result ((kept : List Claim) → HoldsClaims self.old (claims.now ++ kept) → HoldsClaims self.new kept) }
+        ensures { OnOk result ((kept : List Claim) → HoldsClaims self.old (claims.now ++ kept)
+            → HoldsClaims self.new kept) }
     {
         for claim in claims {
             self.give_back(claim)?;
@@ -100,7 +104,8 @@ impl Registry {
     }
 
     fn take_all(&mut self, claims: &[Claim]) -> Result<(), Memory>
-        ensures { OnOk result ((kept : List Claim) → HoldsClaims self.old kept → first_clash kept claims.now ≡ None → HoldsClaims self.new (kept ++ claims.now)) }
+        ensures { OnOk result ((kept : List Claim) → HoldsClaims self.old kept → first_clash kept claims.now ≡ None
+            → HoldsClaims self.new (kept ++ claims.now)) }
     {
         for claim in claims {
             self.take(claim)?;
@@ -109,7 +114,8 @@ impl Registry {
     }
 
     fn take(&mut self, claim: &Claim) -> Result<(), Memory>
-        ensures { OnOk result ((kept : List Claim) → HoldsClaims self.old kept → other_holder kept claim.now ≡ None → HoldsClaims self.new (kept ++ claim.now ∷ [])) }
+        ensures { OnOk result ((kept : List Claim) → HoldsClaims self.old kept → other_holder kept claim.now ≡ None
+            → HoldsClaims self.new (kept ++ claim.now ∷ [])) }
     {
         let holding = match self.names.remove(&claim.name) {
             Some(holding) => holding,

@@ -9,8 +9,7 @@ use crate::members::{push_member, type_name};
 use crate::texts::{push_both, push_decimal, push_word};
 use fx_base::{Memory, NameKey, SetName, Text};
 use fx_model::{
-    MemberList, Message, PolicyId, ViewEndpoint, ViewPolicy, ViewProfile, ViewRule,
-    ViewTier,
+    MemberList, Message, PolicyId, ViewEndpoint, ViewPolicy, ViewProfile, ViewRule, ViewTier,
 };
 use std::alloc::Global;
 

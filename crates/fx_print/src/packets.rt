@@ -21,7 +21,9 @@ pub fn packet_texts(
     ingress: Option<&Reason>,
     verdict: Verdict,
 ) -> Result<Vec<Text>, Memory>
-    ensures { IfOk result (λ lines. lines.items ≡ packet_lines (hops_of path.now) packet.now.iface_in packet.now.iface_out (option_copied egress.entry) (option_copied ingress.entry) verdict) }
+    ensures { IfOk result (λ lines. lines.items ≡ packet_lines
+        (hops_of path.now) packet.now.iface_in packet.now.iface_out (option_copied egress.entry)
+        (option_copied ingress.entry) verdict) }
 {
     let mut lines = Vec::new(alloc);
     lines.push(path_text(alloc, path)?)?;
@@ -70,7 +72,8 @@ fn push_side(
     iface: &Text,
     reason: Option<&Reason>,
 ) -> Result<(), Memory>
-    ensures { OnOk result (lines.new.items ≡ lines.old.items ++ side_lines side.now iface.now (option_copied reason.entry)) }
+    ensures { OnOk result (lines.new.items ≡ lines.old.items ++ side_lines side.now iface.now
+        (option_copied reason.entry)) }
 {
     if let Some(why) = reason {
         lines.push(side_text(alloc, side, iface, why)?)?;

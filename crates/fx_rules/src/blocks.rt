@@ -142,7 +142,8 @@ fn choice_alternatives(
     protocol: Option<Proto>,
     choices: &Seq<Choice>,
 ) -> Result<Seq<Seq<Match>>, Memory>
-    ensures { IfOk result (λ alternatives. alternatives ≡ map (choice_alternative end protocol) (map choice_of choices.now)) }
+    ensures { IfOk result (λ alternatives. alternatives
+        ≡ map (choice_alternative end protocol) (map choice_of choices.now)) }
 {
     let mut alternatives = Seq::new(alloc);
     for choice in choices.as_slice() {

@@ -30,7 +30,8 @@ pub fn ranges_of(alloc: Global, ports: &Seq<ViewPort>) -> Result<Seq<PortRange>,
 
 // What the ranges of a list of ports are asked for by.
 fn push_lists(alloc: Global, ports: &Seq<ViewPort>, choices: &mut Seq<Choice>) -> Result<(), Memory>
-    ensures { OnOk result (map choice_of choices.new ≡ map choice_of choices.old ++ map Listed (port_lists (ranges_of ports.now))) }
+    ensures { OnOk result (map choice_of choices.new
+        ≡ map choice_of choices.old ++ map Listed (port_lists (ranges_of ports.now))) }
 {
     let ranges = ranges_of(alloc, ports)?;
     for list in port_lists(alloc, &ranges)?.into_vec() {

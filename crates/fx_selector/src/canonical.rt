@@ -33,7 +33,8 @@ fn write_not(out: &mut Vec<u8>, inner: &Node) -> Result<(), Memory>
 
 #[cycle(canonical)]
 fn write_group(out: &mut Vec<u8>, mark: &[u8], parts: &[Node]) -> Result<(), Memory>
-    ensures { OnOk result (out.new.items ≡ out.old.items ++ (codes "(" ++ (between mark.now (texts (trees_of parts.now)) ++ codes ")"))) }
+    ensures { OnOk result (out.new.items ≡ out.old.items ++ (codes "(" ++ (between mark.now
+        (texts (trees_of parts.now)) ++ codes ")"))) }
 {
     write(out, b"(")?;
     write_joined(out, mark, parts)?;

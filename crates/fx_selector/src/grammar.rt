@@ -16,7 +16,8 @@ use std::alloc::Global;
 
 /// One string and those after commas.
 pub fn strings_at<'a>(alloc: Global, rest: &'a [u8]) -> Result<(Vec<Text>, &'a [u8]), ParseError>
-    ensures reads { (n : ℕ) → length rest.now < n → Gives (λ x. x.0.items) (λ x. x.1.now) result (series string 44 [] n rest.now) }
+    ensures reads { (n : ℕ) → length rest.now < n
+        → Gives (λ x. x.0.items) (λ x. x.1.now) result (series string 44 [] n rest.now) }
     ensures shorter { IfOk result (λ x. length x.1.now < length rest.now) }
 {
     let (first, behind) = string_of(alloc, rest)?;
@@ -39,7 +40,8 @@ pub fn and_at<'a>(
     depth: usize,
     rest: &'a [u8],
 ) -> Result<(Node, &'a [u8]), ParseError>
-    ensures reads { (n : ℕ) → length rest.now < n → Gives (λ x. tree x.0) (λ x. x.1.now) result (and_of (not_of limit n depth) n rest.now) }
+    ensures reads { (n : ℕ) → length rest.now < n
+        → Gives (λ x. tree x.0) (λ x. x.1.now) result (and_of (not_of limit n depth) n rest.now) }
     ensures shorter { IfOk result (λ x. length x.1.now < length rest.now) }
 {
     let (first, behind) = not_at(alloc, limit, depth, rest)?;
@@ -62,7 +64,8 @@ pub fn or_at<'a>(
     depth: usize,
     rest: &'a [u8],
 ) -> Result<(Node, &'a [u8]), ParseError>
-    ensures reads { (n : ℕ) → length rest.now < n → Gives (λ x. tree x.0) (λ x. x.1.now) result (or_of (not_of limit n depth) n rest.now) }
+    ensures reads { (n : ℕ) → length rest.now < n
+        → Gives (λ x. tree x.0) (λ x. x.1.now) result (or_of (not_of limit n depth) n rest.now) }
     ensures shorter { IfOk result (λ x. length x.1.now < length rest.now) }
 {
     let (first, behind) = and_at(alloc, limit, depth, rest)?;
@@ -85,7 +88,8 @@ pub fn not_at<'a>(
     depth: usize,
     rest: &'a [u8],
 ) -> Result<(Node, &'a [u8]), ParseError>
-    ensures reads { (n : ℕ) → length rest.now < n → Gives (λ x. tree x.0) (λ x. x.1.now) result (not_of limit n depth rest.now) }
+    ensures reads { (n : ℕ) → length rest.now < n
+        → Gives (λ x. tree x.0) (λ x. x.1.now) result (not_of limit n depth rest.now) }
     ensures shorter { IfOk result (λ x. length x.1.now < length rest.now) }
 {
     if begins(b'!', rest) {
@@ -106,7 +110,8 @@ fn negated_at<'a>(
     rest: &'a [u8],
 ) -> Result<(Node, &'a [u8]), ParseError>
     requires { begins_with 33 rest.now ≡ true }
-    ensures reads { (n : ℕ) → length rest.now < n → Gives (λ x. tree x.0) (λ x. x.1.now) result (not_of limit n depth rest.now) }
+    ensures reads { (n : ℕ) → length rest.now < n
+        → Gives (λ x. tree x.0) (λ x. x.1.now) result (not_of limit n depth rest.now) }
     ensures shorter { IfOk result (λ x. length x.1.now < length rest.now) }
 {
     if depth == 0 {
@@ -127,7 +132,8 @@ fn group_at<'a>(
 ) -> Result<(Node, &'a [u8]), ParseError>
     requires other { begins_with 33 rest.now ≡ false }
     requires open { begins_with 40 rest.now ≡ true }
-    ensures reads { (n : ℕ) → length rest.now < n → Gives (λ x. tree x.0) (λ x. x.1.now) result (not_of limit n depth rest.now) }
+    ensures reads { (n : ℕ) → length rest.now < n
+        → Gives (λ x. tree x.0) (λ x. x.1.now) result (not_of limit n depth rest.now) }
     ensures shorter { IfOk result (λ x. length x.1.now < length rest.now) }
 {
     if depth == 0 {
@@ -231,7 +237,8 @@ pub fn set_at<'a>(alloc: Global, rest: &'a [u8]) -> Result<(Vec<Text>, &'a [u8])
 
 /// What is asked of the label at a key.
 fn test_at<'a>(alloc: Global, rest: &'a [u8]) -> Result<(Test, &'a [u8]), ParseError>
-    ensures reads { (k : List ℕ) (n : ℕ) → length rest.now < n → Gives (λ x. label_tree k x.0) (λ x. x.1.now) result (test n k rest.now) }
+    ensures reads { (k : List ℕ) (n : ℕ) → length rest.now < n
+        → Gives (λ x. label_tree k x.0) (λ x. x.1.now) result (test n k rest.now) }
     ensures shorter { IfOk result (λ x. length x.1.now < length rest.now) }
 {
     if begins(b'=', rest) {
@@ -263,7 +270,8 @@ fn unequal_at<'a>(alloc: Global, rest: &'a [u8]) -> Result<(Test, &'a [u8]), Par
 
 /// A test that begins with a word.
 fn word_test_at<'a>(alloc: Global, rest: &'a [u8]) -> Result<(Test, &'a [u8]), ParseError>
-    ensures reads { (k : List ℕ) (n : ℕ) → length rest.now < n → Gives (λ x. label_tree k x.0) (λ x. x.1.now) result (word_test n k rest.now) }
+    ensures reads { (k : List ℕ) (n : ℕ) → length rest.now < n
+        → Gives (λ x. label_tree k x.0) (λ x. x.1.now) result (word_test n k rest.now) }
     ensures shorter { IfOk result (λ x. length x.1.now < length rest.now) }
 {
     if begins(b'i', rest) {
@@ -282,7 +290,8 @@ fn word_test_at<'a>(alloc: Global, rest: &'a [u8]) -> Result<(Test, &'a [u8]), P
 }
 
 fn within_at<'a>(alloc: Global, rest: &'a [u8]) -> Result<(Test, &'a [u8]), ParseError>
-    ensures reads { (k : List ℕ) (n : ℕ) → length rest.now < n → Gives (λ x. label_tree k x.0) (λ x. x.1.now) result (in_set (within k) n rest.now) }
+    ensures reads { (k : List ℕ) (n : ℕ) → length rest.now < n
+        → Gives (λ x. label_tree k x.0) (λ x. x.1.now) result (in_set (within k) n rest.now) }
     ensures shorter { IfOk result (λ x. length x.1.now < length rest.now) }
 {
     let after = keyword_of(b"in", rest)?;
@@ -291,7 +300,8 @@ fn within_at<'a>(alloc: Global, rest: &'a [u8]) -> Result<(Test, &'a [u8]), Pars
 }
 
 fn outside_at<'a>(alloc: Global, rest: &'a [u8]) -> Result<(Test, &'a [u8]), ParseError>
-    ensures reads { (k : List ℕ) (n : ℕ) → length rest.now < n → Gives (λ x. label_tree k x.0) (λ x. x.1.now) result (outside_test n k rest.now) }
+    ensures reads { (k : List ℕ) (n : ℕ) → length rest.now < n
+        → Gives (λ x. label_tree k x.0) (λ x. x.1.now) result (outside_test n k rest.now) }
     ensures shorter { IfOk result (λ x. length x.1.now < length rest.now) }
 {
     let after = keyword_of(b"not", rest)?;

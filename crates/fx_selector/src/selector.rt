@@ -139,7 +139,8 @@ impl Selector {
     pub fn one_of(alloc: Global, key: &[u8], values: &[Text], not: bool) -> Result<Selector, Memory>
         requires key { IsKey key.now }
         requires values { AreStrings values.now }
-        ensures { IfOk result (λ selector. selector ≡ (if not then outside key.now (set_of values.now) else within key.now (set_of values.now))) }
+        ensures { IfOk result (λ selector. selector
+            ≡ (if not then outside key.now (set_of values.now) else within key.now (set_of values.now))) }
     {
         let set = ascending(Vec::from_clones(alloc, values)?);
         Ok(Selector {

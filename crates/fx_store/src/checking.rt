@@ -35,7 +35,8 @@ fn check_claim<'a>(
     old: &[Claim],
     claim: &'a Claim,
 ) -> Result<(), CheckFault>
-    ensures { (kept : List Claim) → HoldsClaims registry.now (old.now ++ kept) → Tells result (first_clash kept (claim.now ∷ [])) }
+    ensures { (kept : List Claim) → HoldsClaims registry.now (old.now ++ kept)
+        → Tells result (first_clash kept (claim.now ∷ [])) }
 {
     match registry.check(old, from_ref(claim)) {
         Ok(()) => Ok(()),

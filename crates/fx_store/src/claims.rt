@@ -132,7 +132,11 @@ fn push_claim<R: DigestRule, F: DigestFunction<R> + Drop>(
     namer: &Namer<R, F>,
     claims: &mut Vec<Claim>,
 ) -> Result<(), Memory>
-    ensures { OnOk result (claims.new.items ≡ claims.old.items ++ record { name = Chain (chain_name_of R.digest_of prefix suffix.now); holder = holder } ∷ []) }
+    ensures { OnOk result (claims.new.items ≡ claims.old.items ++ record {
+      name = Chain
+          (chain_name_of R.digest_of prefix suffix.now);
+      holder = holder;
+    } ∷ []) }
 {
     let name = KernelName::Chain(namer.chain_name(prefix, suffix));
     claims.push(Claim { name, holder })?;

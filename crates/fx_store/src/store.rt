@@ -120,7 +120,8 @@ impl Store {
         requires free { clash R.digest_of self.old.resources update.now ≡ None }
         requires formed { is_formed update.now ≡ true }
         ensures resources { self.new.resources ≡ self.old.resources }
-        ensures claims { OnOk result (HoldsClaims self.new.registry (all_claims R.digest_of (after self.old.resources update.now))) }
+        ensures claims { OnOk result (HoldsClaims self.new.registry
+            (all_claims R.digest_of (after self.old.resources update.now))) }
     {
         match update {
             Update::InSync => {}

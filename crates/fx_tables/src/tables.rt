@@ -67,7 +67,10 @@ impl Tables {
         requires there { map.contains_key self.old.sets name ≡ true }
         requires absent { set.contains (members_of (map.get self.old.sets name)) member ≡ false }
         requires fits { is_member_of name member ≡ true }
-        ensures ok { OnOk result (self.new ≡ record self.old { sets = map.insert self.old.sets name (set.insert (members_of (map.get self.old.sets name)) member) }) }
+        ensures ok { OnOk result (self.new ≡ record self.old {
+          sets = map.insert self.old.sets name
+              (set.insert (members_of (map.get self.old.sets name)) member);
+        }) }
         ensures err { OnErr result (self.new ≡ self.old) }
     {
         insert_into(self.alloc, &mut self.sets, name, member)?;
@@ -78,7 +81,10 @@ impl Tables {
     pub fn remove_member(&mut self, name: SetName, member: Member)
         requires there { map.contains_key self.old.sets name ≡ true }
         requires within { set.contains (members_of (map.get self.old.sets name)) member ≡ true }
-        ensures { self.new ≡ record self.old { sets = map.insert self.old.sets name (set.remove (members_of (map.get self.old.sets name)) member) } }
+        ensures { self.new ≡ record self.old {
+          sets = map.insert self.old.sets name
+              (set.remove (members_of (map.get self.old.sets name)) member);
+        } }
     {
         remove_from(self.alloc, &mut self.sets, name, member);
     }
@@ -158,7 +164,8 @@ fn insert_into(
     member: Member,
 ) -> Result<(), Memory>
     requires { map.contains_key sets.old name ≡ true }
-    ensures ok { OnOk result (sets.new ≡ map.insert sets.old name (set.insert (members_of (map.get sets.old name)) member)) }
+    ensures ok { OnOk result (sets.new ≡ map.insert sets.old name
+        (set.insert (members_of (map.get sets.old name)) member)) }
     ensures err { OnErr result (sets.new ≡ sets.old) }
 {
     let mut members = MemberSet::new(alloc);

@@ -106,7 +106,8 @@ fn is_of_message(icmp: Icmp, packet: &Packet) -> bool
 // ---- sets
 
 fn is_address_and_port(packet: &Packet, end: End, addr: Ipv4, proto: Proto, number: u16) -> bool
-    ensures { result ≡ (nat_eq (address_at end packet.now) addr.0 && (nat_eq packet.now.proto.0 proto.0 && nat_eq (port_at end packet.now) number)) }
+    ensures { result ≡ (nat_eq (address_at end packet.now) addr.0 &&
+        (nat_eq packet.now.proto.0 proto.0 && nat_eq (port_at end packet.now) number)) }
 {
     address_of(packet, end).0 == addr.0
         && packet.proto.0 == proto.0
