@@ -185,9 +185,12 @@ fn reason_text(reason: Option<&Reason>) -> &'static str {
 }
 
 fn is_path(path: &[Hop], wanted: &[(&str, u64)]) -> bool {
+    for (hop, want) in path.iter().zip(wanted) {
+        if hop.chain.bytes() != want.0.as_bytes() || hop.place != want.1 {
+            return false;
+        }
+    }
     path.len() == wanted.len()
-        && path.iter().zip(wanted).all(|(hop, want)| hop.chain.bytes() == want.0.as_bytes()
-            && hop.place == want.1)
 }
 
 /// A packet's interface and state, and what becomes of it.

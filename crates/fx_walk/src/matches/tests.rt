@@ -25,16 +25,20 @@ fn packet(alloc: Global, proto: u8) -> Result<Packet, Memory> {
     })
 }
 
+fn set_name(kind: SetKind, letter: u8) -> SetName {
+    SetName::new(kind, [letter; 23])
+}
+
 fn nets() -> SetName {
-    SetName::new(SetKind::Nets, *b"aaaaaaaaaaaaaaaaaaaaaaa")
+    set_name(SetKind::Nets, b'a')
 }
 
 fn ports() -> SetName {
-    SetName::new(SetKind::Ports, *b"aaaaaaaaaaaaaaaaaaaaaaa")
+    set_name(SetKind::Ports, b'a')
 }
 
 fn missing() -> SetName {
-    SetName::new(SetKind::Nets, *b"bbbbbbbbbbbbbbbbbbbbbbb")
+    set_name(SetKind::Nets, b'b')
 }
 
 /// 10.0.0.0/8 in the one set, and port 443 of TCP at 192.0.2.1 in the other.
