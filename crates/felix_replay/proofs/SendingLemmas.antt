@@ -1,6 +1,7 @@
 -- How a flush goes on by one message.
-use Rattle.std.proofs.Common.{◌≡◌, ◌+◌, [], ◌++◌, length, map, true, false, Option, Some, None, is_some, refl, ap, arith}
+use Rattle.std.proofs.Common.{◌≡◌, ◌+◌, [], ◌++◌, length, map, true, false, Option, Some, None, is_some, Result, Ok, Err, refl, ap, arith}
 use Rattle.std.specs.List.{concat}
+use Rattle.std.specs.Prelude.{OnOk}
 use Rattle.fx_model.specs.declared.view.View.{View}
 use Rattle.fx_model.specs.Messages.{Change, flush, next_message, step, step_by, differences}
 use Rattle.fx_laws.proofs.Flushes.{flush-none, flush-some}
@@ -67,3 +68,8 @@ stays s w none = quiet (next_message s w) none
     quiet : (o : Option Change) → is_some o ≡ false → step_by o s w ≡ s
     quiet None e = refl
     quiet (Some c) e = cc
+
+-- what holds anyway holds after a call that succeeds
+pub on_ok_always : {T E P : Type 0} (r : Result T E) → P → OnOk r P
+on_ok_always (Ok x) holds = holds
+on_ok_always (Err e) holds = tt
