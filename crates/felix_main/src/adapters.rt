@@ -37,12 +37,17 @@ impl<R: Read + Drop> Source for ReadSource<R> {
     fn read(&mut self, buf: &mut [u8]) -> Result<usize, Failed>
         requires room { 0 < length buf.old }
         requires fits { self.old.given + length buf.old < 2 ^ 64 }
-        ensures ok { IfOk result (λ n. ReadsSome (silent_source self.old.given self.old.ended self.old.faults) (silent_source self.new.given self.new.ended self.new.faults) buf.new n) }
-        ensures err { OnErr result (ReadsNone (silent_source self.old.given self.old.ended self.old.faults) (silent_source self.new.given self.new.ended self.new.faults)) }
+        ensures ok { IfOk result (λ n. ReadsSome
+            (silent_source self.old.given self.old.ended self.old.faults)
+            (silent_source self.new.given self.new.ended self.new.faults) buf.new n) }
+        ensures err { OnErr result (ReadsNone
+            (silent_source self.old.given self.old.ended self.old.faults)
+            (silent_source self.new.given self.new.ended self.new.faults)) }
         ensures cause { HasCause (self.old.faults) (self.new.faults) result }
 
         // What is given is what the reader gave.
-        ensures from_reader { IfOk result (λ n. Consumes (R.remaining self.old.reader) (R.remaining self.new.reader) (take n buf.new)) }
+        ensures from_reader { IfOk result (λ n.
+            Consumes (R.remaining self.old.reader) (R.remaining self.new.reader) (take n buf.new)) }
         ensures none_lost { OnErr result (Keeps (R.remaining self.old.reader) (R.remaining self.new.reader)) }
     {
         match self.reader.read(buf) {

@@ -18,8 +18,8 @@ ghost use Rattle.fx_lines.specs.Commands.{command_of};
 ghost use Rattle.felix_replay.specs.Writing.{Writes};
 
 use crate::driver::tables_of;
-use crate::sending::{put_all, put_one, send};
 use crate::run_fault::RunFault;
+use crate::sending::{put_all, put_one, send};
 use fx_base::{Memory, Sink, Text};
 use fx_json::{ReadFault, Refusal};
 use fx_lines::{Command, read_command};

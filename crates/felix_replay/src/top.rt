@@ -50,16 +50,19 @@ pub fn felix_replay<S: Source, K: Sink, R: DigestRule, F: DigestFunction<R> + Dr
     // The input was read to its end, and the output is the definition's.
     ensures named { HasRun result → IsSome (node_of words.now) }
     ensures done { result ≡ Status.Done
-        → Ran R.digest_of (node_name words.now) (S.state source.old) (S.state source.new) (K.state sink.old) (K.state sink.new) false }
+        → Ran R.digest_of (node_name words.now) (S.state source.old) (S.state source.new)
+        (K.state sink.old) (K.state sink.new) false }
     ensures refused { result ≡ Status.Refused
-        → Ran R.digest_of (node_name words.now) (S.state source.old) (S.state source.new) (K.state sink.old) (K.state sink.new) true }
+        → Ran R.digest_of (node_name words.now) (S.state source.old) (S.state source.new)
+        (K.state sink.old) (K.state sink.new) true }
 
     // The same where the source tells what is left and the sink what it holds.
     ensures told { HasRun result
         → IsAsDefined R.digest_of (node_name words.now) (S.state source.old) (K.state sink.old) (K.state sink.new) result }
 
     // After each single message nothing that is named is missing, in the sent view and in its tables.
-    ensures closed { (input : List ℕ) → AllByRecursion IsWhole (views_along (start R.digest_of (node_name words.now)) (lines_of input)) }
+    ensures closed { (input : List ℕ)
+        → AllByRecursion IsWhole (views_along (start R.digest_of (node_name words.now)) (lines_of input)) }
 
     // A line with a first packet is answered as the policy reference says, where each accepted update was flushed.
     ensures policy { KeepsPolicy R.digest_of (node_name words.now) }
@@ -80,7 +83,8 @@ pub fn felix_replay<S: Source, K: Sink, R: DigestRule, F: DigestFunction<R> + Dr
 
     // What a run that ended early has written is a prefix of the output.
     ensures stopped { IsSome (node_of words.now) → EndedEarly result
-        → Stopped R.digest_of (node_name words.now) (S.state source.old) (S.state source.new) (K.state sink.old) (K.state sink.new) }
+        → Stopped R.digest_of (node_name words.now) (S.state source.old) (S.state source.new)
+        (K.state sink.old) (K.state sink.new) }
     ensures no_usage { node_of words.now ≡ None → AppendsPrefix (K.state sink.old).held (K.state sink.new).held usage_line }
 
     // Each other end has its cause.
@@ -128,8 +132,10 @@ fn replay<S: Source, K: Sink, R: DigestRule, F: DigestFunction<R> + Drop>(
 ) -> Result<bool, RunFault>
     requires fresh { (S.state source.old).given ≡ 0 }
     requires unended { (S.state source.old).ended ≡ false }
-    ensures ran { IfOk result (Ran R.digest_of node.now (S.state source.old) (S.state source.new) (K.state sink.old) (K.state sink.new)) }
-    ensures stopped { OnErr result (Stopped R.digest_of node.now (S.state source.old) (S.state source.new) (K.state sink.old) (K.state sink.new)) }
+    ensures ran { IfOk result (Ran R.digest_of node.now (S.state source.old) (S.state source.new)
+        (K.state sink.old) (K.state sink.new)) }
+    ensures stopped { OnErr result (Stopped R.digest_of node.now (S.state source.old) (S.state source.new)
+        (K.state sink.old) (K.state sink.new)) }
     ensures read_fault { IsErrOf result RunFault.ReadFault → HasFailedRead (S.state source.old) (S.state source.new) }
     ensures write_fault { IsErrOf result RunFault.WriteFault → SinkFailed (K.state sink.old) (K.state sink.new) }
     ensures write_short { IsErrOf result RunFault.WriteFault → (S.state source.new).given < 2 ^ 32 }

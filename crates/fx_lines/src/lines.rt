@@ -231,7 +231,8 @@ mod tests {
         ];
         for (input, want) in inputs {
             for piece in [1, 2, 3, 4096] {
-                assert_eq!(rt; barred(alloc, input, piece)?.as_slice(), want);
+                let found = barred(alloc, input, piece)?;
+                assert_eq!(rt; found.as_slice(), want, "{input:?} by {piece}");
             }
         }
         Ok(())
