@@ -8,8 +8,8 @@ use Rattle.fx_json.specs.Refusals.{Refuses, is_memory}
 no_truth : {A : Type 0} → true ≡ false → A
 no_truth e = cc
 
-pub told_as_defined : {A : Type 0} (answer : Result A Refusal) (told : Refusal) → is_memory told ≡ false → Refuses answer (Err told) → answer ≡ Err told
-told_as_defined answer told none h = elim h as (λ _. answer ≡ Err told) [
+pub refused_as_defined : {A : Type 0} (answer : Result A Refusal) (refusal : Refusal) → is_memory refusal ≡ false → Refuses answer (Err refusal) → answer ≡ Err refusal
+refused_as_defined answer refusal none h = elim h as (λ _. answer ≡ Err refusal) [
   | inl is ↦ no_truth (sym (ap is_memory is) ∙ none)
   | inr is ↦ is
 ]

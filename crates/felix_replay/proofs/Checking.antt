@@ -12,7 +12,7 @@ use Rattle.fx_json.specs.declared.refusal.Refusal.TheVariants.{Read}
 use Rattle.fx_json.specs.declared.fault.ReadFault.TheVariants.{Unsupported}
 use Rattle.fx_lines.specs.declared.commands.Command.{Command}
 use Rattle.fx_lines.specs.declared.commands.Command.TheVariants as command
-use Rattle.fx_lines.specs.Formed.{is_formed_command}
+use Rattle.fx_lines.specs.Formed.{IsReadCommand}
 use Rattle.felix_replay.specs.Output.{is_second_local, unless_taken, checked}
 use Rattle.felix_replay.specs.Fitting.{Fits}
 
@@ -25,10 +25,10 @@ module _ (dg : Digest) (R : Resources) where
   first_fits u formed true = tt
   first_fits u formed false = untaken_fits u formed (clash dg R u) refl
 
-  pub checked_fits : (said : Result Command Refusal) → IfOk said (λ c. is_formed_command c ≡ true) → IfOk (checked dg R said) (Fits dg R)
+  pub checked_fits : (said : Result Command Refusal) → IfOk said IsReadCommand → IfOk (checked dg R said) (Fits dg R)
   checked_fits (Ok command.Blank) formed = tt
   checked_fits (Ok command.Tables) formed = tt
   checked_fits (Ok command.Flush) formed = tt
-  checked_fits (Ok (command.Update u)) formed = first_fits u formed (is_second_local R u)
+  checked_fits (Ok (command.Update u)) read = first_fits u read.formed (is_second_local R u)
   checked_fits (Ok (command.Packet a)) formed = tt
   checked_fits (Err r) formed = tt

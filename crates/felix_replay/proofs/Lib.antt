@@ -6,7 +6,7 @@ pub mod Writings
 pub mod Replay
 pub mod EmptyView
 pub mod ClosingLemmas
-pub mod Lone
+pub mod Served
 pub mod Policing
 pub mod Checking
 pub mod Asked

@@ -3,157 +3,104 @@ use Rattle.std.proofs.Common.{◌≡◌, ℕ, List, [], ◌∷◌, Bool, true, f
 use Rattle.std.specs.Prelude.{IfOk, if◌then◌else◌, codes}
 use Rattle.std.specs.List.{concat}
 use Rattle.std.specs.FinMap as maps
-use Rattle.fx_model.specs.contracts.ids.ItemKeyOrd.TheImpl as item_cmp
 use Rattle.fx_model.specs.declared.packet.Packet.{Packet}
 use Rattle.fx_model.specs.declared.packet.State.TheVariants.{New}
 use Rattle.fx_model.specs.declared.packet.Verdict.{Verdict}
 use Rattle.fx_model.specs.declared.chain.Reason.{Reason}
-use Rattle.fx_model.specs.declared.resources.Endpoint.{Endpoint}
 use Rattle.fx_model.specs.declared.resources.Resources.{Resources}
-use Rattle.fx_model.specs.declared.resources.Update.{Update}
 use Rattle.fx_model.specs.declared.view.View.{View}
-use Rattle.fx_model.specs.Formed.{are_formed, is_formed}
 use Rattle.fx_model.specs.Machine.{Trace, holds, hops_and_reasons, Decides, Traces}
 use Rattle.fx_model.specs.Policy.{Outcome, packet_verdict}
 use Rattle.fx_model.specs.Ranks.{IsRanked}
 use Rattle.fx_model.specs.Tables.{ChainName, Tables, forward, tables_of}
-use Rattle.fx_model.specs.ViewPolicy.{HasLoneLocal}
+use Rattle.fx_model.specs.ViewPolicy.{IsServable}
 use Rattle.fx_model.specs.Closed.{IsClosedView}
 use Rattle.fx_names.specs.Digests.{Digest}
-use Rattle.fx_names.specs.Claims.{Clash}
-use Rattle.fx_model.specs.Claims.{clash, IsClashFree}
 use Rattle.fx_model.specs.Views.{view_of}
 use Rattle.fx_model.specs.Walk.{Ended, verdict_of, noted_in}
-use Rattle.fx_model.proofs.ClaimsApart.{clash_free_after, clash_free_none}
-use Rattle.fx_model.proofs.FormedLemmas.{are_formed-after}
-use Rattle.fx_model.proofs.Leading.{ranked-tables}
-use Rattle.fx_model.proofs.ViewClosed.{view_of-closed}
-use Rattle.fx_walk.proofs.Agree.{policy_is_kept, traced_decides, run_has_one_end}
+use Rattle.fx_laws.proofs.Leading.{ranked-tables}
+use Rattle.fx_laws.proofs.ViewClosed.{view_of-closed}
+use Rattle.fx_walk.proofs.Agree.{policy_is_kept, traced_decides, run_has_one_end, walk_is_run}
 use Rattle.fx_walk.proofs.Families.{first_there}
-use Rattle.fx_walk.proofs.Servable.{lone_local}
-use Rattle.fx_walk.proofs.Walks.{ended-run, one-end}
-use Rattle.fx_json.specs.declared.refusal.Refusal.{Refusal}
-use Rattle.fx_json.specs.declared.refusal.Refusal.TheVariants.{Read}
-use Rattle.fx_json.specs.declared.fault.ReadFault.TheVariants.{Unsupported}
-use Rattle.fx_lines.specs.declared.commands.Command.{Command}
+use Rattle.fx_walk.specs.PacketPaths.{first_walk}
+use Rattle.fx_walk.proofs.Walks.{one-end}
 use Rattle.fx_lines.specs.declared.commands.Command.TheVariants as command
-use Rattle.fx_lines.specs.Commands.{command_of}
-use Rattle.fx_lines.specs.Formed.{is_formed_command}
-use Rattle.fx_lines.proofs.Kept.{command_of-formed}
-use Rattle.fx_print.specs.PacketTexts.{packet_lines}
+use Rattle.fx_model.specs.PacketTexts.{packet_lines}
 use Rattle.felix_replay.specs.Engine.{IsRendered}
 use Rattle.felix_replay.specs.declared.engine.Engine.{Engine}
 use Rattle.felix_replay.specs.Run.{state_after}
-use Rattle.felix_replay.specs.PacketRuns.{nothing_traced, packet_run, packet_text}
-use Rattle.felix_replay.specs.Output.{State, start, is_second_local, unless_taken, checked, accepted, answer_of, after_answer, next, answer_text}
-use Rattle.felix_replay.specs.Policed.{TellsPolicy, KeepsPolicy}
-use Rattle.felix_replay.proofs.EmptyView.{start-formed}
-use Rattle.felix_replay.proofs.Lone.{lone-after}
+use Rattle.felix_replay.specs.PacketRuns.{packet_text}
+use Rattle.felix_replay.specs.Output.{State, start, answer_of, next, answer_text}
+use Rattle.felix_replay.specs.Policed.{TellsRun, PathsAreRuns, TellsPolicy, KeepsPolicy}
+use Rattle.felix_replay.proofs.ClosingLemmas.{run_closed}
+use Rattle.felix_replay.proofs.Served.{run_servable}
 
 -- ---- the engine
 
 pub wanted_closed : (dg : Digest) (R : Resources) → IsClosedView (view_of dg R)
 wanted_closed = view_of-closed
 
-pub kept_first : (e : Engine) → IsRendered e → maps.contains_key e.tables.chains forward ≡ true
-kept_first e kept = subst (λ (t : Tables). maps.contains_key t.chains forward ≡ true) (sym kept.rendered) (first_there e.sent)
+pub rendered_first : (e : Engine) → IsRendered e → maps.contains_key e.tables.chains forward ≡ true
+rendered_first e is = subst (λ (t : Tables). maps.contains_key t.chains forward ≡ true) (sym is.rendered) (first_there e.sent)
 
-pub kept_ranked : (e : Engine) → IsRendered e → IsRanked e.tables.chains
-kept_ranked e kept = subst (λ (t : Tables). IsRanked t.chains) (sym kept.rendered) (ranked-tables e.sent kept.closed)
+pub rendered_ranked : (e : Engine) → IsRendered e → IsRanked e.tables.chains
+rendered_ranked e is = subst (λ (t : Tables). IsRanked t.chains) (sym is.rendered) (ranked-tables e.sent is.closed)
 
 -- where a run ends so, the packet's text is this
 pub run_text : (tables : Tables) (a : Packet) → IsRanked tables.chains → (path : List (ChainName × ℕ)) (v : Verdict) (e i : Option Reason) → Traces tables a [] path v e i
     → concat (packet_lines path a.iface_in a.iface_out e i v) ≡ packet_text tables a
 run_text tables a ranked path v e i run =
-    let end = one-end {S = Trace} hops_and_reasons (holds tables.sets a) tables.chains run.1 (ended-run hops_and_reasons (holds tables.sets a) tables.chains ranked nothing_traced) in
+    let end = one-end {S = Trace} hops_and_reasons (holds tables.sets a) tables.chains run.1 (walk_is_run tables a [] ranked).1 in
     ap (λ (w : Verdict). concat (packet_lines path a.iface_in a.iface_out e i w)) end.0
-    ∙ ap (λ (t : Trace). concat (packet_lines t.hops a.iface_in a.iface_out t.reasons.egress t.reasons.ingress (verdict_of (packet_run tables a)))) end.1
+    ∙ ap (λ (t : Trace). concat (packet_lines t.hops a.iface_in a.iface_out t.reasons.egress t.reasons.ingress (verdict_of (first_walk tables a [])))) end.1
 
-pub kept_text : (e : Engine) → IsRendered e → (a : Packet) (path : List (ChainName × ℕ)) (v : Verdict) (egress ingress : Option Reason) → Traces e.tables a [] path v egress ingress
+pub rendered_text : (e : Engine) → IsRendered e → (a : Packet) (path : List (ChainName × ℕ)) (v : Verdict) (egress ingress : Option Reason) → Traces e.tables a [] path v egress ingress
     → concat (packet_lines path a.iface_in a.iface_out egress ingress v) ≡ packet_text (tables_of e.sent) a
-kept_text e kept a path v egress ingress run =
-    run_text e.tables a (kept_ranked e kept) path v egress ingress run ∙ ap (λ (t : Tables). packet_text t a) kept.rendered
+rendered_text e is a path v egress ingress run =
+    run_text e.tables a (rendered_ranked e is) path v egress ingress run ∙ ap (λ (t : Tables). packet_text t a) is.rendered
 
--- ---- what is accepted stays servable
+-- ---- the run of a packet
 
-record IsSafe (dg : Digest) (R : Resources) : Type 0 where
-  formed : are_formed R ≡ true
-  lone : HasLoneLocal R
-  free : IsClashFree dg R
+-- the walk that the text is made from is the machine's run
+line_run : (s : State) → IsClosedView s.sent → (line : List ℕ) (a : Packet) → answer_of s line ≡ Ok (command.Packet a) → TellsRun s line a
+line_run s closed line a said =
+    let run : Ended Trace = first_walk (tables_of s.sent) a [] in
+    record {
+      path = (noted_in run).hops;
+      verdict = verdict_of run;
+      egress = (noted_in run).reasons.egress;
+      ingress = (noted_in run).reasons.ingress;
+      run = walk_is_run (tables_of s.sent) a [] (ranked-tables s.sent closed);
+      output = ap (answer_text s) said;
+    }
 
-nothing_there : {A : Type 0} (e : Endpoint) → None ≡ Some e → A
-nothing_there e is = cc
-
-start-safe : (dg : Digest) (node : List ℕ) → IsSafe dg (start dg node).resources
-start-safe dg node = record {
-  formed = start-formed dg node;
-  lone = λ k l e f there at s t. nothing_there e (sym (maps.get-empty item_cmp.cmp-value.it k) ∙ there);
-  free = clash_free_none dg (start dg node).resources refl refl;
-}
-
-untaken-safe : (s : State) → IsSafe s.digest s.resources → (u : Update) → is_formed u ≡ true → is_second_local s.resources u ≡ false → (o : Option Clash) → clash s.digest s.resources u ≡ o → IsSafe s.digest (step s (unless_taken o u)).resources
-untaken-safe s safe u formed first (Some c) is = safe
-untaken-safe s safe u formed first None is = record {
-  formed = are_formed-after s.resources safe.formed u formed;
-  lone = lone-after s.resources safe.lone u first;
-  free = clash_free_after s.digest s.resources u formed safe.free is;
-}
-
-updated-safe : (s : State) → IsSafe s.digest s.resources → (u : Update) → is_formed u ≡ true → (b : Bool) → is_second_local s.resources u ≡ b → IsSafe s.digest (step s (if b then Err (Read (Unsupported (codes "spec.node"))) else unless_taken (clash s.digest s.resources u) u)).resources
-updated-safe s safe u formed true is = safe
-updated-safe s safe u formed false is = untaken-safe s safe u formed is (clash s.digest s.resources u) refl
-
-stepped-safe : (s : State) → IsSafe s.digest s.resources → (said : Result Command Refusal) → IfOk said (λ c. is_formed_command c ≡ true) → IsSafe s.digest (step s (checked s.digest s.resources said)).resources
-stepped-safe s safe (Ok command.Blank) formed = safe
-stepped-safe s safe (Ok command.Tables) formed = safe
-stepped-safe s safe (Ok command.Flush) formed = safe
-stepped-safe s safe (Ok (command.Update u)) formed = updated-safe s safe u formed (is_second_local s.resources u) refl
-stepped-safe s safe (Ok (command.Packet a)) formed = safe
-stepped-safe s safe (Err r) formed = safe
-
--- the digest stays
-accepted-digest : (s : State) (c : Command) → (accepted s c).digest ≡ s.digest
-accepted-digest s command.Blank = refl
-accepted-digest s command.Tables = refl
-accepted-digest s command.Flush = refl
-accepted-digest s (command.Update u) = refl
-accepted-digest s (command.Packet a) = refl
-
-step-digest : (s : State) (r : Result Command Refusal) → (after_answer s r).digest ≡ s.digest
-step-digest s (Ok c) = accepted-digest (record s { lines = s.lines + 1 }) c
-step-digest s (Err r) = refl
-
-next-safe : (s : State) → IsSafe s.digest s.resources → (line : List ℕ) → IsSafe (next s line).digest (next s line).resources
-next-safe s safe line =
-    subst (λ dg. IsSafe dg (next s line).resources) (sym (step-digest s (answer_of s line))) (stepped-safe s safe (command_of line) (command_of-formed line))
-
-along-safe : (s : State) (lines : List (List ℕ)) → IsSafe s.digest s.resources → IsSafe (state_after next s lines).digest (state_after next s lines).resources
-unfolding state_after
-along-safe s [] safe = safe
-along-safe s (line ∷ lines) safe = along-safe (next s line) lines (next-safe s safe line)
+pub paths_are_runs : (dg : Digest) (node : List ℕ) → PathsAreRuns dg node
+paths_are_runs dg node lines line a said = line_run (state_after next (start dg node) lines) (run_closed dg node lines) line a said
 
 -- ---- after a flush
 
-told_policy : (s : State) → IsSafe s.digest s.resources → (line : List ℕ) (a : Packet) → answer_of s line ≡ Ok (command.Packet a) → a.state ≡ New → s.sent ≡ view_of s.digest s.resources → TellsPolicy s line a
-told_policy s safe line a said new same =
-    let run : Ended Trace = packet_run (tables_of s.sent) a in
-    let noted : Trace = noted_in run in
+-- the run comes to what the policy reference says
+line_policy : (s : State) → IsServable s.digest s.resources → IsClosedView s.sent → (line : List ℕ) (a : Packet) → answer_of s line ≡ Ok (command.Packet a) → a.state ≡ New → s.sent ≡ view_of s.digest s.resources → TellsPolicy s line a
+line_policy s servable closed line a said new same =
+    let r : TellsRun s line a = line_run s closed line a said in
     let answer : Outcome = packet_verdict s.resources a in
-    let ranked : IsRanked (tables_of s.sent).chains = subst (λ (v : View). IsRanked (tables_of v).chains) (sym same) (ranked-tables (view_of s.digest s.resources) (view_of-closed s.digest s.resources)) in
-    let traces : Traces (tables_of s.sent) a [] noted.hops (verdict_of run) noted.reasons.egress noted.reasons.ingress =
-    (noted.reasons.side, ended-run hops_and_reasons (holds (tables_of s.sent).sets a) (tables_of s.sent).chains ranked nothing_traced) in
-    let decides : Decides (tables_of s.sent) a (verdict_of run) noted.reasons.egress noted.reasons.ingress =
-    traced_decides (tables_of s.sent) a ranked [] noted.hops (verdict_of run) noted.reasons.egress noted.reasons.ingress traces in
+    let decides : Decides (tables_of s.sent) a r.verdict r.egress r.ingress =
+    traced_decides (tables_of s.sent) a (ranked-tables s.sent closed) [] r.path r.verdict r.egress r.ingress r.run in
     let wanted : Decides (tables_of s.sent) a answer.verdict answer.egress answer.ingress =
-    subst (λ (v : View). Decides (tables_of v) a answer.verdict answer.egress answer.ingress) (sym same) (policy_is_kept s.digest s.resources a (lone_local s.digest s.resources safe.formed safe.lone safe.free) new) in
-    let one = run_has_one_end (tables_of s.sent) a (verdict_of run) answer.verdict noted.reasons.egress answer.egress noted.reasons.ingress answer.ingress decides wanted in
+    subst (λ (v : View). Decides (tables_of v) a answer.verdict answer.egress answer.ingress) (sym same) (policy_is_kept s.digest s.resources a servable new) in
+    let one = run_has_one_end (tables_of s.sent) a r.verdict answer.verdict r.egress answer.egress r.ingress answer.ingress decides wanted in
     record {
-      path = noted.hops;
-      told = ap (answer_text s) said
-          ∙ ap (λ (v : Verdict). concat (packet_lines noted.hops a.iface_in a.iface_out noted.reasons.egress noted.reasons.ingress v)) one.0
-          ∙ ap (λ (e : Option Reason). concat (packet_lines noted.hops a.iface_in a.iface_out e noted.reasons.ingress answer.verdict)) one.1
-          ∙ ap (λ (i : Option Reason). concat (packet_lines noted.hops a.iface_in a.iface_out answer.egress i answer.verdict)) one.2;
+      path = r.path;
+      run =
+          subst (λ i. Traces (tables_of s.sent) a [] r.path answer.verdict answer.egress i) one.2
+          (subst (λ e. Traces (tables_of s.sent) a [] r.path answer.verdict e r.ingress) one.1
+          (subst (λ v. Traces (tables_of s.sent) a [] r.path v r.egress r.ingress) one.0 r.run));
+      output = r.output
+          ∙ ap (λ (v : Verdict). concat (packet_lines r.path a.iface_in a.iface_out r.egress r.ingress v)) one.0
+          ∙ ap (λ (e : Option Reason). concat (packet_lines r.path a.iface_in a.iface_out e r.ingress answer.verdict)) one.1
+          ∙ ap (λ (i : Option Reason). concat (packet_lines r.path a.iface_in a.iface_out answer.egress i answer.verdict)) one.2;
     }
 
 pub keeps_policy : (dg : Digest) (node : List ℕ) → KeepsPolicy dg node
-keeps_policy dg node lines line a said new same = told_policy (state_after next (start dg node) lines) (along-safe (start dg node) lines (start-safe dg node)) line a said new same
+keeps_policy dg node lines line a said new same =
+    line_policy (state_after next (start dg node) lines) (run_servable dg node lines) (run_closed dg node lines) line a said new same

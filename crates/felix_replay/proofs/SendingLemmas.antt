@@ -3,9 +3,9 @@ use Rattle.std.proofs.Common.{◌≡◌, ◌+◌, [], ◌++◌, length, map, tru
 use Rattle.std.specs.List.{concat}
 use Rattle.fx_model.specs.declared.view.View.{View}
 use Rattle.fx_model.specs.Messages.{Change, flush, next_message, step, step_by, differences}
-use Rattle.fx_model.proofs.Flushes.{flush-none, flush-some}
-use Rattle.fx_model.proofs.Nearer.{no_message, step-nearer}
-use Rattle.fx_print.specs.MessageTexts.{message_line}
+use Rattle.fx_laws.proofs.Flushes.{flush-none, flush-some}
+use Rattle.fx_laws.proofs.Nearer.{no_message, step-nearer}
+use Rattle.fx_model.specs.MessageTexts.{message_line}
 use Rattle.felix_replay.specs.Output.{first_text, messages_text}
 
 -- the first message's line and those of the rest
@@ -31,18 +31,18 @@ reached s w none = ended (next_message s w) refl none
     ended None is e = no_message s w is
     ended (Some c) is e = cc
 
-pub none_left : (s w : View) → is_some (next_message s w) ≡ false → length (flush s w) ≡ 0
+pub none_left : (s w : View) → is_some (next_message s w) ≡ false → length (flush None s w).messages ≡ 0
 none_left s w none = ended (next_message s w) refl none
   where
-    ended : (o : Option Change) → next_message s w ≡ o → is_some o ≡ false → length (flush s w) ≡ 0
+    ended : (o : Option Change) → next_message s w ≡ o → is_some o ≡ false → length (flush None s w).messages ≡ 0
     ended None is e = ap length (flush-none s w is)
     ended (Some c) is e = cc
 
 -- a message leaves one fewer, and one difference fewer
-pub one_fewer : (s w : View) → is_some (next_message s w) ≡ true → length (flush s w) ≡ length (flush (step s w) w) + 1
+pub one_fewer : (s w : View) → is_some (next_message s w) ≡ true → length (flush None s w).messages ≡ length (flush None (step s w) w).messages + 1
 one_fewer s w there = more (next_message s w) refl there
   where
-    more : (o : Option Change) → next_message s w ≡ o → is_some o ≡ true → length (flush s w) ≡ length (flush (step_by o s w) w) + 1
+    more : (o : Option Change) → next_message s w ≡ o → is_some o ≡ true → length (flush None s w).messages ≡ length (flush None (step_by o s w) w).messages + 1
     more None is e = cc
     more (Some c) is e = omega (arith, ap length (flush-some s w c is))
 

@@ -9,7 +9,7 @@ use Rattle.fx_model.specs.declared.view.View.{View}
 use Rattle.fx_model.specs.Closed.{IsClosedView}
 use Rattle.fx_model.specs.Tables.{ChainName, Chains, Sets, Tables, policy_chains, profile_chains, endpoint_chains, dispatch_chains, tables_of}
 use Rattle.fx_model.specs.Writing.{CanBeWritten}
-use Rattle.fx_model.proofs.Writable.{chains_can_be_written}
+use Rattle.fx_laws.proofs.Writable.{chains_can_be_written}
 
 -- the first part by itself
 pub writable_first : (sets : Sets) (chains : Chains) (es fs : List (ChainName × List ChainRule)) → CanBeWritten sets chains (es ++ fs) → CanBeWritten sets chains es

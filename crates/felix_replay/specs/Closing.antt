@@ -1,5 +1,5 @@
 -- The views that are sent along a run, one after each single message, and what is asked of each.
-use Rattle.std.specs.Prelude.{ℕ, List, [], ◌∷◌, ◌++◌, Result, Ok, Err}
+use Rattle.std.specs.Prelude.{ℕ, List, [], ◌∷◌, ◌++◌, None, Result, Ok, Err}
 use Rattle.fx_model.specs.declared.view.View.{View}
 use Rattle.fx_model.specs.Views.{view_of}
 use Rattle.fx_model.specs.Tables.{tables_of}
@@ -14,7 +14,7 @@ use Rattle.felix_replay.specs.Output.{State, answer_of, next}
 abbrev pub views_in : State → Result Command Refusal → List View
 views_in s (Ok command.Blank) = []
 views_in s (Ok command.Tables) = []
-views_in s (Ok command.Flush) = sent_views (flush s.sent (view_of s.digest s.resources)) s.sent (view_of s.digest s.resources)
+views_in s (Ok command.Flush) = sent_views (flush None s.sent (view_of s.digest s.resources)).messages s.sent (view_of s.digest s.resources)
 views_in s (Ok (command.Update u)) = []
 views_in s (Ok (command.Packet a)) = []
 views_in s (Err r) = []

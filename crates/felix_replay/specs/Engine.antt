@@ -1,4 +1,4 @@
--- What an engine stands for, and what it keeps.
+-- What an engine stands for, and its invariant.
 use Rattle.std.specs.Prelude.{◌≡◌, true}
 use Rattle.fx_model.specs.Closed.{IsClosedView}
 use Rattle.fx_model.specs.Formed.{are_formed}
@@ -17,7 +17,7 @@ pub record IsRendered (e : Engine) : Type 0 where
   pub rendered : e.tables ≡ tables_of e.sent
 
 -- the resources are formed, their claims are kept, and the sent view is rendered
-pub record IsKept (dg : Digest) (e : Engine) : Type 0 where
+pub record HoldsInvariant (dg : Digest) (e : Engine) : Type 0 where
   pub formed : are_formed e.store.resources ≡ true
   pub claims : KeepsClaims dg e.store
   pub sent : IsRendered e

@@ -10,7 +10,7 @@ use Rattle.fx_model.specs.declared.resources.Update.{Update}
 use Rattle.fx_model.specs.declared.resources.Update.TheVariants as update
 use Rattle.fx_model.specs.declared.resources.Resources.{Resources}
 use Rattle.fx_model.specs.declared.view.View.{View}
-use Rattle.fx_model.specs.Resources.{after, is_local}
+use Rattle.fx_model.specs.Resources.{after, is_local, empty_resources}
 use Rattle.fx_names.specs.Digests.{Digest}
 use Rattle.fx_names.specs.Claims.{Clash}
 use Rattle.fx_model.specs.Claims.{clash}
@@ -25,8 +25,8 @@ use Rattle.fx_lines.specs.declared.commands.Command.TheVariants as command
 use Rattle.fx_lines.specs.Lines.{lines_of}
 use Rattle.fx_lines.specs.Commands.{command_of}
 use Rattle.fx_print.specs.Texts.{refusal_line, flushed_line}
-use Rattle.fx_print.specs.MessageTexts.{message_line}
-use Rattle.fx_print.specs.TableTexts.{table_lines}
+use Rattle.fx_model.specs.MessageTexts.{message_line}
+use Rattle.fx_model.specs.TableTexts.{table_lines}
 use Rattle.felix_replay.specs.PacketRuns.{packet_text}
 use Rattle.felix_replay.specs.Run.{state_after, written}
 
@@ -43,7 +43,7 @@ pub record State : Type 0 where
 abbrev pub start : Digest → List ℕ → State
 start dg node = record {
   digest = dg;
-  resources = record { node = node; in_sync = false; endpoints = maps.empty; profiles = maps.empty };
+  resources = empty_resources node;
   sent = empty_view;
   lines = 0;
   refused = false;
@@ -84,7 +84,7 @@ answer_of s line = checked s.digest s.resources (command_of line)
 abbrev pub accepted : State → Command → State
 accepted s command.Blank = s
 accepted s command.Tables = s
-accepted s command.Flush = record s { sent = view_of s.digest s.resources }
+accepted s command.Flush = record s { sent = (flush None s.sent (view_of s.digest s.resources)).ends }
 accepted s (command.Update u) = record s { resources = after s.resources u }
 accepted s (command.Packet a) = s
 
@@ -105,11 +105,11 @@ first_text (Some c) = message_line c
 
 -- the messages from one view to another
 abbrev pub messages_text : View → View → List ℕ
-messages_text sent wanted = concat (map message_line (flush sent wanted))
+messages_text sent wanted = concat (map message_line (flush None sent wanted).messages)
 
 -- how many there are, as far as 64 bits tell
 abbrev pub told_count : View → View → ℕ
-told_count sent wanted = min (length (flush sent wanted)) (2 ^ 64 - 1)
+told_count sent wanted = min (length (flush None sent wanted).messages) (2 ^ 64 - 1)
 
 abbrev pub flush_text : View → View → List ℕ
 flush_text sent wanted = messages_text sent wanted ++ flushed_line (told_count sent wanted)

@@ -228,7 +228,7 @@ pub fn dispatch_chain(
     Ok(chain)
 }
 
-fn cali(alloc: Global, end: End) -> Result<Seq<Match>, Memory>
+fn workload_interfaces(alloc: Global, end: End) -> Result<Seq<Match>, Memory>
     ensures { IfOk result (λ ms. ms ≡ Match.Iface end (codes "cali") true ∷ []) }
 {
     let name = Text::new(alloc, b"cali")?;
@@ -249,8 +249,8 @@ pub fn forward_chain(alloc: Global) -> Result<Seq<ChainRule>, Memory>
     let mut chain = Seq::new(alloc);
     chain.push(plain(Seq::new(alloc), clear_mark(0xf0000)))?;
     let from = Target::Jump(root_name(false));
-    chain.push(plain(cali(alloc, End::Source)?, from))?;
+    chain.push(plain(workload_interfaces(alloc, End::Source)?, from))?;
     let to = Target::Jump(root_name(true));
-    chain.push(plain(cali(alloc, End::Dest)?, to))?;
+    chain.push(plain(workload_interfaces(alloc, End::Dest)?, to))?;
     Ok(chain)
 }

@@ -1,17 +1,19 @@
 //! Answers one line after another.
-ghost use Rattle.std.specs.Prelude.{◌≡◌, ◌+◌, ◌-◌, ◌^◌, ◌<◌, ◌≤◌, ◌&&◌, not, OnOk, OnErr, IfOk, Ok, Err, true};
+ghost use Rattle.std.specs.Prelude.{◌≡◌, ◌+◌, ◌-◌, ◌^◌, ◌<◌, ◌≤◌, ◌&&◌, not, None, OnOk, OnErr, IfOk, Ok, Err, true};
 ghost use Rattle.std.specs.List.{concat, list_any};
 ghost use Rattle.std.specs.FinMap as maps;
 ghost use Rattle.fx_names.specs.Digests.{Digest};
 ghost use Rattle.fx_store.specs.Keeping.{KeepsClaims};
 ghost use Rattle.fx_model.specs.Resources.{after, is_local};
+ghost use Rattle.fx_model.specs.Formed.{is_formed};
+ghost use Rattle.fx_model.specs.Messages.{flush};
 ghost use Rattle.fx_model.specs.Tables.{tables_of};
 ghost use Rattle.fx_model.specs.Views.{view_of};
 ghost use Rattle.fx_model.specs.contracts.ids.ItemKeyPartialEq.TheImpl as item_eq;
 ghost use Rattle.fx_print.specs.Texts.{refusal_line, flushed_line};
-ghost use Rattle.fx_lines.specs.Formed.{is_formed_command};
+ghost use Rattle.fx_lines.specs.Formed.{IsReadCommand};
 ghost use Rattle.felix_replay.specs.Output.{start, next, text, checked, update_answer, after_answer, answer_text, is_second_local, flush_text};
-ghost use Rattle.fx_print.specs.TableTexts.{table_lines};
+ghost use Rattle.fx_model.specs.TableTexts.{table_lines};
 ghost use Rattle.felix_replay.specs.PacketRuns.{packet_text};
 ghost use Rattle.felix_replay.specs.Fitting.{Fits};
 ghost use Rattle.fx_lines.specs.Commands.{command_of};
@@ -43,11 +45,11 @@ pub struct Engine {
 }
 
 impl Engine {
-    ghost use Rattle.felix_replay.specs.Engine.{state_of, IsKept, IsRendered};
+    ghost use Rattle.felix_replay.specs.Engine.{state_of, HoldsInvariant, IsRendered};
 
     pub fn new(alloc: Global, node: Text) -> Result<Engine, Memory>
         ensures state { IfOk result (λ e. (dg : Digest) → state_of dg e ≡ start dg node) }
-        ensures kept { IfOk result (λ e. (dg : Digest) → IsKept dg e) }
+        ensures invariant { IfOk result (λ e. (dg : Digest) → HoldsInvariant dg e) }
     {
         let sent = View::new(alloc);
         let tables = tables_of(alloc, &sent)?;
@@ -68,9 +70,9 @@ impl Engine {
         namer: &Namer<R, F>,
         sink: &mut K,
     ) -> Result<(), RunFault>
-        requires kept { IsKept R.digest_of self.old }
+        requires invariant { HoldsInvariant R.digest_of self.old }
         requires few { self.old.lines < 2 ^ 64 - 1 }
-        ensures kept { OnOk result (IsKept R.digest_of self.new) }
+        ensures invariant { OnOk result (HoldsInvariant R.digest_of self.new) }
         ensures state { OnOk result (state_of R.digest_of self.new ≡ next (state_of R.digest_of self.old) line.now) }
         ensures writes { Writes (K.state sink.old) (K.state sink.new) (text (state_of R.digest_of self.old) line.now) result }
     {
@@ -85,10 +87,10 @@ impl Engine {
         namer: &Namer<R, F>,
         sink: &mut K,
     ) -> Result<(), RunFault>
-        requires kept { IsKept R.digest_of self.old }
+        requires invariant { HoldsInvariant R.digest_of self.old }
         requires few { self.old.lines < 2 ^ 64 - 1 }
         requires fits { IfOk answer (Fits R.digest_of self.old.store.resources) }
-        ensures kept { OnOk result (IsKept R.digest_of self.new) }
+        ensures invariant { OnOk result (HoldsInvariant R.digest_of self.new) }
         ensures state { OnOk result (state_of R.digest_of self.new ≡ after_answer (state_of R.digest_of self.old) answer) }
         ensures writes { Writes (K.state sink.old) (K.state sink.new) (answer_text (state_of R.digest_of self.old) answer) result }
     {
@@ -108,9 +110,9 @@ impl Engine {
         update: Update,
         namer: &Namer<R, F>,
     ) -> Result<(), Memory>
-        requires kept { IsKept R.digest_of self.old }
+        requires invariant { HoldsInvariant R.digest_of self.old }
         requires fits { Fits R.digest_of self.old.store.resources (Command.Update update) }
-        ensures kept { OnOk result (IsKept R.digest_of self.new) }
+        ensures invariant { OnOk result (HoldsInvariant R.digest_of self.new) }
         ensures state { OnOk result (state_of R.digest_of self.new ≡ record (state_of R.digest_of self.old) { resources = after self.old.store.resources update }) }
     {
         self.store.apply(update, namer)?;
@@ -134,7 +136,7 @@ impl Engine {
     }
 
     // What the tables decide on a packet, and why.
-    #[tactic(auto, using(crate::proofs::Policing::kept_first, crate::proofs::Policing::kept_text))]
+    #[tactic(auto, using(crate::proofs::Policing::rendered_first, crate::proofs::Policing::rendered_text))]
     fn decided(&self, packet: &Packet) -> Result<Vec<Text>, Memory>
         requires rendered { IsRendered self.now }
         ensures { IfOk result (λ lines. concat lines.items ≡ packet_text (tables_of self.now.sent) packet.now) }
@@ -167,9 +169,9 @@ impl Engine {
         namer: &Namer<R, F>,
         sink: &mut K,
     ) -> Result<(), RunFault>
-        requires kept { IsKept R.digest_of self.old }
-        ensures kept { OnOk result (IsKept R.digest_of self.new) }
-        ensures state { OnOk result (state_of R.digest_of self.new ≡ record (state_of R.digest_of self.old) { sent = view_of R.digest_of self.old.store.resources }) }
+        requires invariant { HoldsInvariant R.digest_of self.old }
+        ensures invariant { OnOk result (HoldsInvariant R.digest_of self.new) }
+        ensures state { OnOk result (state_of R.digest_of self.new ≡ record (state_of R.digest_of self.old) { sent = (flush None self.old.sent (view_of R.digest_of self.old.store.resources)).ends }) }
         ensures writes { Writes (K.state sink.old) (K.state sink.new) (flush_text self.old.sent (view_of R.digest_of self.old.store.resources)) result }
     {
         let wanted = view_of(self.alloc, self.store.resources(), namer)?;
@@ -188,10 +190,10 @@ fn put_count<K: Sink>(alloc: Global, count: u64, sink: &mut K) -> Result<(), Run
 }
 
 // The command of a line, or its refusal. Want of memory is neither.
-#[tactic(auto, using(crate::proofs::Asked::told_as_defined))]
+#[tactic(auto, using(crate::proofs::Asked::refused_as_defined))]
 fn command_in(alloc: Global, line: &[u8]) -> Result<Result<Command, Refusal>, Memory>
     ensures answer { IfOk result (λ said. said ≡ command_of line.now) }
-    ensures formed { IfOk result (λ said. IfOk said (λ c. is_formed_command c ≡ true)) }
+    ensures read { IfOk result (λ said. IfOk said IsReadCommand) }
 {
     match read_command(alloc, line) {
         Ok(command) => Ok(Ok(command)),
@@ -213,7 +215,7 @@ fn checked<R: DigestRule, F: DigestFunction<R> + Drop>(
     namer: &Namer<R, F>,
 ) -> Result<Result<Command, Refusal>, Memory>
     requires claims { KeepsClaims R.digest_of store.now }
-    requires formed { IfOk said (λ c. is_formed_command c ≡ true) }
+    requires read { IfOk said IsReadCommand }
     ensures answer { IfOk result (λ answer. answer ≡ checked R.digest_of store.now.resources said) }
     ensures fits { IfOk result (λ answer. IfOk answer (Fits R.digest_of store.now.resources)) }
 {
@@ -230,6 +232,7 @@ fn checked_update<R: DigestRule, F: DigestFunction<R> + Drop>(
     namer: &Namer<R, F>,
 ) -> Result<Result<Command, Refusal>, Memory>
     requires claims { KeepsClaims R.digest_of store.now }
+    requires formed { is_formed update ≡ true }
     ensures { IfOk result (λ answer. answer ≡ update_answer R.digest_of store.now.resources update) }
 {
     if is_second_local(store.resources(), &update) {

@@ -7,8 +7,6 @@ mod chains;
 mod driver;
 mod engine;
 #[cfg(test)]
-mod name_tests;
-#[cfg(test)]
 mod refusal_rows;
 #[cfg(test)]
 mod refusal_tests;
@@ -17,6 +15,8 @@ mod rule_rows;
 #[cfg(test)]
 mod rule_tests;
 mod run_fault;
+#[cfg(test)]
+mod run_rows;
 mod sending;
 #[cfg(test)]
 mod tests;

@@ -6,7 +6,7 @@ use std::alloc::Global;
 use std::test::Fail;
 
 // What a run on this line alone writes, without its newline, and whether it refused the line.
-fn told(alloc: Global, line: &[u8]) -> Result<(bool, Vec<u8>), Fail> {
+fn answered(alloc: Global, line: &[u8]) -> Result<(bool, Vec<u8>), Fail> {
     let (status, mut held) = replayed(alloc, Vec::from_slice(alloc, line)?)?;
     held.pop();
     Ok((status == Status::Refused, held))
@@ -14,21 +14,21 @@ fn told(alloc: Global, line: &[u8]) -> Result<(bool, Vec<u8>), Fail> {
 
 #[test]
 fn each_line_is_refused_for_its_first_fault(rt: HostRuntime) -> Result<(), Fail> {
-    for row in ROWS.lines() {
-        if row.starts_with('#') {
+    for (row, text) in ROWS.lines().enumerate() {
+        if text.starts_with('#') {
             continue;
         }
-        let (line, refusal) = row.split_once(" => ").unwrap_or((row, ""));
-        let (refused, held) = told(rt.alloc(), line.as_bytes())?;
-        assert_eq!(rt; held.as_slice(), refusal.as_bytes());
-        assert_eq!(rt; refused, !refusal.is_empty());
+        let (line, refusal) = text.split_once(" => ").unwrap_or((text, ""));
+        let (refused, held) = answered(rt.alloc(), line.as_bytes())?;
+        assert_eq!(rt; held.as_slice(), refusal.as_bytes(), "row {row}");
+        assert_eq!(rt; refused, !refusal.is_empty(), "row {row}");
     }
     Ok(())
 }
 
 #[test]
 fn bytes_that_are_not_utf8_are_no_json(rt: HostRuntime) -> Result<(), Fail> {
-    let (refused, held) = told(rt.alloc(), b"{\"tables\":true,\"x\":\"\xff\"}")?;
+    let (refused, held) = answered(rt.alloc(), b"{\"tables\":true,\"x\":\"\xff\"}")?;
     assert!(rt; refused);
     assert_eq!(rt; held.as_slice(), b"refused 1 21 BadJson".as_slice());
     Ok(())
@@ -45,7 +45,7 @@ fn a_name_of_4_million_bytes_is_no_name(rt: HostRuntime) -> Result<(), Fail> {
         line.push(b'a')?;
     }
     line.extend_from_slice(b"\"}}}")?;
-    let (refused, held) = told(alloc, line.as_slice())?;
+    let (refused, held) = answered(alloc, line.as_slice())?;
     assert!(rt; refused);
     assert_eq!(rt;
         held.as_slice(),

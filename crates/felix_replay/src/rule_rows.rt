@@ -1,383 +1,67 @@
 //! Rules of a profile and packets to the endpoint that lists it: each criterion holding and not, and rules of one block and more.
-//! A row has the rule, the packet's members behind its interfaces, the place of the main rule in the profile's chain (none where
+//! A row has the rule, the packet's members behind its interfaces, the place of the main rule in the profile's chain (`-` where
 //! the rule doesn't match), and the verdict.
-pub const ROWS: &[(&[u8], &[u8], &[u8], &[u8])] = &[
-    (
-        br#"{"action":"Allow"}"#,
-        br#""proto":"TCP","src":"192.0.2.1","dst":"10.0.0.1","sport":40000,"dport":80"#,
-        b"1",
-        b"allow",
-    ),
-    (
-        br#"{"action":"Allow"}"#,
-        br#""proto":"ICMP","src":"192.0.2.1","dst":"10.0.0.1","icmpType":8,"icmpCode":0"#,
-        b"1",
-        b"allow",
-    ),
-    (
-        br#"{"action":"Allow","ipVersion":6}"#,
-        br#""proto":"TCP","src":"192.0.2.1","dst":"10.0.0.1","sport":40000,"dport":80"#,
-        b"",
-        b"deny",
-    ),
-    (
-        br#"{"action":"Allow","ipVersion":4}"#,
-        br#""proto":"TCP","src":"192.0.2.1","dst":"10.0.0.1","sport":40000,"dport":80"#,
-        b"1",
-        b"allow",
-    ),
-    (
-        br#"{"action":"Allow","protocol":"TCP"}"#,
-        br#""proto":"TCP","src":"192.0.2.1","dst":"10.0.0.1","sport":40000,"dport":80"#,
-        b"1",
-        b"allow",
-    ),
-    (
-        br#"{"action":"Allow","protocol":"TCP"}"#,
-        br#""proto":"UDP","src":"192.0.2.1","dst":"10.0.0.1","sport":40000,"dport":80"#,
-        b"",
-        b"deny",
-    ),
-    (
-        br#"{"action":"Allow","notProtocol":"TCP"}"#,
-        br#""proto":"TCP","src":"192.0.2.1","dst":"10.0.0.1","sport":40000,"dport":80"#,
-        b"",
-        b"deny",
-    ),
-    (
-        br#"{"action":"Allow","notProtocol":"TCP"}"#,
-        br#""proto":"UDP","src":"192.0.2.1","dst":"10.0.0.1","sport":40000,"dport":80"#,
-        b"1",
-        b"allow",
-    ),
-    (
-        br#"{"action":"Allow","protocol":6}"#,
-        br#""proto":"TCP","src":"192.0.2.1","dst":"10.0.0.1","sport":40000,"dport":80"#,
-        b"1",
-        b"allow",
-    ),
-    (
-        br#"{"action":"Allow","protocol":"TCP","notProtocol":"TCP"}"#,
-        br#""proto":"TCP","src":"192.0.2.1","dst":"10.0.0.1","sport":40000,"dport":80"#,
-        b"",
-        b"deny",
-    ),
-    (
-        br#"{"action":"Allow","protocol":"TCP","notProtocol":"UDP"}"#,
-        br#""proto":"TCP","src":"192.0.2.1","dst":"10.0.0.1","sport":40000,"dport":80"#,
-        b"1",
-        b"allow",
-    ),
-    (
-        br#"{"action":"Allow","source":{"nets":["192.0.2.0/24"]}}"#,
-        br#""proto":"TCP","src":"192.0.2.1","dst":"10.0.0.1","sport":40000,"dport":80"#,
-        b"1",
-        b"allow",
-    ),
-    (
-        br#"{"action":"Allow","source":{"nets":["192.0.2.0/24"]}}"#,
-        br#""proto":"TCP","src":"192.0.3.1","dst":"10.0.0.1","sport":40000,"dport":80"#,
-        b"",
-        b"deny",
-    ),
-    (
-        br#"{"action":"Allow","source":{"nets":["192.0.2.1"]}}"#,
-        br#""proto":"TCP","src":"192.0.2.1","dst":"10.0.0.1","sport":40000,"dport":80"#,
-        b"1",
-        b"allow",
-    ),
-    (
-        br#"{"action":"Allow","source":{"nets":["192.0.2.1"]}}"#,
-        br#""proto":"TCP","src":"192.0.2.0","dst":"10.0.0.1","sport":40000,"dport":80"#,
-        b"",
-        b"deny",
-    ),
-    (
-        br#"{"action":"Allow","destination":{"nets":["10.0.0.0/31"]}}"#,
-        br#""proto":"TCP","src":"192.0.2.1","dst":"10.0.0.1","sport":40000,"dport":80"#,
-        b"1",
-        b"allow",
-    ),
-    (
-        br#"{"action":"Allow","destination":{"nets":["10.0.0.0/31"]}}"#,
-        br#""proto":"TCP","src":"192.0.2.1","dst":"10.0.0.2","sport":40000,"dport":80"#,
-        b"",
-        b"deny",
-    ),
-    (
-        br#"{"action":"Allow","source":{"nets":["0.0.0.0/0"]}}"#,
-        br#""proto":"TCP","src":"192.0.2.1","dst":"10.0.0.1","sport":40000,"dport":80"#,
-        b"1",
-        b"allow",
-    ),
-    (
-        br#"{"action":"Allow","source":{"nets":["fd00::/8"]}}"#,
-        br#""proto":"TCP","src":"192.0.2.1","dst":"10.0.0.1","sport":40000,"dport":80"#,
-        b"",
-        b"deny",
-    ),
-    (
-        br#"{"action":"Allow","source":{"nets":["fd00::/8","192.0.2.0/24"]}}"#,
-        br#""proto":"TCP","src":"192.0.2.1","dst":"10.0.0.1","sport":40000,"dport":80"#,
-        b"1",
-        b"allow",
-    ),
-    (
-        br#"{"action":"Allow","source":{"notNets":["192.0.2.0/24"]}}"#,
-        br#""proto":"TCP","src":"192.0.2.1","dst":"10.0.0.1","sport":40000,"dport":80"#,
-        b"",
-        b"deny",
-    ),
-    (
-        br#"{"action":"Allow","source":{"notNets":["192.0.2.0/24"]}}"#,
-        br#""proto":"TCP","src":"192.0.3.1","dst":"10.0.0.1","sport":40000,"dport":80"#,
-        b"1",
-        b"allow",
-    ),
-    (
-        br#"{"action":"Allow","destination":{"notNets":["10.0.0.1/32"]}}"#,
-        br#""proto":"TCP","src":"192.0.2.1","dst":"10.0.0.1","sport":40000,"dport":80"#,
-        b"",
-        b"deny",
-    ),
-    (
-        br#"{"action":"Allow","destination":{"notNets":["10.0.0.1/32"]}}"#,
-        br#""proto":"TCP","src":"192.0.2.1","dst":"10.0.0.2","sport":40000,"dport":80"#,
-        b"1",
-        b"allow",
-    ),
-    (
-        br#"{"action":"Allow","source":{"notNets":["fd00::/8"]}}"#,
-        br#""proto":"TCP","src":"192.0.2.1","dst":"10.0.0.1","sport":40000,"dport":80"#,
-        b"1",
-        b"allow",
-    ),
-    (
-        br#"{"action":"Allow","protocol":"TCP","source":{"ports":[40000]}}"#,
-        br#""proto":"TCP","src":"192.0.2.1","dst":"10.0.0.1","sport":40000,"dport":80"#,
-        b"1",
-        b"allow",
-    ),
-    (
-        br#"{"action":"Allow","protocol":"TCP","source":{"ports":[40000]}}"#,
-        br#""proto":"TCP","src":"192.0.2.1","dst":"10.0.0.1","sport":40001,"dport":80"#,
-        b"",
-        b"deny",
-    ),
-    (
-        br#"{"action":"Allow","protocol":"TCP","destination":{"ports":["80:90"]}}"#,
-        br#""proto":"TCP","src":"192.0.2.1","dst":"10.0.0.1","sport":40000,"dport":80"#,
-        b"1",
-        b"allow",
-    ),
-    (
-        br#"{"action":"Allow","protocol":"TCP","destination":{"ports":["80:90"]}}"#,
-        br#""proto":"TCP","src":"192.0.2.1","dst":"10.0.0.1","sport":40000,"dport":90"#,
-        b"1",
-        b"allow",
-    ),
-    (
-        br#"{"action":"Allow","protocol":"TCP","destination":{"ports":["80:90"]}}"#,
-        br#""proto":"TCP","src":"192.0.2.1","dst":"10.0.0.1","sport":40000,"dport":91"#,
-        b"",
-        b"deny",
-    ),
-    (
-        br#"{"action":"Allow","protocol":"UDP","destination":{"ports":["53"]}}"#,
-        br#""proto":"UDP","src":"192.0.2.1","dst":"10.0.0.1","sport":40000,"dport":53"#,
-        b"1",
-        b"allow",
-    ),
-    (
-        br#"{"action":"Allow","protocol":"UDP","destination":{"ports":["53"]}}"#,
-        br#""proto":"TCP","src":"192.0.2.1","dst":"10.0.0.1","sport":40000,"dport":53"#,
-        b"",
-        b"deny",
-    ),
-    (
-        br#"{"action":"Allow","protocol":"SCTP","destination":{"notPorts":[80]}}"#,
-        br#""proto":"SCTP","src":"192.0.2.1","dst":"10.0.0.1","sport":40000,"dport":80"#,
-        b"",
-        b"deny",
-    ),
-    (
-        br#"{"action":"Allow","protocol":"SCTP","destination":{"notPorts":[80]}}"#,
-        br#""proto":"SCTP","src":"192.0.2.1","dst":"10.0.0.1","sport":40000,"dport":81"#,
-        b"1",
-        b"allow",
-    ),
-    (
-        br#"{"action":"Allow","protocol":"TCP","source":{"notPorts":["1:39999"]}}"#,
-        br#""proto":"TCP","src":"192.0.2.1","dst":"10.0.0.1","sport":40000,"dport":80"#,
-        b"1",
-        b"allow",
-    ),
-    (
-        br#"{"action":"Allow","protocol":"TCP","source":{"notPorts":["1:39999"]}}"#,
-        br#""proto":"TCP","src":"192.0.2.1","dst":"10.0.0.1","sport":39999,"dport":80"#,
-        b"",
-        b"deny",
-    ),
-    (
-        br#"{"action":"Allow","protocol":"ICMP","icmp":{"type":8}}"#,
-        br#""proto":"ICMP","src":"192.0.2.1","dst":"10.0.0.1","icmpType":8,"icmpCode":0"#,
-        b"1",
-        b"allow",
-    ),
-    (
-        br#"{"action":"Allow","protocol":"ICMP","icmp":{"type":8}}"#,
-        br#""proto":"ICMP","src":"192.0.2.1","dst":"10.0.0.1","icmpType":0,"icmpCode":0"#,
-        b"",
-        b"deny",
-    ),
-    (
-        br#"{"action":"Allow","protocol":"ICMP","icmp":{"type":8}}"#,
-        br#""proto":"TCP","src":"192.0.2.1","dst":"10.0.0.1","sport":40000,"dport":80"#,
-        b"",
-        b"deny",
-    ),
-    (
-        br#"{"action":"Allow","protocol":"ICMP","icmp":{"type":8,"code":0}}"#,
-        br#""proto":"ICMP","src":"192.0.2.1","dst":"10.0.0.1","icmpType":8,"icmpCode":0"#,
-        b"1",
-        b"allow",
-    ),
-    (
-        br#"{"action":"Allow","protocol":"ICMP","icmp":{"type":8,"code":0}}"#,
-        br#""proto":"ICMP","src":"192.0.2.1","dst":"10.0.0.1","icmpType":8,"icmpCode":1"#,
-        b"",
-        b"deny",
-    ),
-    (
-        br#"{"action":"Allow","protocol":"ICMP","notICMP":{"type":8,"code":0}}"#,
-        br#""proto":"ICMP","src":"192.0.2.1","dst":"10.0.0.1","icmpType":8,"icmpCode":0"#,
-        b"",
-        b"deny",
-    ),
-    (
-        br#"{"action":"Allow","protocol":"ICMP","notICMP":{"type":8,"code":0}}"#,
-        br#""proto":"ICMP","src":"192.0.2.1","dst":"10.0.0.1","icmpType":8,"icmpCode":1"#,
-        b"1",
-        b"allow",
-    ),
-    (
-        br#"{"action":"Allow","protocol":"ICMPv6","icmp":{"type":128}}"#,
-        br#""proto":"ICMPv6","src":"192.0.2.1","dst":"10.0.0.1","sport":40000,"dport":80"#,
-        b"",
-        b"deny",
-    ),
-    (
-        br#"{"action":"Allow","protocol":"ICMPv6"}"#,
-        br#""proto":"ICMPv6","src":"192.0.2.1","dst":"10.0.0.1","sport":40000,"dport":80"#,
-        b"1",
-        b"allow",
-    ),
-    (
-        br#"{"action":"Allow","source":{"nets":["10.1.0.0/16","192.0.2.0/24"]}}"#,
-        br#""proto":"TCP","src":"192.0.2.1","dst":"10.0.0.1","sport":40000,"dport":80"#,
-        b"6",
-        b"allow",
-    ),
-    (
-        br#"{"action":"Allow","source":{"nets":["10.1.0.0/16","192.0.2.0/24"]}}"#,
-        br#""proto":"TCP","src":"10.2.0.1","dst":"10.0.0.1","sport":40000,"dport":80"#,
-        b"",
-        b"deny",
-    ),
-    (
-        br#"{"action":"Allow","source":{"nets":["192.0.2.0/24"],"notNets":["192.0.2.1"]}}"#,
-        br#""proto":"TCP","src":"192.0.2.1","dst":"10.0.0.1","sport":40000,"dport":80"#,
-        b"",
-        b"deny",
-    ),
-    (
-        br#"{"action":"Allow","source":{"nets":["192.0.2.0/24"],"notNets":["192.0.2.1"]}}"#,
-        br#""proto":"TCP","src":"192.0.2.2","dst":"10.0.0.1","sport":40000,"dport":80"#,
-        b"3",
-        b"allow",
-    ),
-    (
-        br#"{"action":"Allow","source":{"notNets":["192.0.2.1","192.0.2.2"]}}"#,
-        br#""proto":"TCP","src":"192.0.2.1","dst":"10.0.0.1","sport":40000,"dport":80"#,
-        b"",
-        b"deny",
-    ),
-    (
-        br#"{"action":"Allow","source":{"notNets":["192.0.2.1","192.0.2.2"]}}"#,
-        br#""proto":"TCP","src":"192.0.2.3","dst":"10.0.0.1","sport":40000,"dport":80"#,
-        b"4",
-        b"allow",
-    ),
-    (
-        br#"{"action":"Allow","protocol":"TCP","destination":{"ports":[1,2,3,4,5,6,7,8,9,10,11,12,13,14,15,16,"100:200"]}}"#,
-        br#""proto":"TCP","src":"192.0.2.1","dst":"10.0.0.1","sport":40000,"dport":16"#,
-        b"6",
-        b"allow",
-    ),
-    (
-        br#"{"action":"Allow","protocol":"TCP","destination":{"ports":[1,2,3,4,5,6,7,8,9,10,11,12,13,14,15,16,"100:200"]}}"#,
-        br#""proto":"TCP","src":"192.0.2.1","dst":"10.0.0.1","sport":40000,"dport":150"#,
-        b"6",
-        b"allow",
-    ),
-    (
-        br#"{"action":"Allow","protocol":"TCP","destination":{"ports":[1,2,3,4,5,6,7,8,9,10,11,12,13,14,15,16,"100:200"]}}"#,
-        br#""proto":"TCP","src":"192.0.2.1","dst":"10.0.0.1","sport":40000,"dport":80"#,
-        b"",
-        b"deny",
-    ),
-    (
-        br#"{"action":"Allow","protocol":"TCP","source":{"nets":["10.1.0.0/16","192.0.2.0/24"]},"destination":{"ports":[1,2,3,4,5,6,7,8,9,10,11,12,13,14,15,16,"100:200"]}}"#,
-        br#""proto":"TCP","src":"192.0.2.1","dst":"10.0.0.1","sport":40000,"dport":16"#,
-        b"10",
-        b"allow",
-    ),
-    (
-        br#"{"action":"Allow","protocol":"TCP","source":{"nets":["10.1.0.0/16","192.0.2.0/24"]},"destination":{"ports":[1,2,3,4,5,6,7,8,9,10,11,12,13,14,15,16,"100:200"]}}"#,
-        br#""proto":"TCP","src":"192.0.2.1","dst":"10.0.0.1","sport":40000,"dport":80"#,
-        b"",
-        b"deny",
-    ),
-    (
-        br#"{"action":"Allow","protocol":"TCP","source":{"nets":["10.1.0.0/16","192.0.2.0/24"]},"destination":{"ports":[1,2,3,4,5,6,7,8,9,10,11,12,13,14,15,16,"100:200"]}}"#,
-        br#""proto":"TCP","src":"10.2.0.1","dst":"10.0.0.1","sport":40000,"dport":16"#,
-        b"",
-        b"deny",
-    ),
-    (
-        br#"{"action":"Allow","protocol":"TCP","source":{"nets":["10.1.0.0/16","192.0.2.0/24"]},"destination":{"ports":[1,2,3,4,5,6,7,8,9,10,11,12,13,14,15,16,"100:200"]}}"#,
-        br#""proto":"UDP","src":"192.0.2.1","dst":"10.0.0.1","sport":40000,"dport":16"#,
-        b"",
-        b"deny",
-    ),
-    (
-        br#"{"action":"Allow","protocol":"TCP","source":{"nets":["10.1.0.0/16","192.0.2.0/24"],"notNets":["192.0.2.1","192.0.2.9"]},"destination":{"nets":["10.0.0.0/24","10.0.1.0/24"],"ports":[80,443]}}"#,
-        br#""proto":"TCP","src":"192.0.2.2","dst":"10.0.0.1","sport":40000,"dport":80"#,
-        b"12",
-        b"allow",
-    ),
-    (
-        br#"{"action":"Allow","protocol":"TCP","source":{"nets":["10.1.0.0/16","192.0.2.0/24"],"notNets":["192.0.2.1","192.0.2.9"]},"destination":{"nets":["10.0.0.0/24","10.0.1.0/24"],"ports":[80,443]}}"#,
-        br#""proto":"TCP","src":"192.0.2.1","dst":"10.0.0.1","sport":40000,"dport":80"#,
-        b"",
-        b"deny",
-    ),
-    (
-        br#"{"action":"Allow","protocol":"TCP","source":{"nets":["10.1.0.0/16","192.0.2.0/24"],"notNets":["192.0.2.1","192.0.2.9"]},"destination":{"nets":["10.0.0.0/24","10.0.1.0/24"],"ports":[80,443]}}"#,
-        br#""proto":"TCP","src":"192.0.2.2","dst":"10.0.2.1","sport":40000,"dport":80"#,
-        b"",
-        b"deny",
-    ),
-    (
-        br#"{"action":"Allow","protocol":"TCP","source":{"nets":["10.1.0.0/16","192.0.2.0/24"],"notNets":["192.0.2.1","192.0.2.9"]},"destination":{"nets":["10.0.0.0/24","10.0.1.0/24"],"ports":[80,443]}}"#,
-        br#""proto":"TCP","src":"192.0.2.2","dst":"10.0.0.1","sport":40000,"dport":81"#,
-        b"",
-        b"deny",
-    ),
-    (
-        br#"{"action":"Deny","source":{"nets":["192.0.2.0/24"]}}"#,
-        br#""proto":"TCP","src":"192.0.2.1","dst":"10.0.0.1","sport":40000,"dport":80"#,
-        b"1",
-        b"deny",
-    ),
-];
+pub const ROWS: &str =
+    r##"{"action":"Allow"} => "proto":"TCP","src":"192.0.2.1","dst":"10.0.0.1","sport":40000,"dport":80 => 1 => allow
+{"action":"Allow"} => "proto":"ICMP","src":"192.0.2.1","dst":"10.0.0.1","icmpType":8,"icmpCode":0 => 1 => allow
+{"action":"Allow","ipVersion":6} => "proto":"TCP","src":"192.0.2.1","dst":"10.0.0.1","sport":40000,"dport":80 => - => deny
+{"action":"Allow","ipVersion":4} => "proto":"TCP","src":"192.0.2.1","dst":"10.0.0.1","sport":40000,"dport":80 => 1 => allow
+{"action":"Allow","protocol":"TCP"} => "proto":"TCP","src":"192.0.2.1","dst":"10.0.0.1","sport":40000,"dport":80 => 1 => allow
+{"action":"Allow","protocol":"TCP"} => "proto":"UDP","src":"192.0.2.1","dst":"10.0.0.1","sport":40000,"dport":80 => - => deny
+{"action":"Allow","notProtocol":"TCP"} => "proto":"TCP","src":"192.0.2.1","dst":"10.0.0.1","sport":40000,"dport":80 => - => deny
+{"action":"Allow","notProtocol":"TCP"} => "proto":"UDP","src":"192.0.2.1","dst":"10.0.0.1","sport":40000,"dport":80 => 1 => allow
+{"action":"Allow","protocol":6} => "proto":"TCP","src":"192.0.2.1","dst":"10.0.0.1","sport":40000,"dport":80 => 1 => allow
+{"action":"Allow","protocol":"TCP","notProtocol":"TCP"} => "proto":"TCP","src":"192.0.2.1","dst":"10.0.0.1","sport":40000,"dport":80 => - => deny
+{"action":"Allow","protocol":"TCP","notProtocol":"UDP"} => "proto":"TCP","src":"192.0.2.1","dst":"10.0.0.1","sport":40000,"dport":80 => 1 => allow
+{"action":"Allow","source":{"nets":["192.0.2.0/24"]}} => "proto":"TCP","src":"192.0.2.1","dst":"10.0.0.1","sport":40000,"dport":80 => 1 => allow
+{"action":"Allow","source":{"nets":["192.0.2.0/24"]}} => "proto":"TCP","src":"192.0.3.1","dst":"10.0.0.1","sport":40000,"dport":80 => - => deny
+{"action":"Allow","source":{"nets":["192.0.2.1"]}} => "proto":"TCP","src":"192.0.2.1","dst":"10.0.0.1","sport":40000,"dport":80 => 1 => allow
+{"action":"Allow","source":{"nets":["192.0.2.1"]}} => "proto":"TCP","src":"192.0.2.0","dst":"10.0.0.1","sport":40000,"dport":80 => - => deny
+{"action":"Allow","destination":{"nets":["10.0.0.0/31"]}} => "proto":"TCP","src":"192.0.2.1","dst":"10.0.0.1","sport":40000,"dport":80 => 1 => allow
+{"action":"Allow","destination":{"nets":["10.0.0.0/31"]}} => "proto":"TCP","src":"192.0.2.1","dst":"10.0.0.2","sport":40000,"dport":80 => - => deny
+{"action":"Allow","source":{"nets":["0.0.0.0/0"]}} => "proto":"TCP","src":"192.0.2.1","dst":"10.0.0.1","sport":40000,"dport":80 => 1 => allow
+{"action":"Allow","source":{"nets":["fd00::/8"]}} => "proto":"TCP","src":"192.0.2.1","dst":"10.0.0.1","sport":40000,"dport":80 => - => deny
+{"action":"Allow","source":{"nets":["fd00::/8","192.0.2.0/24"]}} => "proto":"TCP","src":"192.0.2.1","dst":"10.0.0.1","sport":40000,"dport":80 => 1 => allow
+{"action":"Allow","source":{"notNets":["192.0.2.0/24"]}} => "proto":"TCP","src":"192.0.2.1","dst":"10.0.0.1","sport":40000,"dport":80 => - => deny
+{"action":"Allow","source":{"notNets":["192.0.2.0/24"]}} => "proto":"TCP","src":"192.0.3.1","dst":"10.0.0.1","sport":40000,"dport":80 => 1 => allow
+{"action":"Allow","destination":{"notNets":["10.0.0.1/32"]}} => "proto":"TCP","src":"192.0.2.1","dst":"10.0.0.1","sport":40000,"dport":80 => - => deny
+{"action":"Allow","destination":{"notNets":["10.0.0.1/32"]}} => "proto":"TCP","src":"192.0.2.1","dst":"10.0.0.2","sport":40000,"dport":80 => 1 => allow
+{"action":"Allow","source":{"notNets":["fd00::/8"]}} => "proto":"TCP","src":"192.0.2.1","dst":"10.0.0.1","sport":40000,"dport":80 => 1 => allow
+{"action":"Allow","protocol":"TCP","source":{"ports":[40000]}} => "proto":"TCP","src":"192.0.2.1","dst":"10.0.0.1","sport":40000,"dport":80 => 1 => allow
+{"action":"Allow","protocol":"TCP","source":{"ports":[40000]}} => "proto":"TCP","src":"192.0.2.1","dst":"10.0.0.1","sport":40001,"dport":80 => - => deny
+{"action":"Allow","protocol":"TCP","destination":{"ports":["80:90"]}} => "proto":"TCP","src":"192.0.2.1","dst":"10.0.0.1","sport":40000,"dport":80 => 1 => allow
+{"action":"Allow","protocol":"TCP","destination":{"ports":["80:90"]}} => "proto":"TCP","src":"192.0.2.1","dst":"10.0.0.1","sport":40000,"dport":90 => 1 => allow
+{"action":"Allow","protocol":"TCP","destination":{"ports":["80:90"]}} => "proto":"TCP","src":"192.0.2.1","dst":"10.0.0.1","sport":40000,"dport":91 => - => deny
+{"action":"Allow","protocol":"UDP","destination":{"ports":["53"]}} => "proto":"UDP","src":"192.0.2.1","dst":"10.0.0.1","sport":40000,"dport":53 => 1 => allow
+{"action":"Allow","protocol":"UDP","destination":{"ports":["53"]}} => "proto":"TCP","src":"192.0.2.1","dst":"10.0.0.1","sport":40000,"dport":53 => - => deny
+{"action":"Allow","protocol":"SCTP","destination":{"notPorts":[80]}} => "proto":"SCTP","src":"192.0.2.1","dst":"10.0.0.1","sport":40000,"dport":80 => - => deny
+{"action":"Allow","protocol":"SCTP","destination":{"notPorts":[80]}} => "proto":"SCTP","src":"192.0.2.1","dst":"10.0.0.1","sport":40000,"dport":81 => 1 => allow
+{"action":"Allow","protocol":"TCP","source":{"notPorts":["1:39999"]}} => "proto":"TCP","src":"192.0.2.1","dst":"10.0.0.1","sport":40000,"dport":80 => 1 => allow
+{"action":"Allow","protocol":"TCP","source":{"notPorts":["1:39999"]}} => "proto":"TCP","src":"192.0.2.1","dst":"10.0.0.1","sport":39999,"dport":80 => - => deny
+{"action":"Allow","protocol":"ICMP","icmp":{"type":8}} => "proto":"ICMP","src":"192.0.2.1","dst":"10.0.0.1","icmpType":8,"icmpCode":0 => 1 => allow
+{"action":"Allow","protocol":"ICMP","icmp":{"type":8}} => "proto":"ICMP","src":"192.0.2.1","dst":"10.0.0.1","icmpType":0,"icmpCode":0 => - => deny
+{"action":"Allow","protocol":"ICMP","icmp":{"type":8}} => "proto":"TCP","src":"192.0.2.1","dst":"10.0.0.1","sport":40000,"dport":80 => - => deny
+{"action":"Allow","protocol":"ICMP","icmp":{"type":8,"code":0}} => "proto":"ICMP","src":"192.0.2.1","dst":"10.0.0.1","icmpType":8,"icmpCode":0 => 1 => allow
+{"action":"Allow","protocol":"ICMP","icmp":{"type":8,"code":0}} => "proto":"ICMP","src":"192.0.2.1","dst":"10.0.0.1","icmpType":8,"icmpCode":1 => - => deny
+{"action":"Allow","protocol":"ICMP","notICMP":{"type":8,"code":0}} => "proto":"ICMP","src":"192.0.2.1","dst":"10.0.0.1","icmpType":8,"icmpCode":0 => - => deny
+{"action":"Allow","protocol":"ICMP","notICMP":{"type":8,"code":0}} => "proto":"ICMP","src":"192.0.2.1","dst":"10.0.0.1","icmpType":8,"icmpCode":1 => 1 => allow
+{"action":"Allow","protocol":"ICMPv6","icmp":{"type":128}} => "proto":"ICMPv6","src":"192.0.2.1","dst":"10.0.0.1","sport":40000,"dport":80 => - => deny
+{"action":"Allow","protocol":"ICMPv6"} => "proto":"ICMPv6","src":"192.0.2.1","dst":"10.0.0.1","sport":40000,"dport":80 => 1 => allow
+{"action":"Allow","source":{"nets":["10.1.0.0/16","192.0.2.0/24"]}} => "proto":"TCP","src":"192.0.2.1","dst":"10.0.0.1","sport":40000,"dport":80 => 6 => allow
+{"action":"Allow","source":{"nets":["10.1.0.0/16","192.0.2.0/24"]}} => "proto":"TCP","src":"10.2.0.1","dst":"10.0.0.1","sport":40000,"dport":80 => - => deny
+{"action":"Allow","source":{"nets":["192.0.2.0/24"],"notNets":["192.0.2.1"]}} => "proto":"TCP","src":"192.0.2.1","dst":"10.0.0.1","sport":40000,"dport":80 => - => deny
+{"action":"Allow","source":{"nets":["192.0.2.0/24"],"notNets":["192.0.2.1"]}} => "proto":"TCP","src":"192.0.2.2","dst":"10.0.0.1","sport":40000,"dport":80 => 3 => allow
+{"action":"Allow","source":{"notNets":["192.0.2.1","192.0.2.2"]}} => "proto":"TCP","src":"192.0.2.1","dst":"10.0.0.1","sport":40000,"dport":80 => - => deny
+{"action":"Allow","source":{"notNets":["192.0.2.1","192.0.2.2"]}} => "proto":"TCP","src":"192.0.2.3","dst":"10.0.0.1","sport":40000,"dport":80 => 4 => allow
+{"action":"Allow","protocol":"TCP","destination":{"ports":[1,2,3,4,5,6,7,8,9,10,11,12,13,14,15,16,"100:200"]}} => "proto":"TCP","src":"192.0.2.1","dst":"10.0.0.1","sport":40000,"dport":16 => 6 => allow
+{"action":"Allow","protocol":"TCP","destination":{"ports":[1,2,3,4,5,6,7,8,9,10,11,12,13,14,15,16,"100:200"]}} => "proto":"TCP","src":"192.0.2.1","dst":"10.0.0.1","sport":40000,"dport":150 => 6 => allow
+{"action":"Allow","protocol":"TCP","destination":{"ports":[1,2,3,4,5,6,7,8,9,10,11,12,13,14,15,16,"100:200"]}} => "proto":"TCP","src":"192.0.2.1","dst":"10.0.0.1","sport":40000,"dport":80 => - => deny
+{"action":"Allow","protocol":"TCP","source":{"nets":["10.1.0.0/16","192.0.2.0/24"]},"destination":{"ports":[1,2,3,4,5,6,7,8,9,10,11,12,13,14,15,16,"100:200"]}} => "proto":"TCP","src":"192.0.2.1","dst":"10.0.0.1","sport":40000,"dport":16 => 10 => allow
+{"action":"Allow","protocol":"TCP","source":{"nets":["10.1.0.0/16","192.0.2.0/24"]},"destination":{"ports":[1,2,3,4,5,6,7,8,9,10,11,12,13,14,15,16,"100:200"]}} => "proto":"TCP","src":"192.0.2.1","dst":"10.0.0.1","sport":40000,"dport":80 => - => deny
+{"action":"Allow","protocol":"TCP","source":{"nets":["10.1.0.0/16","192.0.2.0/24"]},"destination":{"ports":[1,2,3,4,5,6,7,8,9,10,11,12,13,14,15,16,"100:200"]}} => "proto":"TCP","src":"10.2.0.1","dst":"10.0.0.1","sport":40000,"dport":16 => - => deny
+{"action":"Allow","protocol":"TCP","source":{"nets":["10.1.0.0/16","192.0.2.0/24"]},"destination":{"ports":[1,2,3,4,5,6,7,8,9,10,11,12,13,14,15,16,"100:200"]}} => "proto":"UDP","src":"192.0.2.1","dst":"10.0.0.1","sport":40000,"dport":16 => - => deny
+{"action":"Allow","protocol":"TCP","source":{"nets":["10.1.0.0/16","192.0.2.0/24"],"notNets":["192.0.2.1","192.0.2.9"]},"destination":{"nets":["10.0.0.0/24","10.0.1.0/24"],"ports":[80,443]}} => "proto":"TCP","src":"192.0.2.2","dst":"10.0.0.1","sport":40000,"dport":80 => 12 => allow
+{"action":"Allow","protocol":"TCP","source":{"nets":["10.1.0.0/16","192.0.2.0/24"],"notNets":["192.0.2.1","192.0.2.9"]},"destination":{"nets":["10.0.0.0/24","10.0.1.0/24"],"ports":[80,443]}} => "proto":"TCP","src":"192.0.2.1","dst":"10.0.0.1","sport":40000,"dport":80 => - => deny
+{"action":"Allow","protocol":"TCP","source":{"nets":["10.1.0.0/16","192.0.2.0/24"],"notNets":["192.0.2.1","192.0.2.9"]},"destination":{"nets":["10.0.0.0/24","10.0.1.0/24"],"ports":[80,443]}} => "proto":"TCP","src":"192.0.2.2","dst":"10.0.2.1","sport":40000,"dport":80 => - => deny
+{"action":"Allow","protocol":"TCP","source":{"nets":["10.1.0.0/16","192.0.2.0/24"],"notNets":["192.0.2.1","192.0.2.9"]},"destination":{"nets":["10.0.0.0/24","10.0.1.0/24"],"ports":[80,443]}} => "proto":"TCP","src":"192.0.2.2","dst":"10.0.0.1","sport":40000,"dport":81 => - => deny
+{"action":"Deny","source":{"nets":["192.0.2.0/24"]}} => "proto":"TCP","src":"192.0.2.1","dst":"10.0.0.1","sport":40000,"dport":80 => 1 => deny"##;

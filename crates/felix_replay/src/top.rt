@@ -10,7 +10,7 @@ ghost use Rattle.fx_lines.specs.Lines.{lines_of};
 ghost use Rattle.fx_lines.specs.Reading.{HasFailedRead, IsTooLong};
 ghost use Rattle.felix_replay.specs.Output.{start};
 ghost use Rattle.felix_replay.specs.Closing.{IsWhole, views_along};
-ghost use Rattle.felix_replay.specs.Policed.{KeepsPolicy};
+ghost use Rattle.felix_replay.specs.Policed.{KeepsPolicy, PathsAreRuns};
 
 use crate::engine::Engine;
 use crate::run_fault::RunFault;
@@ -36,7 +36,7 @@ pub enum Status {
 /// The words are those after the program's name: `--node` and a name of 1 to 253 bytes of `[A-Za-z0-9_.]` and, behind the
 /// first, `-`. A line is a JSON object with one member; each output line is written with its newline by one put. Names in the
 /// kernel that are too long are made by the namer's digest rule.
-#[tactic(auto, using(fx_base::proofs::AtKey::reads, crate::proofs::ClosingLemmas::run_stays_whole, crate::proofs::Policing::keeps_policy))]
+#[tactic(auto, using(fx_base::proofs::AtKey::reads, crate::proofs::ClosingLemmas::run_stays_whole, crate::proofs::Policing::keeps_policy, crate::proofs::Policing::paths_are_runs))]
 pub fn felix_replay<S: Source, K: Sink, R: DigestRule, F: DigestFunction<R> + Drop>(
     alloc: Global,
     words: &[Text],
@@ -57,12 +57,15 @@ pub fn felix_replay<S: Source, K: Sink, R: DigestRule, F: DigestFunction<R> + Dr
         (K.state sink.old) (K.state sink.new) true }
 
     // The same where the source tells what is left and the sink what it holds.
-    ensures told { HasRun result
+    ensures as_defined { HasRun result
         → IsAsDefined R.digest_of (node_name words.now) (S.state source.old) (K.state sink.old) (K.state sink.new) result }
 
     // After each single message nothing that is named is missing, in the sent view and in its tables.
     ensures closed { (input : List ℕ)
         → AllByRecursion IsWhole (views_along (start R.digest_of (node_name words.now)) (lines_of input)) }
+
+    // A packet's line tells the path, the reasons and the verdict of the machine's run over the tables of what was sent.
+    ensures path { PathsAreRuns R.digest_of (node_name words.now) }
 
     // A line with a first packet is answered as the policy reference says, where each accepted update was flushed.
     ensures policy { KeepsPolicy R.digest_of (node_name words.now) }
@@ -78,14 +81,15 @@ pub fn felix_replay<S: Source, K: Sink, R: DigestRule, F: DigestFunction<R> + Dr
 
     // The words aren't in the grammar.
     ensures usage { result ≡ Status.Usage → node_of words.now ≡ None }
-    ensures usage_told { result ≡ Status.Usage → Appends (K.state sink.old).held (K.state sink.new).held usage_line }
+    ensures usage_written { result ≡ Status.Usage → Appends (K.state sink.old).held (K.state sink.new).held usage_line }
     ensures only_usage { node_of words.now ≡ None → (result ≡ Status.Usage) ⊎ (result ≡ Status.WriteFault) }
 
     // What a run that ended early has written is a prefix of the output.
     ensures stopped { IsSome (node_of words.now) → EndedEarly result
         → Stopped R.digest_of (node_name words.now) (S.state source.old) (S.state source.new)
         (K.state sink.old) (K.state sink.new) }
-    ensures no_usage { node_of words.now ≡ None → AppendsPrefix (K.state sink.old).held (K.state sink.new).held usage_line }
+    ensures usage_prefix { node_of words.now ≡ None
+        → AppendsPrefix (K.state sink.old).held (K.state sink.new).held usage_line }
 
     // Each other end has its cause.
     ensures read_fault { result ≡ Status.ReadFault → SourceFailed (S.state source.old) (S.state source.new) }
@@ -111,7 +115,7 @@ pub fn felix_replay<S: Source, K: Sink, R: DigestRule, F: DigestFunction<R> + Dr
 }
 
 fn tell_usage<K: Sink>(sink: &mut K) -> Status
-    ensures told { result ≡ Status.Usage → Appends (K.state sink.old).held (K.state sink.new).held usage_line }
+    ensures output { result ≡ Status.Usage → Appends (K.state sink.old).held (K.state sink.new).held usage_line }
     ensures only { (result ≡ Status.Usage) ⊎ (result ≡ Status.WriteFault) }
     ensures prefix { AppendsPrefix (K.state sink.old).held (K.state sink.new).held usage_line }
     ensures cause { result ≡ Status.WriteFault → SinkFailed (K.state sink.old) (K.state sink.new) }

@@ -69,22 +69,22 @@ listed_counted (e ∷ es) q =
     some_in (times_in e.1 q) (times_listed es q) (is_in e.1 q) (list_any (λ e. is_in e.1 q) es) (in_counted e.1 q) (listed_counted es q)
     ∙ ap (λ n. not (n == 0)) (sym (sum_by-cons (λ e. times_in e.1 q) e es))
 
-turned : {A : Type 0} (b : Bool) (x y : A) → cond (not b) x y ≡ cond b y x
-turned true x y = refl
-turned false x y = refl
+by_not : {A : Type 0} (b : Bool) (x y : A) → cond (not b) x y ≡ cond b y x
+by_not true x y = refl
+by_not false x y = refl
 
 module _ (counts : Counts) (endpoints : Endpoints) (are : AreCounts counts endpoints) where
   pub is_counted : (q : List ℕ) → not (count_at counts q == 0) ≡ is_listed endpoints q
   is_counted q = ap (λ n. not (n == 0)) (are q) ∙ sym (listed_counted (entries endpoints) q)
 
-  same_told : (ps : Named) (q : List ℕ) → cond (is_listed endpoints q) (Some (get ps q)) None ≡ cond (count_at counts q == 0) None (Some (get ps q))
-  same_told ps q = ap (λ b. cond b (Some (get ps q)) None) (sym (is_counted q)) ∙ turned (count_at counts q == 0) (Some (get ps q)) None
+  same_output : (ps : Named) (q : List ℕ) → cond (is_listed endpoints q) (Some (get ps q)) None ≡ cond (count_at counts q == 0) None (Some (get ps q))
+  same_output ps q = ap (λ b. cond b (Some (get ps q)) None) (sym (is_counted q)) ∙ by_not (count_at counts q == 0) (Some (get ps q)) None
 
   pub counted_from_listed : (ps : Named) (Q : Profiles) → AreProfiles ps endpoints Q → AreCounted ps counts Q
-  counted_from_listed ps Q h q = h q ∙ same_told ps q
+  counted_from_listed ps Q h q = h q ∙ same_output ps q
 
   pub listed_from_counted : (ps : Named) (Q : Profiles) → AreCounted ps counts Q → AreProfiles ps endpoints Q
-  listed_from_counted ps Q h q = h q ∙ sym (same_told ps q)
+  listed_from_counted ps Q h q = h q ∙ sym (same_output ps q)
 
 among : (a b n : ℕ) → n ≡ a + b → a ≤ n
 among a b n h = omega arith

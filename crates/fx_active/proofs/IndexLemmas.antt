@@ -1,4 +1,4 @@
--- The ids of the policies of each selector, as a policy comes or goes.
+-- The ids of the policies of each selector, as a policy is put or removed.
 use Rattle.std.proofs.Common.{◌≡◌, ℕ, Bool, true, false, cond, ◌&&◌, nat_eq, List, Option, Some, None, IsSome, refl, sym, ap, ◌∙◌}
 use Rattle.std.specs.declared.cmp.Ordering.TheVariants.{Less, Equal, Greater}
 use Rattle.std.specs.Ordering.{is_eq}

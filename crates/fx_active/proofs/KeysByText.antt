@@ -1,4 +1,4 @@
--- Sets of keys by a selector's text, as a key comes or goes.
+-- Sets of keys by a selector's text, as a key is put or removed.
 use Rattle.std.proofs.Common.{◌≡◌, ℕ, Bool, true, false, cond, ◌&&◌, nat_eq, List, [], Option, Some, None, IsSome, is_some, unwrap_or, refl, sym, ap, ◌∙◌}
 use Rattle.std.specs.declared.cmp.Ordering.{Ordering}
 use Rattle.std.specs.Ordering.{nat_cmp, eq_by_cmp}

@@ -13,7 +13,7 @@ use Rattle.fx_model.proofs.PairAt.{contains_put_pair}
 use Rattle.fx_active.specs.Inputs.{Endpoints}
 use Rattle.fx_active.specs.Active.{text_of, holds_somewhere}
 use Rattle.fx_active.specs.Steps.{same_item, selects, has_typed_text, holds_of}
-use Rattle.fx_active.proofs.Turns.{IsLarger, IsTest, item_same, own_item}
+use Rattle.fx_active.proofs.Updates.{IsLarger, IsTest, item_same, own_item}
 
 some_cond : {A : Type 0} (b : Bool) (x : A) (o : Option A) → is_some (cond b (Some x) o) ≡ cond b true (is_some o)
 some_cond true x o = refl

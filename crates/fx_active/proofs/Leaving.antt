@@ -1,4 +1,4 @@
--- What the sink has before an endpoint goes, and then.
+-- What the sink has before an endpoint is removed, and then.
 use Rattle.std.proofs.Common.{◌≡◌, ℕ, true, false, not, ◌&&◌, List, Option, Some, None, is_some, refl, ap, subst}
 use Rattle.std.specs.FinMap.{get, insert, remove, contains_key}
 use Rattle.fx_base.specs.Set as set
@@ -9,9 +9,9 @@ use Rattle.fx_model.specs.declared.ids.PolicyId.{PolicyId}
 use Rattle.fx_model.proofs.Orders.{item_total, exact_item}
 use Rattle.fx_active.specs.Inputs.{Endpoints}
 use Rattle.fx_active.specs.Active.{text_of, ArePolicies, ArePairs}
-use Rattle.fx_active.specs.Steps.{selects, holds_of, IsTurned}
+use Rattle.fx_active.specs.Steps.{selects, holds_of, IsUpdated}
 use Rattle.fx_active.proofs.MapLemmas.{insert_back, get_removed}
-use Rattle.fx_active.proofs.Turns.{pair_there, policy_there, policies_go, pairs_go}
+use Rattle.fx_active.proofs.Updates.{pair_there, policy_there, policies_shrunk, pairs_shrunk}
 use Rattle.fx_active.proofs.Larger.{endpoint_more, endpoint_test}
 
 some_value : {A : Type 0} (o : Option A) → is_some o ≡ true → (x : A) × (o ≡ Some x)
@@ -41,9 +41,9 @@ module _ (policies : Policies) (E : Endpoints) (M : Pairs) (key : ItemKey) (is :
   pub leaving_policy : (id : PolicyId) → (selects M key (get policies id) && not (holds_of (remove E key) M (get policies id))) ≡ true → is_some (get P id) ≡ true
   leaving_policy = policy_there (remove E key) M (insert (remove E key) key names) M key (λ p. set.contains M (text_of p, key)) (endpoint_more (remove E key) M key names none) (selects M key) (holds_of (remove E key) M) (endpoint_test (remove E key) M key) policies P S was_back had_back
 
-  module _ (P' : Policies) (S' : PolicyPairs) (turned : IsTurned policies (λ id. selects M key (get policies id)) (λ id. holds_of (remove E key) M (get policies id)) key false P S P' S') where
+  module _ (P' : Policies) (S' : PolicyPairs) (updated : IsUpdated policies (λ id. selects M key (get policies id)) (λ id. holds_of (remove E key) M (get policies id)) key false P S P' S') where
     pub left_policies : ArePolicies policies (remove E key) M P'
-    left_policies = policies_go (remove E key) M (insert (remove E key) key names) M key (λ p. set.contains M (text_of p, key)) (endpoint_more (remove E key) M key names none) (selects M key) (holds_of (remove E key) M) (endpoint_test (remove E key) M key) policies P S was_back had_back P' S' turned
+    left_policies = policies_shrunk (remove E key) M (insert (remove E key) key names) M key (λ p. set.contains M (text_of p, key)) (endpoint_more (remove E key) M key names none) (selects M key) (holds_of (remove E key) M) (endpoint_test (remove E key) M key) policies P S was_back had_back P' S' updated
 
     pub left_pairs : ArePairs policies (remove E key) M S'
-    left_pairs = pairs_go (remove E key) M (insert (remove E key) key names) M key (λ p. set.contains M (text_of p, key)) (endpoint_more (remove E key) M key names none) (selects M key) (holds_of (remove E key) M) (endpoint_test (remove E key) M key) policies P S was_back had_back P' S' turned
+    left_pairs = pairs_shrunk (remove E key) M (insert (remove E key) key names) M key (λ p. set.contains M (text_of p, key)) (endpoint_more (remove E key) M key names none) (selects M key) (holds_of (remove E key) M) (endpoint_test (remove E key) M key) policies P S was_back had_back P' S' updated

@@ -4,9 +4,9 @@ pub mod ListingLemmas
 pub mod EndpointLemmas
 pub mod KeysByText
 pub mod IndexLemmas
-pub mod TurnWalk
+pub mod UpdateWalk
 pub mod PairWalk
-pub mod Turns
+pub mod Updates
 pub mod Larger
 pub mod RowLemmas
 pub mod NodeLemmas

@@ -17,19 +17,19 @@ none_more : (n : ℕ) → 0 + n ≡ n
 none_more n = omega arith
 
 -- of a profile that is counted n times
-abbrev pub told_at : {A : Type 0} → ℕ → A → Option A
-told_at n x = cond (n == 0) None (Some x)
+abbrev pub profile_at : {A : Type 0} → ℕ → A → Option A
+profile_at n x = cond (n == 0) None (Some x)
 
 module _ (ps : Named) (m now : Counts) (k : List ℕ) (Q then : Profiles) (is : AreCounted ps m Q) where
   module _ (raised : (q : List ℕ) → count_at now q ≡ cond (pointwise nat_eq k q) 1 0 + count_at m q) where
     -- at another name nothing changes, and at this one the count isn't none
-    at_raised : (q : List ℕ) → cond (pointwise nat_eq k q) (Some (get ps k)) (told_at (count_at m q) (get ps q)) ≡ told_at (count_at now q) (get ps q)
+    at_raised : (q : List ℕ) → cond (pointwise nat_eq k q) (Some (get ps k)) (profile_at (count_at m q) (get ps q)) ≡ profile_at (count_at now q) (get ps q)
     at_raised q =
-        elim (pointwise nat_eq k q) as (λ b. pointwise nat_eq k q ≡ b → cond b (Some (get ps k)) (told_at (count_at m q) (get ps q)) ≡ told_at (cond b 1 0 + count_at m q) (get ps q)) [
+        elim (pointwise nat_eq k q) as (λ b. pointwise nat_eq k q ≡ b → cond b (Some (get ps k)) (profile_at (count_at m q) (get ps q)) ≡ profile_at (cond b 1 0 + count_at m q) (get ps q)) [
           | true ↦ λ e. ap (λ n. Some (get ps n)) (same_bytes k q e) ∙ ap (λ b. cond b None (Some (get ps q))) (sym (none_not (count_at m q)))
-          | false ↦ λ e. ap (λ n. told_at n (get ps q)) (sym (none_more (count_at m q)))
+          | false ↦ λ e. ap (λ n. profile_at n (get ps q)) (sym (none_more (count_at m q)))
         ] refl
-        ∙ ap (λ n. told_at n (get ps q)) (sym (raised q))
+        ∙ ap (λ n. profile_at n (get ps q)) (sym (raised q))
 
     pub listed_first : then ≡ insert Q k (get ps k) → AreCounted ps now then
     listed_first e q =
@@ -40,8 +40,8 @@ module _ (ps : Named) (m now : Counts) (k : List ℕ) (Q then : Profiles) (is : 
     pub unlisted_last : then ≡ remove Q k → (count_at now k == 0) ≡ true → AreCounted ps now then
     unlisted_last e none q =
         ap (λ m. get m q) e ∙ get_remove Q k q ∙ ap (λ b. cond b None (get Q q)) (tied_names q k)
-        ∙ ap (cond (pointwise nat_eq k q) None) (is q ∙ ap (λ n. told_at n (get ps q)) (sym (lowered q)))
-        ∙ elim (pointwise nat_eq k q) as (λ b. pointwise nat_eq k q ≡ b → cond b None (told_at (cond b 1 0 + count_at now q) (get ps q)) ≡ told_at (count_at now q) (get ps q)) [
+        ∙ ap (cond (pointwise nat_eq k q) None) (is q ∙ ap (λ n. profile_at n (get ps q)) (sym (lowered q)))
+        ∙ elim (pointwise nat_eq k q) as (λ b. pointwise nat_eq k q ≡ b → cond b None (profile_at (cond b 1 0 + count_at now q) (get ps q)) ≡ profile_at (count_at now q) (get ps q)) [
           | true ↦ λ e. ap (λ b. cond b None (Some (get ps q))) (sym none ∙ ap (λ n. count_at now n == 0) (same_bytes k q e))
-          | false ↦ λ e. ap (λ n. told_at n (get ps q)) (none_more (count_at now q))
+          | false ↦ λ e. ap (λ n. profile_at n (get ps q)) (none_more (count_at now q))
         ] refl

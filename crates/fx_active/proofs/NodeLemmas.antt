@@ -1,5 +1,5 @@
 -- What the sink has after a change of the node's inputs.
-use Rattle.std.proofs.Common.{◌≡◌, ℕ, Bool, true, false, cond, List, Option, Some, None, is_some, refl, sym, ap, ◌∙◌}
+use Rattle.std.proofs.Common.{◌≡◌, ℕ, Bool, true, false, cond, List, Option, Some, None, is_some, refl, sym, ap, ◌∙◌, subst}
 use Rattle.std.specs.declared.cmp.Ordering.TheVariants.{Less, Equal, Greater}
 use Rattle.std.specs.Ordering.{nat_cmp, eq_by_cmp, is_eq}
 use Rattle.std.specs.Cmp.{tied_itself}
@@ -20,9 +20,16 @@ use Rattle.fx_model.specs.contracts.ids.ItemKeyOrd.TheImpl as item_cmp
 use Rattle.fx_model.specs.contracts.ids.PolicyIdOrd.TheImpl as policy_cmp
 use Rattle.fx_model.proofs.Orders.{policy_total}
 use Rattle.fx_active.specs.Inputs.{Named, Endpoints}
-use Rattle.fx_active.specs.Active.{where_active, applies_to, is_in, is_listed, ArePolicies, AreProfiles, ArePairs, IsActive}
-use Rattle.fx_active.specs.Steps.{same_id, keep, IsRowSet}
-use Rattle.fx_active.proofs.TurnWalk.{get_kept}
+use Rattle.fx_active.specs.declared.inputs.Inputs.{Inputs}
+use Rattle.fx_active.specs.Active.{where_active, applies_to, is_in, is_listed, ArePolicies, AreProfiles, ArePairs}
+use Rattle.fx_active.specs.Node.{IsActive}
+use Rattle.fx_active.specs.Steps.{same_id, insert_or_remove, IsRowSet}
+use Rattle.fx_active.proofs.UpdateWalk.{get_either}
+
+-- what stands of the value at entry stands of what it is inside
+module _ {n m : Inputs} {P : Policies} {Q : Profiles} {S : PolicyPairs} where
+  pub at_entry : n ≡ m → IsActive m P Q S → IsActive n P Q S
+  at_entry same was = subst (λ k. IsActive k P Q S) (sym same) was
 
 -- ---- at the start
 pub none_active : IsActive (record { policies = map.empty; profiles = map.empty; endpoints = map.empty; matched = set.empty }) map.empty map.empty set.empty
@@ -34,15 +41,15 @@ none_active = record {
 
 -- ---- another profile at a name
 module _ (ps now : Named) (E : Endpoints) (Q then : Profiles) (name : List ℕ) (o : Option Profile) (is : AreProfiles ps E Q) where
-  told_at : (b : Bool) → is_listed E name ≡ b → (q : List ℕ) → map.get (cond b (map.insert Q name o) Q) q ≡ cond (is_listed E q) (Some (cond (eq_by_cmp (slice_cmp nat_cmp) q name) o (map.get ps q))) None
-  told_at true e q =
+  profile_at : (b : Bool) → is_listed E name ≡ b → (q : List ℕ) → map.get (cond b (map.insert Q name o) Q) q ≡ cond (is_listed E q) (Some (cond (eq_by_cmp (slice_cmp nat_cmp) q name) o (map.get ps q))) None
+  profile_at true e q =
       get_insert Q name o q ∙ ap (cond (eq_by_cmp (slice_cmp nat_cmp) q name) (Some o)) (is q)
       ∙ elim (slice_cmp nat_cmp q name) as (λ r. slice_cmp nat_cmp q name ≡ r → cond (is_eq r) (Some o) (cond (is_listed E q) (Some (map.get ps q)) None) ≡ cond (is_listed E q) (Some (cond (is_eq r) o (map.get ps q))) None) [
         | Less ↦ λ p. refl
         | Equal ↦ λ p. sym (ap (λ b. cond b (Some o) None) (ap (is_listed E) (bytes_exact q name p) ∙ e))
         | Greater ↦ λ p. refl
       ] refl
-  told_at false e q =
+  profile_at false e q =
       is q
       ∙ elim (slice_cmp nat_cmp q name) as (λ r. slice_cmp nat_cmp q name ≡ r → cond (is_listed E q) (Some (map.get ps q)) None ≡ cond (is_listed E q) (Some (cond (is_eq r) o (map.get ps q))) None) [
         | Less ↦ λ p. refl
@@ -50,8 +57,8 @@ module _ (ps now : Named) (E : Endpoints) (Q then : Profiles) (name : List ℕ) 
         | Greater ↦ λ p. refl
       ] refl
 
-  pub profiles_told : ((q : List ℕ) → map.get now q ≡ cond (eq_by_cmp (slice_cmp nat_cmp) q name) o (map.get ps q)) → then ≡ cond (is_listed E name) (map.insert Q name o) Q → AreProfiles now E then
-  profiles_told at told q = ap (λ m. map.get m q) told ∙ told_at (is_listed E name) refl q ∙ ap (λ v. cond (is_listed E q) (Some v) None) (sym (at q))
+  pub profiles_put : ((q : List ℕ) → map.get now q ≡ cond (eq_by_cmp (slice_cmp nat_cmp) q name) o (map.get ps q)) → then ≡ cond (is_listed E name) (map.insert Q name o) Q → AreProfiles now E then
+  profiles_put at output q = ap (λ m. map.get m q) output ∙ profile_at (is_listed E name) refl q ∙ ap (λ v. cond (is_listed E q) (Some v) None) (sym (at q))
 
 -- ---- another policy at an id, or none
 hidden : {A : Type 0} (b : Bool) (x y z : A) → cond b x (cond b y z) ≡ cond b x z
@@ -74,17 +81,17 @@ module _ (E : Endpoints) (M : Pairs) where
   applies_either true o x i = refl
   applies_either false o x i = refl
 
-  kept_or_not : {A : Type 0} (b : Bool) (x : A) → cond (is_some (cond b (Some x) None)) (Some x) None ≡ cond b (Some x) None
-  kept_or_not true x = refl
-  kept_or_not false x = refl
+  some_if : {A : Type 0} (b : Bool) (x : A) → cond (is_some (cond b (Some x) None)) (Some x) None ≡ cond b (Some x) None
+  some_if true x = refl
+  some_if false x = refl
 
   module _ (policies now : Policies) (id : PolicyId) where
     module _ (p : Policy) (at : now ≡ map.insert policies id p) where
-      pub policies_put : (P then : Policies) (stands : Bool) → ArePolicies policies E M P → stands ≡ is_some (where_active E M (Some p)) → then ≡ keep P id p stands → ArePolicies now E M then
+      pub policies_put : (P then : Policies) (stands : Bool) → ArePolicies policies E M P → stands ≡ is_some (where_active E M (Some p)) → then ≡ insert_or_remove P id p stands → ArePolicies now E M then
       policies_put P then stands was active is q =
-          ap (λ m. map.get m q) is ∙ get_kept P id p stands q
+          ap (λ m. map.get m q) is ∙ get_either P id p stands q
           ∙ (λ j. cond (same_id q id) (cond (active j) (Some p) None) (was q j))
-          ∙ ap (λ o. cond (same_id q id) o (where_active E M (map.get policies q))) (kept_or_not _ p)
+          ∙ ap (λ o. cond (same_id q id) o (where_active E M (map.get policies q))) (some_if _ p)
           ∙ where_either (same_id q id) (Some p) (map.get policies q)
           ∙ ap (where_active E M) (sym (ap (λ m. map.get m q) at ∙ map.get-insert policy_total policies id p q))
 

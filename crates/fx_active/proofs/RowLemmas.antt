@@ -1,4 +1,4 @@
--- The pairs of the items of each text, as an item comes or goes.
+-- The pairs of the items of each text, as an item is put or removed.
 use Rattle.std.proofs.Common.{◌≡◌, ℕ, Bool, true, false, cond, ◌&&◌, ◌||◌, nat_eq, List, [], ◌∷◌, map, Option, Some, None, is_some, refl, sym, ap, ◌∙◌}
 use Rattle.std.specs.declared.cmp.Ordering.{Ordering}
 use Rattle.std.specs.declared.cmp.Ordering.TheVariants.{Less, Equal, Greater}
@@ -22,7 +22,7 @@ use Rattle.fx_active.specs.Steps.{same_item}
 use Rattle.fx_active.proofs.CountLemmas.{tied_names, own_name}
 use Rattle.fx_active.proofs.MapLemmas.{insert_back, get_removed}
 use Rattle.fx_active.proofs.Larger.{or_left, or_right, either, never}
-use Rattle.fx_active.proofs.Turns.{item_same, own_item}
+use Rattle.fx_active.proofs.Updates.{item_same, own_item}
 
 -- ---- the pairs of one text
 joined : (a b c d : Bool) → cond (a && b) true ((a && c) || d) ≡ ((a && (b || c)) || d)

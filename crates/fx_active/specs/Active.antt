@@ -1,4 +1,4 @@
--- What the node has told its sink. From Felix's documented calculation graph: a policy is active while it applies to some endpoint
+-- What the sink is to have. From Felix's documented calculation graph: a policy is active while it applies to some endpoint
 -- of the node, and a profile while some endpoint lists it, whether it is there or not.
 use Rattle.std.specs.Prelude.{◌≡◌, ℕ, Bool, true, false, cond, ◌&&◌, nat_eq, List, Option, Some, None}
 use Rattle.std.specs.Cmp.Lexicographic.{pointwise}
@@ -12,10 +12,15 @@ use Rattle.fx_model.specs.Sinks.{Policies, Profiles}
 use Rattle.fx_model.specs.declared.ids.ItemKey.{ItemKey}
 use Rattle.fx_model.specs.declared.ids.PolicyId.{PolicyId}
 use Rattle.fx_model.specs.declared.policy.Policy.{Policy}
-use Rattle.fx_active.specs.Inputs.{Inputs, Endpoints, Named}
+use Rattle.fx_active.specs.Inputs.{Endpoints, Named}
 
 abbrev pub text_of : Policy → List ℕ
 text_of p = canonical_text p.selector
+
+-- the same of a policy that is there
+abbrev pub selector_text : Option Policy → Option (List ℕ)
+selector_text None = None
+selector_text (Some p) = Some (text_of p)
 
 -- the selector holds on some endpoint that is there
 abbrev pub holds_somewhere : Endpoints → Pairs → List ℕ → Bool
@@ -40,17 +45,12 @@ is_listed endpoints name = list_any (λ e. is_in e.1 name) (map.entries endpoint
 
 -- the sink's policies are those that are active
 abbrev pub ArePolicies : Policies → Endpoints → Pairs → Policies → Type 0
-ArePolicies policies endpoints matched told = (id : PolicyId) → map.get told id ≡ where_active endpoints matched (map.get policies id)
+ArePolicies policies endpoints matched output = (id : PolicyId) → map.get output id ≡ where_active endpoints matched (map.get policies id)
 
 -- its profiles are those that are listed, each with the profile or with none
 abbrev pub AreProfiles : Named → Endpoints → Profiles → Type 0
-AreProfiles profiles endpoints told = (name : List ℕ) → map.get told name ≡ cond (is_listed endpoints name) (Some (map.get profiles name)) None
+AreProfiles profiles endpoints output = (name : List ℕ) → map.get output name ≡ cond (is_listed endpoints name) (Some (map.get profiles name)) None
 
 -- its pairs are those of a policy and an endpoint to which it applies
 abbrev pub ArePairs : Policies → Endpoints → Pairs → PolicyPairs → Type 0
-ArePairs policies endpoints matched told = (id : PolicyId) (i : ItemKey) → set.contains told (id, i) ≡ applies_to endpoints matched (map.get policies id) i
-
-pub record IsActive (n : Inputs) (policies : Policies) (profiles : Profiles) (pairs : PolicyPairs) : Type 0 where
-  pub policies_are : ArePolicies n.policies n.endpoints n.matched policies
-  pub profiles_are : AreProfiles n.profiles n.endpoints profiles
-  pub pairs_are : ArePairs n.policies n.endpoints n.matched pairs
+ArePairs policies endpoints matched output = (id : PolicyId) (i : ItemKey) → set.contains output (id, i) ≡ applies_to endpoints matched (map.get policies id) i

@@ -1,4 +1,4 @@
--- What the node keeps beside its inputs, so as to find things.
+-- What the node holds beside its inputs, so as to find things.
 use Rattle.std.specs.Prelude.{◌≡◌, ◌==◌, ℕ, Bool, false, cond, nat_eq, List, Option, Some, None, unwrap_or}
 use Rattle.std.specs.declared.cmp.Ordering.{Ordering}
 use Rattle.std.specs.Ordering.{nat_cmp}
@@ -58,4 +58,4 @@ AreCounts counts endpoints = (name : List ℕ) → count_at counts name ≡ time
 
 -- the sink's profiles are those that are counted
 abbrev pub AreCounted : Named → Counts → Profiles → Type 0
-AreCounted profiles counts told = (name : List ℕ) → map.get told name ≡ cond (count_at counts name == 0) None (Some (map.get profiles name))
+AreCounted profiles counts output = (name : List ℕ) → map.get output name ≡ cond (count_at counts name == 0) None (Some (map.get profiles name))

@@ -1,6 +1,6 @@
 pub mod Inputs
 pub mod Active
+pub mod Node
 pub mod Steps
 pub mod Indexes
-pub mod Recorded
 pub mod Rows

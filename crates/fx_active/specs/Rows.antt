@@ -1,4 +1,4 @@
--- Pairs of a selector's text and an item, kept as the items of each text.
+-- Pairs of a selector's text and an item, held as the items of each text.
 use Rattle.std.specs.Prelude.{ℕ, List, [], ◌∷◌}
 use Rattle.std.specs.FinMap as map
 use Rattle.fx_base.specs.Set as set

@@ -28,8 +28,8 @@ typed None = None
 typed (Some p) = cond (has_types p) (Some p) None
 
 -- with the value, or without one
-abbrev pub keep : {K X : Type 0} {R : K → K → Ordering} → map.FinMap R X → K → X → Bool → map.FinMap R X
-keep m k x b = cond b (map.insert m k x) (map.remove m k)
+abbrev pub insert_or_remove : {K X : Type 0} {R : K → K → Ordering} → map.FinMap R X → K → X → Bool → map.FinMap R X
+insert_or_remove m k x b = cond b (map.insert m k x) (map.remove m k)
 
 -- a policy that is there has a type and selects the item
 abbrev pub selects : Pairs → ItemKey → Option Policy → Bool
@@ -59,7 +59,7 @@ beside matched pair b = cond b (set.insert matched pair) matched
 abbrev pub IsRowSet : PolicyId → (ItemKey → Bool) → PolicyPairs → PolicyPairs → Type 0
 IsRowSet id row s s' = (q : PolicyId) (i : ItemKey) → set.contains s' (q, i) ≡ cond (same_id q id) (row i) (set.contains s (q, i))
 
--- the pairs of an item and the policies that it concerns come or go, and so do those of these policies that have no other pairs
-pub record IsTurned (policies : Policies) (concerned others : PolicyId → Bool) (item : ItemKey) (comes : Bool) (m : Policies) (s : PolicyPairs) (m' : Policies) (s' : PolicyPairs) : Type 0 where
-  pub policies_now : (id : PolicyId) → map.get m' id ≡ cond (concerned id && not (others id)) (cond comes (map.get policies id) None) (map.get m id)
-  pub pairs_now : (id : PolicyId) (i : ItemKey) → set.contains s' (id, i) ≡ cond (concerned id && same_item i item) comes (set.contains s (id, i))
+-- the pairs of an item and the policies that it concerns are added or removed, and so are those of these policies that have no others
+pub record IsUpdated (policies : Policies) (concerned others : PolicyId → Bool) (item : ItemKey) (added : Bool) (m : Policies) (s : PolicyPairs) (m' : Policies) (s' : PolicyPairs) : Type 0 where
+  pub policies_now : (id : PolicyId) → map.get m' id ≡ cond (concerned id && not (others id)) (cond added (map.get policies id) None) (map.get m id)
+  pub pairs_now : (id : PolicyId) (i : ItemKey) → set.contains s' (id, i) ≡ cond (concerned id && same_item i item) added (set.contains s (id, i))

@@ -1,46 +1,46 @@
 //! The node.
+//!
+//! - **Inputs**: policies by their ids, profiles by their names, this node's endpoints with the profiles that each lists, and
+//!   the pairs of a selector's text and an item on which it holds, as the label index tells them.
+//! - **Tells** an `ActiveSink`: the policies that apply to some endpoint, the profiles that some endpoint lists, and the pairs of
+//!   a policy and an endpoint to which it applies.
+//! - **Holds** its inputs, and beside them the policies of each selector and how often each profile is listed.
+//! - **Definition**: `IsActive`. In Felix this node is the `ActiveRulesCalculator`.
 ghost use Rattle.std.specs.Prelude.{◌≡◌, OnOk, true, false};
+ghost use Rattle.std.specs.Option.{option_copied};
 ghost use Rattle.std.specs.FinMap as map;
 ghost use Rattle.fx_base.specs.Set as set;
-ghost use Rattle.fx_active.specs.Active.{IsActive};
+ghost use Rattle.fx_active.specs.Active.{selector_text};
+ghost use Rattle.fx_active.specs.Node.{IsActive};
 
-use crate::changes::{tell_endpoint, tell_policy, turn_match, withdraw_policy};
+use crate::changes::{tell_endpoint, tell_match, tell_policy, withdraw_policy};
 use crate::endpoints::Endpoints;
-use crate::kept::Kept;
+use crate::indexed_policy::IndexedPolicy;
+use crate::inputs::Inputs;
 use crate::matches::Matches;
+use crate::pairs::update_endpoint;
 use crate::policies::PolicyIndex;
-use crate::turning::turn_item;
 use fx_base::{Memory, Text, TextMap};
 use fx_model::{ActiveSink, ItemKey, Policy, PolicyId, Profile};
 use std::alloc::Global;
 use std::marker::Model;
 
-/// Policies, profiles, the endpoints of the node with the profiles that they list, and the pairs of a selector and an item
-/// on which it holds.
-///
-/// What a call changes of these, it tells its sink: the policies that apply to some endpoint, the profiles that some endpoint
-/// lists, and the pairs of a policy and an endpoint. After want of memory the node and the sink aren't of use.
+/// Brings a sink up to date with each call. After want of memory neither the node nor the sink is used again.
 #[derive(Drop)]
 pub struct ActiveRules {
     alloc: Global,
-    policies: PolicyIndex,
-    profiles: TextMap<Profile>,
-    endpoints: Endpoints,
-    matched: Matches,
+    inputs: Inputs,
 }
 
 impl Model for ActiveRules {
-    ghost use Rattle.fx_model.specs.contracts.ids.ItemKey as item_key;
-    ghost use Rattle.fx_model.specs.contracts.ids.PolicyId as policy_id;
-    ghost use Rattle.fx_model.specs.contracts.policy.Policy as policy;
-    ghost use Rattle.fx_model.specs.contracts.resources.Profile as profile;
-    ghost use Rattle.fx_active.specs.Inputs.{Inputs, inputs_code};
+    ghost use Rattle.fx_active.specs.declared.inputs.Inputs.{Inputs};
+    ghost use Rattle.fx_active.specs.contracts.inputs.Inputs as all;
 
     ghost Value = { Inputs };
 
-    ghost coded = { inputs_code policy_id.the_row.coded policy.the_row.coded profile.the_row.coded item_key.the_row.coded };
+    ghost coded = { all.the_row.coded };
 
-    ghost view = { λ a. record { policies = a.policies; profiles = a.profiles; endpoints = a.endpoints; matched = a.matched } };
+    ghost view = { λ a. a.inputs };
 }
 
 impl ActiveRules {
@@ -50,11 +50,20 @@ impl ActiveRules {
     {
         ActiveRules {
             alloc,
-            policies: PolicyIndex::new(alloc),
-            profiles: TextMap::new(alloc),
-            endpoints: Endpoints::new(alloc),
-            matched: Matches::new(alloc),
+            inputs: Inputs {
+                policies: PolicyIndex::new(alloc),
+                profiles: TextMap::new(alloc),
+                endpoints: Endpoints::new(alloc),
+                matched: Matches::new(alloc),
+            },
         }
+    }
+
+    /// The canonical text of the selector of a policy that is there.
+    pub fn selector_text(&self, id: &PolicyId) -> Option<&Text>
+        ensures { option_copied result ≡ selector_text (map.get self.now.policies id.now) }
+    {
+        Some(self.inputs.policies.get(id)?.text())
     }
 
     pub fn put_policy<S: ActiveSink>(
@@ -67,10 +76,11 @@ impl ActiveRules {
         ensures inputs { OnOk result (self.new ≡ record self.old { policies = map.insert self.old.policies id.now policy.now }) }
         ensures active { OnOk result (IsActive self.new (S.policies sink.new) (S.profiles sink.new) (S.pairs sink.new)) }
     {
-        let kept = Kept::new(self.alloc, policy)?;
-        let before = self.policies.get(id);
-        tell_policy(&self.endpoints, &self.matched, id, before, &kept, sink)?;
-        self.policies.put(id, kept)?;
+        let indexed = IndexedPolicy::new(self.alloc, policy)?;
+        let inputs = &self.inputs;
+        let before = inputs.policies.get(id);
+        tell_policy(inputs, id, before, &indexed, sink)?;
+        self.inputs.policies.put(id, indexed)?;
         Ok(())
     }
 
@@ -83,9 +93,10 @@ impl ActiveRules {
         ensures inputs { OnOk result (self.new ≡ record self.old { policies = map.remove self.old.policies id.now }) }
         ensures active { OnOk result (IsActive self.new (S.policies sink.new) (S.profiles sink.new) (S.pairs sink.new)) }
     {
-        let before = self.policies.get(id);
-        withdraw_policy(&self.endpoints, &self.matched, id, before, sink)?;
-        self.policies.remove(id);
+        let inputs = &self.inputs;
+        let before = inputs.policies.get(id);
+        withdraw_policy(inputs, id, before, sink)?;
+        self.inputs.policies.remove(id);
         Ok(())
     }
 
@@ -99,8 +110,12 @@ impl ActiveRules {
         ensures inputs { OnOk result (self.new ≡ record self.old { profiles = map.insert self.old.profiles name.now profile.now }) }
         ensures active { OnOk result (IsActive self.new (S.policies sink.new) (S.profiles sink.new) (S.pairs sink.new)) }
     {
-        self.endpoints.tell(name, Some(profile), sink)?;
-        self.profiles.insert(name.clone()?, profile.clone()?)?;
+        self.inputs
+            .endpoints
+            .tell_profile(name, Some(profile), sink)?;
+        self.inputs
+            .profiles
+            .insert(name.clone()?, profile.clone()?)?;
         Ok(())
     }
 
@@ -109,10 +124,10 @@ impl ActiveRules {
         ensures inputs { OnOk result (self.new ≡ record self.old { profiles = map.remove self.old.profiles name.now }) }
         ensures active { OnOk result (IsActive self.new (S.policies sink.new) (S.profiles sink.new) (S.pairs sink.new)) }
     {
-        if self.profiles.remove(name).is_none() {
+        if self.inputs.profiles.remove(name).is_none() {
             return Ok(());
         }
-        self.endpoints.tell(name, None, sink)?;
+        self.inputs.endpoints.tell_profile(name, None, sink)?;
         Ok(())
     }
 
@@ -126,8 +141,9 @@ impl ActiveRules {
         ensures inputs { OnOk result (self.new ≡ record self.old { endpoints = map.insert self.old.endpoints key.now profiles.now }) }
         ensures active { OnOk result (IsActive self.new (S.policies sink.new) (S.profiles sink.new) (S.pairs sink.new)) }
     {
-        tell_endpoint(&self.policies, &self.endpoints, &self.matched, key, sink)?;
-        self.endpoints.put(key, profiles, &self.profiles, sink)?;
+        tell_endpoint(&self.inputs, key, sink)?;
+        let inputs = &mut self.inputs;
+        inputs.endpoints.put(key, profiles, &inputs.profiles, sink)?;
         Ok(())
     }
 
@@ -140,21 +156,16 @@ impl ActiveRules {
         ensures inputs { OnOk result (self.new ≡ record self.old { endpoints = map.remove self.old.endpoints key.now }) }
         ensures active { OnOk result (IsActive self.new (S.policies sink.new) (S.profiles sink.new) (S.pairs sink.new)) }
     {
-        if self.endpoints.contains_key(key) {
-            self.endpoints.remove(key, &self.profiles, sink)?;
-            turn_item(
-                &self.policies,
-                &self.endpoints,
-                &self.matched,
-                key,
-                false,
-                sink,
-            )?;
+        if !self.inputs.endpoints.contains_key(key) {
+            return Ok(());
         }
+        let inputs = &mut self.inputs;
+        inputs.endpoints.remove(key, &inputs.profiles, sink)?;
+        update_endpoint(inputs, key, false, sink)?;
         Ok(())
     }
 
-    /// The selector of this text comes to hold on an item: an endpoint of this node or of another one, or a network set.
+    /// The selector of this text holds on an item from now on: an endpoint of this node or of another one, or a network set.
     pub fn matched<S: ActiveSink>(
         &mut self,
         selector: &Text,
@@ -166,16 +177,8 @@ impl ActiveRules {
         ensures inputs { OnOk result (self.new ≡ record self.old { matched = set.insert self.old.matched (selector.now, item.now) }) }
         ensures active { OnOk result (IsActive self.new (S.policies sink.new) (S.profiles sink.new) (S.pairs sink.new)) }
     {
-        turn_match(
-            &self.policies,
-            &self.endpoints,
-            &self.matched,
-            selector,
-            item,
-            true,
-            sink,
-        )?;
-        self.matched.insert(selector, item)?;
+        tell_match(&self.inputs, selector, item, true, sink)?;
+        self.inputs.matched.insert(selector, item)?;
         Ok(())
     }
 
@@ -191,16 +194,8 @@ impl ActiveRules {
         ensures inputs { OnOk result (self.new ≡ record self.old { matched = set.remove self.old.matched (selector.now, item.now) }) }
         ensures active { OnOk result (IsActive self.new (S.policies sink.new) (S.profiles sink.new) (S.pairs sink.new)) }
     {
-        self.matched.remove(selector, item);
-        turn_match(
-            &self.policies,
-            &self.endpoints,
-            &self.matched,
-            selector,
-            item,
-            false,
-            sink,
-        )?;
+        self.inputs.matched.remove(selector, item);
+        tell_match(&self.inputs, selector, item, false, sink)?;
         Ok(())
     }
 }

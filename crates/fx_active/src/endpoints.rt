@@ -69,8 +69,8 @@ impl Endpoints {
         self.listings.contains(name)
     }
 
-    /// Tells a listed profile anew.
-    pub fn tell<S: ActiveSink>(
+    /// Tells a profile, if some endpoint lists it.
+    pub fn tell_profile<S: ActiveSink>(
         &self,
         name: &Text,
         profile: Option<&Profile>,
@@ -102,14 +102,14 @@ impl Endpoints {
         ensures policies { OnOk result (S.policies sink.new ≡ S.policies sink.old) }
         ensures pairs { OnOk result (S.pairs sink.new ≡ S.pairs sink.old) }
     {
-        let kept = Seq::from_vec(Vec::from_clones(self.alloc, names)?);
+        let own_names = Seq::from_vec(Vec::from_clones(self.alloc, names)?);
         let own_key = key.clone()?;
         let mut held = mem::replace(&mut self.held, ItemMap::new(self.alloc));
         let mut listings = mem::replace(&mut self.listings, Listings::new(self.alloc));
         listings.list(names, profiles, sink)?;
         let before = held.remove(key).unwrap_or(Seq::new(self.alloc));
         listings.unlist(before.as_slice(), profiles, sink)?;
-        held.insert(own_key, kept)?;
+        held.insert(own_key, own_names)?;
         self.held = held;
         self.listings = listings;
         Ok(())

@@ -1,5 +1,5 @@
-//! Which policies and profiles the endpoints of a node need, and which policy applies to which endpoint, kept up to date
-//! as policies, profiles, endpoints and matches come and go.
+//! Which policies and profiles the endpoints of a node need, and which policy applies to which endpoint, brought up to date
+//! where policies, profiles, endpoints and matches change.
 #![tactic(auto)]
 
 pub use active::ActiveRules;
@@ -7,11 +7,12 @@ pub use active::ActiveRules;
 mod active;
 mod changes;
 mod endpoints;
-mod kept;
+mod indexed_policy;
+mod inputs;
 mod listings;
 mod matches;
+mod pairs;
 mod policies;
 mod reach;
 #[cfg(test)]
 mod tests;
-mod turning;

@@ -8,7 +8,7 @@ ghost use Rattle.fx_model.specs.declared.ids.PolicyId.{PolicyId};
 ghost use Rattle.fx_active.specs.Steps.{same_id, typed};
 ghost use Rattle.fx_active.specs.Indexes.{has_key, has_text};
 
-use crate::kept::Kept;
+use crate::indexed_policy::IndexedPolicy;
 use fx_base::{Memory, Text, TextMap};
 use fx_model::{Policy, PolicyId, PolicyMap};
 use std::alloc::Global;
@@ -20,7 +20,7 @@ use std::mem;
 #[derive(Drop)]
 pub struct PolicyIndex {
     alloc: Global,
-    by_id: PolicyMap<Kept>,
+    by_id: PolicyMap<IndexedPolicy>,
     by_text: TextMap<PolicyMap<()>>,
 }
 
@@ -52,7 +52,7 @@ impl PolicyIndex {
         }
     }
 
-    pub fn get(&self, id: &PolicyId) -> Option<&Kept>
+    pub fn get(&self, id: &PolicyId) -> Option<&IndexedPolicy>
         ensures { option_copied result ≡ map.get self.now id.now }
     {
         self.by_id.get(id)
@@ -67,7 +67,7 @@ impl PolicyIndex {
     }
 
     /// The policies, by ascending ids.
-    pub fn iter(&self) -> Iter<'_, PolicyId, Kept>
+    pub fn iter(&self) -> Iter<'_, PolicyId, IndexedPolicy>
         ensures { result ≡ map.entries self.now }
     {
         self.by_id.iter()
@@ -82,15 +82,15 @@ impl PolicyIndex {
 
     /// On want of memory the policies are lost.
     #[tactic(auto, using(crate::proofs::IndexLemmas::by_text_empty))]
-    pub fn put(&mut self, id: &PolicyId, kept: Kept) -> Result<(), Memory>
-        ensures { OnOk result (self.new ≡ map.insert self.old id.now kept) }
+    pub fn put(&mut self, id: &PolicyId, indexed: IndexedPolicy) -> Result<(), Memory>
+        ensures { OnOk result (self.new ≡ map.insert self.old id.now indexed) }
     {
         let own_id = id.clone()?;
         self.remove(id);
         let mut by_id = mem::replace(&mut self.by_id, PolicyMap::new(self.alloc));
         let mut by_text = mem::replace(&mut self.by_text, TextMap::new(self.alloc));
-        add_id(self.alloc, &mut by_text, kept.text(), id)?;
-        by_id.insert(own_id, kept)?;
+        add_id(self.alloc, &mut by_text, indexed.text(), id)?;
+        by_id.insert(own_id, indexed)?;
         self.by_id = by_id;
         self.by_text = by_text;
         Ok(())

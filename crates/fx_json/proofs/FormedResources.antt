@@ -1,7 +1,10 @@
--- Each update that is read is formed: an item is of its key's kind, too.
-use Rattle.std.proofs.Common.{◌≡◌, ℕ, List, length, Bool, true, false, ◌&&◌, ◌||◌, ◌==◌, not, nat_eq, nat_le, Option, Some, None, Result, Ok, Err, IfOk, refl, ap, subst}
+-- Each update that is read is formed: a namespace holds no `/`, and an item is of its key's kind. It puts no endpoint on an
+-- interface that isn't one of workloads, either.
+use Rattle.std.proofs.Common.{◌≡◌, ℕ, List, [], ◌∷◌, length, Bool, true, false, ◌&&◌, ◌||◌, ◌==◌, not, nat_eq, nat_le, Option, Some, None, Result, Ok, Err, IfOk, refl, ap, subst}
 use Rattle.std.specs.Prelude.{codes, IfSome, if◌then◌else◌, is_some, ◌+◌, option_and_then}
 use Rattle.std.specs.List.{list_all, starts_with}
+use Rattle.std.specs.Str.{bytes_eq}
+use Rattle.std.proofs.lemmas.Bool.{eqb-true, false≢true}
 use Rattle.serde_json.specs.Data.{Data, Items, no_items, item as cons_item}
 use Rattle.serde_json.specs.Find.{as_str}
 use Rattle.fx_base.specs.declared.net.PortRange.{PortRange}
@@ -12,23 +15,32 @@ use Rattle.fx_model.specs.declared.rules.Icmp.{Icmp}
 use Rattle.fx_model.specs.declared.rules.Rule.{Rule}
 use Rattle.fx_model.specs.declared.resources.Endpoint.{Endpoint}
 use Rattle.fx_model.specs.declared.resources.Profile.{Profile}
+use Rattle.fx_model.specs.declared.resources.Item.TheVariants as item
 use Rattle.fx_model.specs.declared.resources.Update.{Update}
-use Rattle.fx_model.specs.Formed.{implies, is_given, has_port_protocol, has_icmp_protocol, passes, is_formed_profile_rule, is_formed_profile, is_formed_endpoint, is_formed}
+use Rattle.fx_model.specs.declared.resources.Update.TheVariants as update
+use Rattle.fx_model.specs.declared.ids.Key.{Key}
+use Rattle.fx_model.specs.Policy.{is_workload}
+use Rattle.fx_model.specs.Formed.{implies, is_given, has_port_protocol, has_icmp_protocol, passes, is_formed_profile_rule, is_formed_profile, is_formed_namespace, is_formed_key, is_formed_endpoint, is_formed, has_workload_interface, puts_workload_interface}
 use Rattle.fx_json.specs.declared.fault.ReadFault.{ReadFault}
+use Rattle.fx_json.specs.Faults.{IsAnswerOf}
 use Rattle.fx_json.specs.declared.fault.ReadFault.TheVariants.{MissingField, PortsWithoutProtocol, IcmpWithoutProtocol, PassInProfile}
+use Rattle.fx_json.specs.declared.resources.NamespacedName.{NamespacedName}
 use Rattle.fx_json.specs.declared.resources.Kind.{Kind}
 use Rattle.fx_json.specs.declared.resources.Kind.TheVariants.{Profile as AProfile, WorkloadEndpoint}
 use Rattle.fx_json.specs.declared.rules.ReadProtocols.{ReadProtocols}
 use Rattle.fx_json.specs.declared.sides.ReadSide.{ReadSide}
+use Rattle.fx_json.specs.declared.sides.ReadPorts.{ReadPorts}
+use Rattle.fx_json.specs.declared.resources.EndpointMetadata.{EndpointMetadata}
+use Rattle.fx_json.specs.declared.resources.Workload.{Workload}
 use Rattle.fx_json.specs.declared.texts.TextForm.{TextForm}
-use Rattle.fx_json.specs.declared.texts.TextForm.TheVariants.{Name, WorkloadInterface}
-use Rattle.fx_json.specs.Forms.{is_name_byte, has_length, is_interface, is_workload_interface, is_in, passing, text}
+use Rattle.fx_json.specs.declared.texts.TextForm.TheVariants.{Name, Namespace, WorkloadInterface}
+use Rattle.fx_json.specs.Forms.{is_name_byte, is_namespace_byte, has_length, is_namespace, is_interface, is_workload_interface, is_in, passing, text}
 use Rattle.fx_json.specs.Paths.{member_path, item_path}
 use Rattle.fx_json.specs.Fields.{◌>>=◌, Reader, field, is_absent, formed, required, defaulted, optional, unread, items_from, list_at, items, object_at, section}
 use Rattle.fx_json.specs.Values.{version, protocol, net, host_net, port}
-use Rattle.fx_json.specs.Sides.{selectors, with_ports, ports_in, ports_at, side}
+use Rattle.fx_json.specs.Sides.{selectors, with_ports, ports_in, ports_at, nets_of, ports_of, side}
 use Rattle.fx_json.specs.Rules.{action_named, profile_action, has_messages, with_messages, message, asked_message, icmp_at, of_ipv4, protocols, side_at, rule_fields, rule}
-use Rattle.fx_json.specs.Resources.{labels_at, endpoint_port, profile_of, profile_put, namespaced_name, endpoint_of, endpoint_put, kind_of, put_of, resource_of, key_of, delete_of}
+use Rattle.fx_json.specs.Resources.{labels_at, endpoint_key, endpoint_port, profile_of, profile_put, namespaced_name, endpoint_of, endpoint_put, kind_of, put_of, resource_of, key_of, delete_of, key_in, name_in, profile_in, metadata_in, metadata_of, endpoint_in, workload, endpoint_profiles}
 
 -- ---- what a reading says of what it gives
 
@@ -134,24 +146,32 @@ ports_at-formed proto path k d =
 abbrev lists : ReadSide → Bool
 lists s = is_given s.side.ports || is_given s.side.not_ports
 
-side-formed : (proto : Option Proto) (path : List ℕ) (d : Data) → IfOk (side proto path d) (λ s. implies (lists s) (has_port_protocol proto) ≡ true)
-unfolding side
-side-formed proto path d =
-    then-if P (items net path (codes "nets") d) _ (λ nets _.
-    then-if P (items net path (codes "notNets") d) _ (λ not_nets _.
-    then-if P (selectors path d) _ (λ none _.
+ports_of-formed : (proto : Option Proto) (path : List ℕ) (d : Data) → IfOk (ports_of proto path d) (λ p. implies (is_given p.ports || is_given p.not_ports) (has_port_protocol proto) ≡ true)
+unfolding ports_of
+ports_of-formed proto path d =
     then-if P (ports_at proto path (codes "ports") d) _ (λ ports ports_read.
     then-if P (ports_at proto path (codes "notPorts") d) _ (λ not_ports not_ports_read.
-    then-if P (optional unread path (codes "services") d) _ (λ absent _.
     implies_either (is_given ports) (is_given not_ports) (has_port_protocol proto)
     (read-if Q (ports_at proto path (codes "ports") d) ports (ports_at-formed proto path (codes "ports") d) ports_read)
-    (read-if Q (ports_at proto path (codes "notPorts") d) not_ports (ports_at-formed proto path (codes "notPorts") d) not_ports_read)))))))
+    (read-if Q (ports_at proto path (codes "notPorts") d) not_ports (ports_at-formed proto path (codes "notPorts") d) not_ports_read)))
   where
-    P : ReadSide → Type 0
-    P s = implies (lists s) (has_port_protocol proto) ≡ true
+    P : ReadPorts → Type 0
+    P p = implies (is_given p.ports || is_given p.not_ports) (has_port_protocol proto) ≡ true
 
     Q : List PortRange → Type 0
     Q ports = implies (is_given ports) (has_port_protocol proto) ≡ true
+
+side-formed : (proto : Option Proto) (path : List ℕ) (d : Data) → IfOk (side proto path d) (λ s. implies (lists s) (has_port_protocol proto) ≡ true)
+unfolding side
+side-formed proto path d =
+    then-if P (nets_of path d) _ (λ nets _.
+    then-if P (selectors path d) _ (λ none _.
+    then-if P (ports_of proto path d) _ (λ ports ports_read.
+    then-if P (optional unread path (codes "services") d) _ (λ absent _.
+    read-if (λ (p : ReadPorts). implies (is_given p.ports || is_given p.not_ports) (has_port_protocol proto) ≡ true) (ports_of proto path d) ports (ports_of-formed proto path d) ports_read))))
+  where
+    P : ReadSide → Type 0
+    P s = implies (lists s) (has_port_protocol proto) ≡ true
 
 side_at-formed : (proto : Option Proto) (path k : List ℕ) (d : Data) → IfOk (side_at proto path k d) (λ s. implies (lists s) (has_port_protocol proto) ≡ true)
 unfolding side_at
@@ -256,71 +276,170 @@ profile_of-formed path d =
     Q : List Rule → Type 0
     Q rules = list_all is_formed_profile_rule rules ≡ true
 
-profile_put-formed : (d : Data) → IfOk (profile_put d) (λ u. is_formed u ≡ true)
+-- ---- updates
+
+-- an update that may be taken in
+abbrev pub IsTakable : Update → Type 0
+IsTakable u = (is_formed u ≡ true) × ((node : List ℕ) → puts_workload_interface node u ≡ true)
+
+profile_in-formed : (d : Data) → IfOk (profile_in d) (λ p. is_formed_profile p ≡ true)
+unfolding profile_in
+profile_in-formed d = then-if (λ p. is_formed_profile p ≡ true) (section (codes "spec") (codes "spec") d) _ (λ spec _. profile_of-formed (codes "spec") spec)
+
+profile_put-formed : (d : Data) → IfOk (profile_put d) IsTakable
 unfolding profile_put
 profile_put-formed d =
-    then-if P (section (codes "metadata") (codes "metadata") d) _ (λ metadata _.
-    then-if P (required (text Name) (codes "metadata") (codes "name") metadata) _ (λ name _.
-    then-if P (section (codes "spec") (codes "spec") d) _ (λ spec _.
-    then-if P (profile_of (codes "spec") spec) _ (λ profile profile_read.
-    read-if (λ (p : Profile). is_formed_profile p ≡ true) (profile_of (codes "spec") spec) profile (profile_of-formed (codes "spec") spec) profile_read))))
+    then-if IsTakable (name_in d) _ (λ name _.
+    then-if IsTakable (profile_in d) _ (λ profile profile_read.
+    (read-if (λ (p : Profile). is_formed_profile p ≡ true) (profile_in d) profile (profile_in-formed d) profile_read, λ node. refl)))
+
+-- ---- keys
+
+all_pass : (p q : ℕ → Bool) → ((b : ℕ) → p b ≡ true → q b ≡ true) → (s : List ℕ) → list_all p s ≡ true → list_all q s ≡ true
+all_pass p q each [] e = refl
+all_pass p q each (b ∷ s) e =
+    both (q b) (list_all q s) (each b (first_of (p b) (list_all p s) e)) (all_pass p q each s (second_of (p b) (list_all p s) e))
+
+no_slash : (b : ℕ) → is_namespace_byte b ≡ true → not (b == 47) ≡ true
+no_slash b e = by (b == 47) refl
   where
-    P : Update → Type 0
-    P u = is_formed u ≡ true
+    by : (t : Bool) → (b == 47) ≡ t → not t ≡ true
+    by true f = (let wrong : false ≡ true = subst (λ (c : ℕ). is_namespace_byte c ≡ true) (eqb-true b 47 f) e in absurd (false≢true wrong))
+    by false f = refl
+
+namespace-formed : (s : List ℕ) → is_namespace s ≡ true → is_formed_namespace s ≡ true
+namespace-formed s e = all_pass is_namespace_byte (λ b. not (b == 47)) no_slash s (second_of (has_length 1 63 s) (list_all is_namespace_byte s) e)
+
+namespaced_name-formed : (path : List ℕ) (d : Data) → IfOk (namespaced_name path d) (λ named. is_formed_namespace named.ns ≡ true)
+unfolding namespaced_name
+namespaced_name-formed path d =
+    then-if P (required (text Name) path (codes "name") d) _ (λ name _.
+    then-if P (required (text Namespace) path (codes "namespace") d) _ (λ ns ns_read.
+    namespace-formed ns (read-if (λ (s : List ℕ). is_namespace s ≡ true) (required (text Namespace) path (codes "namespace") d) ns (required-if (λ s. is_namespace s ≡ true) (text Namespace) (text-formed Namespace) path (codes "namespace") d) ns_read)))
+  where
+    P : NamespacedName → Type 0
+    P named = is_formed_namespace named.ns ≡ true
+
+-- the namespace of a name that was read
+named-formed : (path : List ℕ) (d : Data) (named : NamespacedName) → namespaced_name path d ≡ Ok named → is_formed_namespace named.ns ≡ true
+named-formed path d named is = read-if (λ (n : NamespacedName). is_formed_namespace n.ns ≡ true) (namespaced_name path d) named (namespaced_name-formed path d) is
+
+key_of-formed : (kind : Kind) (path : List ℕ) (d : Data) → IfOk (key_of kind path d) (λ k. is_formed_key k ≡ true)
+key_of-formed AProfile path d = then-if (λ k. is_formed_key k ≡ true) (required (text Name) path (codes "name") d) _ (λ name _. refl)
+key_of-formed WorkloadEndpoint path d = then-if (λ k. is_formed_key k ≡ true) (namespaced_name path d) _ (λ named is. named-formed path d named is)
+
+key_in-formed : (kind : Kind) (d : Data) → IfOk (key_in kind d) (λ k. is_formed_key k ≡ true)
+unfolding key_in
+key_in-formed kind d = then-if (λ k. is_formed_key k ≡ true) (section (codes "metadata") (codes "metadata") d) _ (λ metadata _. key_of-formed kind (codes "metadata") metadata)
 
 -- ---- endpoints
 
-workload_interface-formed : (s : List ℕ) → is_workload_interface s ≡ true → (nat_le (length s) 15 ≡ true) × (starts_with nat_eq s (codes "cali") ≡ true)
+workload_interface-formed : (s : List ℕ) → is_workload_interface s ≡ true → (nat_le (length s) 15 ≡ true) × (is_workload s ≡ true)
 workload_interface-formed s e =
     (second_of (nat_le 1 (length s)) (nat_le (length s) 15) (first_of (has_length 1 15 s) (list_all is_name_byte s) (first_of (is_interface s) (starts_with nat_eq s (codes "cali")) e)), second_of (is_interface s) (starts_with nat_eq s (codes "cali")) e)
 
-endpoint_of-formed : (given : LabelMap) (namespace path : List ℕ) (d : Data) → IfOk (endpoint_of given namespace path d) (λ e. is_formed_endpoint e ≡ true)
-unfolding endpoint_of
-endpoint_of-formed given namespace path d =
+-- an interface of workloads, whose name isn't too long
+abbrev IsFit : List ℕ → Type 0
+IsFit iface = (nat_le (length iface) 15 ≡ true) × (is_workload iface ≡ true)
+
+workload-formed : (path : List ℕ) (d : Data) → IfOk (workload path d) (λ w. IsFit w.iface)
+unfolding workload
+workload-formed path d =
     then-if P (required (text Name) path (codes "node") d) _ (λ node _.
     then-if P (optional (text Name) path (codes "orchestrator") d) _ (λ orchestrator _.
     then-if P (optional (text Name) path (codes "serviceAccountName") d) _ (λ account _.
     then-if P (required (text WorkloadInterface) path (codes "interfaceName") d) _ (λ iface iface_read.
-    then-if P (items host_net path (codes "ipNetworks") d) _ (λ networks _.
-    then-if P (items (text Name) path (codes "profiles") d) _ (λ profiles _.
-    then-if P (items endpoint_port path (codes "ports") d) _ (λ ports _.
-    let form = workload_interface-formed iface (read-if (λ (s : List ℕ). is_workload_interface s ≡ true) (required (text WorkloadInterface) path (codes "interfaceName") d) iface (required-if (λ s. is_workload_interface s ≡ true) (text WorkloadInterface) (text-formed WorkloadInterface) path (codes "interfaceName") d) iface_read) in
-    both (nat_le (length iface) 15) (starts_with nat_eq iface (codes "cali")) form.0 form.1)))))))
+    workload_interface-formed iface (read-if (λ (s : List ℕ). is_workload_interface s ≡ true) (required (text WorkloadInterface) path (codes "interfaceName") d) iface (required-if (λ s. is_workload_interface s ≡ true) (text WorkloadInterface) (text-formed WorkloadInterface) path (codes "interfaceName") d) iface_read)))))
+  where
+    P : Workload → Type 0
+    P w = IsFit w.iface
+
+endpoint_of-formed : (given : LabelMap) (namespace path : List ℕ) (d : Data) → IfOk (endpoint_of given namespace path d) (λ e. IsFit e.iface)
+unfolding endpoint_of
+endpoint_of-formed given namespace path d =
+    then-if P (workload path d) _ (λ w workload_read.
+    then-if P (endpoint_profiles path d) _ (λ profiles _.
+    read-if (λ (w : Workload). IsFit w.iface) (workload path d) w (workload-formed path d) workload_read))
   where
     P : Endpoint → Type 0
-    P e = is_formed_endpoint e ≡ true
+    P e = IsFit e.iface
 
-endpoint_put-formed : (d : Data) → IfOk (endpoint_put d) (λ u. is_formed u ≡ true)
+endpoint_in-formed : (given : LabelMap) (namespace : List ℕ) (d : Data) → IfOk (endpoint_in given namespace d) (λ e. IsFit e.iface)
+unfolding endpoint_in
+endpoint_in-formed given namespace d = then-if (λ e. IsFit e.iface) (section (codes "spec") (codes "spec") d) _ (λ spec _. endpoint_of-formed given namespace (codes "spec") spec)
+
+metadata_of-formed : (path : List ℕ) (d : Data) → IfOk (metadata_of path d) (λ m. is_formed_namespace m.named.ns ≡ true)
+unfolding metadata_of
+metadata_of-formed path d =
+    then-if P (namespaced_name path d) _ (λ named named_read.
+    then-if P (labels_at path (codes "labels") d) _ (λ given _. named-formed path d named named_read))
+  where
+    P : EndpointMetadata → Type 0
+    P m = is_formed_namespace m.named.ns ≡ true
+
+metadata_in-formed : (d : Data) → IfOk (metadata_in d) (λ m. is_formed_namespace m.named.ns ≡ true)
+unfolding metadata_in
+metadata_in-formed d = then-if (λ m. is_formed_namespace m.named.ns ≡ true) (section (codes "metadata") (codes "metadata") d) _ (λ metadata _. metadata_of-formed (codes "metadata") metadata)
+
+endpoint_put-formed : (d : Data) → IfOk (endpoint_put d) IsTakable
 unfolding endpoint_put
 endpoint_put-formed d =
-    then-if P (section (codes "metadata") (codes "metadata") d) _ (λ metadata _.
-    then-if P (namespaced_name (codes "metadata") metadata) _ (λ named _.
-    then-if P (labels_at (codes "metadata") (codes "labels") metadata) _ (λ given _.
-    then-if P (section (codes "spec") (codes "spec") d) _ (λ spec _.
-    then-if P (endpoint_of given named.ns (codes "spec") spec) _ (λ endpoint endpoint_read.
-    read-if (λ (e : Endpoint). is_formed_endpoint e ≡ true) (endpoint_of given named.ns (codes "spec") spec) endpoint (endpoint_of-formed given named.ns (codes "spec") spec) endpoint_read)))))
+    then-if IsTakable (metadata_in d) _ (λ about about_read.
+    then-if IsTakable (endpoint_in about.labels about.named.ns d) _ (λ endpoint endpoint_read.
+    takable about.named endpoint
+    (read-if (λ (m : EndpointMetadata). is_formed_namespace m.named.ns ≡ true) (metadata_in d) about (metadata_in-formed d) about_read)
+    (read-if (λ (e : Endpoint). IsFit e.iface) (endpoint_in about.labels about.named.ns d) endpoint (endpoint_in-formed about.labels about.named.ns d) endpoint_read)))
   where
-    P : Update → Type 0
-    P u = is_formed u ≡ true
+    takable : (named : NamespacedName) (e : Endpoint) → is_formed_namespace named.ns ≡ true → IsFit e.iface → IsTakable (update.Put (endpoint_key named) (item.Endpoint e))
+    takable named e key_formed fit = (
+      both (is_formed_key (endpoint_key named)) (is_formed_endpoint e) key_formed fit.0,
+      λ node. implied (bytes_eq e.node node) (is_workload e.iface) fit.1,
+    )
 
 -- ---- puts and deletes
 
-put_of-formed : (kind : Kind) (d : Data) → IfOk (put_of kind d) (λ u. is_formed u ≡ true)
+put_of-formed : (kind : Kind) (d : Data) → IfOk (put_of kind d) IsTakable
 put_of-formed AProfile d = profile_put-formed d
 put_of-formed WorkloadEndpoint d = endpoint_put-formed d
 
--- a put that is read is formed
-pub resource_of-formed : (d : Data) → IfOk (resource_of d) (λ u. is_formed u ≡ true)
+pub resource_of-takable : (d : Data) → IfOk (resource_of d) IsTakable
 unfolding resource_of
-resource_of-formed d = then-if (λ u. is_formed u ≡ true) (kind_of d) _ (λ kind _. put_of-formed kind d)
+resource_of-takable d = then-if IsTakable (kind_of d) _ (λ kind _. put_of-formed kind d)
+
+pub delete_of-takable : (d : Data) → IfOk (delete_of d) IsTakable
+unfolding delete_of
+delete_of-takable d =
+    then-if IsTakable (kind_of d) _ (λ kind _.
+    then-if IsTakable (key_in kind d) _ (λ k k_read.
+    (read-if (λ (k : Key). is_formed_key k ≡ true) (key_in kind d) k (key_in-formed kind d) k_read, λ node. refl)))
+
+first-if : (answer : Result Update ReadFault) → IfOk answer IsTakable → IfOk answer (λ u. is_formed u ≡ true)
+first-if (Ok u) is = is.0
+first-if (Err fault) is = tt
+
+second-if : (node : List ℕ) (answer : Result Update ReadFault) → IfOk answer IsTakable → IfOk answer (λ u. puts_workload_interface node u ≡ true)
+second-if node (Ok u) is = is.1 node
+second-if node (Err fault) is = tt
+
+-- a put that is read is formed, and is for an interface of workloads
+pub resource_of-formed : (d : Data) → IfOk (resource_of d) (λ u. is_formed u ≡ true)
+resource_of-formed d = first-if (resource_of d) (resource_of-takable d)
+
+pub resource_of-workload : (node : List ℕ) (d : Data) → IfOk (resource_of d) (λ u. puts_workload_interface node u ≡ true)
+resource_of-workload node d = second-if node (resource_of d) (resource_of-takable d)
 
 -- so is a delete
 pub delete_of-formed : (d : Data) → IfOk (delete_of d) (λ u. is_formed u ≡ true)
-unfolding delete_of
-delete_of-formed d =
-    then-if P (kind_of d) _ (λ kind _.
-    then-if P (section (codes "metadata") (codes "metadata") d) _ (λ metadata _.
-    then-if P (key_of kind (codes "metadata") metadata) _ (λ k _. refl)))
-  where
-    P : Update → Type 0
-    P u = is_formed u ≡ true
+delete_of-formed d = first-if (delete_of d) (delete_of-takable d)
+
+pub delete_of-workload : (node : List ℕ) (d : Data) → IfOk (delete_of d) (λ u. puts_workload_interface node u ≡ true)
+delete_of-workload node d = second-if node (delete_of d) (delete_of-takable d)
+
+-- what code answers of them
+pub answered-formed : (answer told : Result Update ReadFault) → IfOk answer (λ u. is_formed u ≡ true) → IsAnswerOf answer told → IfOk told (λ u. is_formed u ≡ true)
+answered-formed answer (Ok u) holds is = read-if (λ (u : Update). is_formed u ≡ true) answer u holds is
+answered-formed answer (Err fault) holds is = tt
+
+pub answered-workload : (answer told : Result Update ReadFault) → ((node : List ℕ) → IfOk answer (λ u. puts_workload_interface node u ≡ true)) → IsAnswerOf answer told → IfOk told (λ u. (node : List ℕ) → puts_workload_interface node u ≡ true)
+answered-workload answer (Ok u) holds is = λ node. read-if (λ (u : Update). puts_workload_interface node u ≡ true) answer u (holds node) is
+answered-workload answer (Err fault) holds is = tt

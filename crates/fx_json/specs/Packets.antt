@@ -10,6 +10,8 @@ use Rattle.fx_model.specs.declared.packet.State.TheVariants.{New, Established, R
 use Rattle.fx_model.specs.declared.packet.Packet.{Packet}
 use Rattle.fx_json.specs.declared.fault.ReadFault.{ReadFault}
 use Rattle.fx_json.specs.declared.texts.TextForm.TheVariants.{Interface}
+use Rattle.fx_json.specs.declared.packets.ReadHeader.{ReadHeader}
+use Rattle.fx_json.specs.declared.packets.ReadLayer.{ReadLayer}
 use Rattle.fx_json.specs.Fields.{◌>>=◌, Reader, formed, required, defaulted}
 use Rattle.fx_json.specs.Forms.{text}
 use Rattle.fx_json.specs.Values.{whole, address, protocol}
@@ -24,28 +26,40 @@ state_named s =
 abbrev pub state : Reader State
 state path d = formed path (option_and_then state_named (as_str d))
 
-unfoldable pub packet_fields : Reader Packet
-packet_fields path d = do
-  iface_in ← required (text Interface) path (codes "in") d
-  iface_out ← required (text Interface) path (codes "out") d
+-- the header of IPv4
+unfoldable pub header : Reader ReadHeader
+header path d = do
   src ← required address path (codes "src") d
   dst ← required address path (codes "dst") d
   proto ← required protocol path (codes "proto") d
+  Ok (record { src = src; dst = dst; proto = proto })
+
+-- the header behind it
+unfoldable pub layer : Reader ReadLayer
+layer path d = do
   sport ← defaulted 0 (whole 0 65535) path (codes "sport") d
   dport ← defaulted 0 (whole 0 65535) path (codes "dport") d
   icmp_kind ← defaulted 0 (whole 0 255) path (codes "icmpType") d
   icmp_code ← defaulted 0 (whole 0 255) path (codes "icmpCode") d
+  Ok (record { sport = sport; dport = dport; icmp_kind = icmp_kind; icmp_code = icmp_code })
+
+unfoldable pub packet_fields : Reader Packet
+packet_fields path d = do
+  iface_in ← required (text Interface) path (codes "in") d
+  iface_out ← required (text Interface) path (codes "out") d
+  ip ← header path d
+  behind ← layer path d
   connection ← defaulted New state path (codes "state") d
   Ok (record {
     iface_in = iface_in;
     iface_out = iface_out;
-    src = src;
-    dst = dst;
-    proto = proto;
-    sport = sport;
-    dport = dport;
-    icmp_kind = icmp_kind;
-    icmp_code = icmp_code;
+    src = ip.src;
+    dst = ip.dst;
+    proto = ip.proto;
+    sport = behind.sport;
+    dport = behind.dport;
+    icmp_kind = behind.icmp_kind;
+    icmp_code = behind.icmp_code;
     state = connection;
   })
 

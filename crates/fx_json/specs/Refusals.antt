@@ -5,11 +5,11 @@ use Rattle.fx_json.specs.declared.refusal.Refusal.{Refusal}
 use Rattle.fx_json.specs.declared.refusal.Refusal.TheVariants.{Read, BadJson, BadLine, Taken}
 use Rattle.fx_json.specs.Faults.{fault_number, fault_name, is_memory as is_memory_fault}
 
-abbrev pub number_of : Refusal → ℕ
-number_of (Read fault) = fault_number fault
-number_of BadJson = 21
-number_of BadLine = 22
-number_of (Taken name holder) = 30
+abbrev pub refusal_number : Refusal → ℕ
+refusal_number (Read fault) = fault_number fault
+refusal_number BadJson = 21
+refusal_number BadLine = 22
+refusal_number (Taken name holder) = 30
 
 abbrev pub refusal_name : Refusal → List ℕ
 refusal_name (Read fault) = fault_name fault

@@ -22,6 +22,8 @@ use Rattle.fx_json.specs.declared.resources.Kind.{Kind}
 use Rattle.fx_json.specs.declared.resources.Kind.TheVariants.{Profile as AProfile, WorkloadEndpoint}
 use Rattle.fx_json.specs.declared.texts.TextForm.TheVariants.{Name, Namespace, WorkloadInterface, PortName}
 use Rattle.fx_json.specs.declared.resources.NamespacedName.{NamespacedName}
+use Rattle.fx_json.specs.declared.resources.EndpointMetadata.{EndpointMetadata}
+use Rattle.fx_json.specs.declared.resources.Workload.{Workload}
 use Rattle.fx_json.specs.Forms.{text}
 use Rattle.fx_json.specs.Fields.{◌>>=◌, Reader, field, formed, required, defaulted, optional, object_at, section, items}
 use Rattle.fx_json.specs.Values.{whole, port_protocol, host_net}
@@ -117,12 +119,21 @@ profile_of path spec = do
   inherited ← labels_at path (codes "labelsToApply") spec
   Ok (record { labels = inherited; ingress = ingress; egress = egress })
 
+-- the name that a resource has
+unfoldable pub name_in : Data → Result (List ℕ) ReadFault
+name_in d = do
+  metadata ← section (codes "metadata") (codes "metadata") d
+  required (text Name) (codes "metadata") (codes "name") metadata
+
+unfoldable pub profile_in : Data → Result Profile ReadFault
+profile_in d = do
+  spec ← section (codes "spec") (codes "spec") d
+  profile_of (codes "spec") spec
+
 unfoldable pub profile_put : Data → Result Update ReadFault
 profile_put d = do
-  metadata ← section (codes "metadata") (codes "metadata") d
-  name ← required (text Name) (codes "metadata") (codes "name") metadata
-  spec ← section (codes "spec") (codes "spec") d
-  profile ← profile_of (codes "spec") spec
+  name ← name_in d
+  profile ← profile_in d
   Ok (update.Put (key.Profile name) (item.Profile profile))
 
 -- ---- workload endpoints
@@ -148,26 +159,52 @@ port_fields path d = do
 abbrev pub endpoint_port : Reader (Unit {0})
 endpoint_port path d = object_at path d >>= port_fields path
 
--- the endpoint of this namespace and these labels that `spec` holds
-unfoldable pub endpoint_of : LabelMap → List ℕ → Reader Endpoint
-endpoint_of given namespace path spec = do
+-- where a workload runs, and what it runs as
+unfoldable pub workload : Reader Workload
+workload path spec = do
   node ← required (text Name) path (codes "node") spec
   orchestrator ← optional (text Name) path (codes "orchestrator") spec
   account ← optional (text Name) path (codes "serviceAccountName") spec
   iface ← required (text WorkloadInterface) path (codes "interfaceName") spec
+  Ok (record { node = node; orchestrator = orchestrator; account = account; iface = iface })
+
+-- the profiles, between the addresses and the ports, which nothing is made of yet
+unfoldable pub endpoint_profiles : Reader (List (List ℕ))
+endpoint_profiles path spec = do
   _ ← items host_net path (codes "ipNetworks") spec
   profiles ← items (text Name) path (codes "profiles") spec
   _ ← items endpoint_port path (codes "ports") spec
-  Ok (record { node = node; iface = iface; labels = own_labels given namespace account orchestrator; profiles = profiles })
+  Ok profiles
+
+-- the endpoint of this namespace and these labels that `spec` holds
+unfoldable pub endpoint_of : LabelMap → List ℕ → Reader Endpoint
+endpoint_of given namespace path spec = do
+  w ← workload path spec
+  profiles ← endpoint_profiles path spec
+  Ok (record { node = w.node; iface = w.iface; labels = own_labels given namespace w.account w.orchestrator; profiles = profiles })
+
+unfoldable pub endpoint_in : LabelMap → List ℕ → Data → Result Endpoint ReadFault
+endpoint_in given namespace d = do
+  spec ← section (codes "spec") (codes "spec") d
+  endpoint_of given namespace (codes "spec") spec
+
+-- the name, the namespace and the labels that `metadata` holds
+unfoldable pub metadata_of : Reader EndpointMetadata
+metadata_of path metadata = do
+  named ← namespaced_name path metadata
+  given ← labels_at path (codes "labels") metadata
+  Ok (record { named = named; labels = given })
+
+unfoldable pub metadata_in : Data → Result EndpointMetadata ReadFault
+metadata_in d = do
+  metadata ← section (codes "metadata") (codes "metadata") d
+  metadata_of (codes "metadata") metadata
 
 unfoldable pub endpoint_put : Data → Result Update ReadFault
 endpoint_put d = do
-  metadata ← section (codes "metadata") (codes "metadata") d
-  named ← namespaced_name (codes "metadata") metadata
-  given ← labels_at (codes "metadata") (codes "labels") metadata
-  spec ← section (codes "spec") (codes "spec") d
-  endpoint ← endpoint_of given named.ns (codes "spec") spec
-  Ok (update.Put (endpoint_key named) (item.Endpoint endpoint))
+  about ← metadata_in d
+  endpoint ← endpoint_in about.labels about.named.ns d
+  Ok (update.Put (endpoint_key about.named) (item.Endpoint endpoint))
 
 -- ---- puts and deletes
 
@@ -187,10 +224,14 @@ abbrev pub key_of : Kind → Reader Key
 key_of AProfile path metadata = required (text Name) path (codes "name") metadata >>= λ name. Ok (key.Profile name)
 key_of WorkloadEndpoint path metadata = namespaced_name path metadata >>= λ named. Ok (endpoint_key named)
 
+unfoldable pub key_in : Kind → Data → Result Key ReadFault
+key_in kind d = do
+  metadata ← section (codes "metadata") (codes "metadata") d
+  key_of kind (codes "metadata") metadata
+
 -- what a delete of a resource is read as
 unfoldable pub delete_of : Data → Result Update ReadFault
 delete_of d = do
   kind ← kind_of d
-  metadata ← section (codes "metadata") (codes "metadata") d
-  k ← key_of kind (codes "metadata") metadata
+  k ← key_in kind d
   Ok (update.Delete k)

@@ -13,6 +13,8 @@ use Rattle.fx_model.specs.Formed.{has_port_protocol, is_given}
 use Rattle.fx_json.specs.declared.fault.ReadFault.{ReadFault}
 use Rattle.fx_json.specs.declared.fault.ReadFault.TheVariants.{BadField, Unsupported, PortsWithoutProtocol}
 use Rattle.fx_json.specs.declared.sides.ReadSide.{ReadSide}
+use Rattle.fx_json.specs.declared.sides.ReadNets.{ReadNets}
+use Rattle.fx_json.specs.declared.sides.ReadPorts.{ReadPorts}
 use Rattle.fx_json.specs.Paths.{member_path}
 use Rattle.fx_json.specs.Fields.{◌>>=◌, Reader, field, is_absent, optional, unread, object_at, list_at, items, items_from}
 use Rattle.fx_json.specs.Values.{net, port}
@@ -84,16 +86,27 @@ are_ipv6_alone nets = is_given nets && list_all is_ipv6 nets
 
 -- ---- a side
 
+-- the nets of IPv4, and whether no packet of IPv4 meets them
+unfoldable pub nets_of : Reader ReadNets
+nets_of path d = do
+  nets ← items net path (codes "nets") d
+  not_nets ← items net path (codes "notNets") d
+  Ok (record { nets = filter_map ipv4 nets; not_nets = filter_map ipv4 not_nets; never = are_ipv6_alone nets })
+
+unfoldable pub ports_of : Option Proto → Reader ReadPorts
+ports_of protocol path d = do
+  ports ← ports_at protocol path (codes "ports") d
+  not_ports ← ports_at protocol path (codes "notPorts") d
+  Ok (record { ports = ports; not_ports = not_ports })
+
 -- A side of a rule of this protocol, and whether no packet of IPv4 meets it.
 unfoldable pub side : Option Proto → Reader ReadSide
 side protocol path d = do
-  nets ← items net path (codes "nets") d
-  not_nets ← items net path (codes "notNets") d
+  nets ← nets_of path d
   _ ← selectors path d
-  ports ← ports_at protocol path (codes "ports") d
-  not_ports ← ports_at protocol path (codes "notPorts") d
+  ports ← ports_of protocol path d
   _ ← optional unread path (codes "services") d
   Ok (record {
-    side = record { nets = filter_map ipv4 nets; not_nets = filter_map ipv4 not_nets; ports = ports; not_ports = not_ports };
-    never = are_ipv6_alone nets;
+    side = record { nets = nets.nets; not_nets = nets.not_nets; ports = ports.ports; not_ports = ports.not_ports };
+    never = nets.never;
   })

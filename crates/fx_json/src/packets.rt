@@ -4,13 +4,14 @@ ghost use Rattle.serde_json.specs.Find.{as_str};
 ghost use Rattle.serde_json.specs.View.{view};
 ghost use Rattle.fx_json.specs.Faults.{IsAnswerOf};
 ghost use Rattle.fx_json.specs.Paths.{text_of};
-ghost use Rattle.fx_json.specs.Packets.{state_named, state, packet_fields, packet_of};
+ghost use Rattle.fx_json.specs.Packets.{state_named, state, header, layer, packet_fields, packet_of};
 
 use crate::fault::ReadFault;
 use crate::fields::{Form, defaulted, formed, required};
 use crate::path::Path;
 use crate::texts::TextForm;
 use crate::values::{AddressForm, ByteForm, ProtocolForm, WordForm};
+use fx_base::{Ipv4, Proto};
 use fx_model::{Packet, State};
 use serde_json::Value;
 use std::alloc::Global;
@@ -29,25 +30,63 @@ fn packet(alloc: Global, path: &Path<'_>, value: &Value) -> Result<Packet, ReadF
 {
     let iface_in = required(alloc, &TextForm::Interface, path, "in", value)?;
     let iface_out = required(alloc, &TextForm::Interface, path, "out", value)?;
-    let src = required(alloc, &AddressForm, path, "src", value)?;
-    let dst = required(alloc, &AddressForm, path, "dst", value)?;
-    let proto = required(alloc, &ProtocolForm, path, "proto", value)?;
-    let sport = defaulted(alloc, &WordForm { low: 0 }, 0, path, "sport", value)?;
-    let dport = defaulted(alloc, &WordForm { low: 0 }, 0, path, "dport", value)?;
-    let icmp_kind = defaulted(alloc, &ByteForm { high: 255 }, 0, path, "icmpType", value)?;
-    let icmp_code = defaulted(alloc, &ByteForm { high: 255 }, 0, path, "icmpCode", value)?;
+    let header = read_header(alloc, path, value)?;
+    let layer = read_layer(alloc, path, value)?;
     let state = defaulted(alloc, &StateForm, State::New, path, "state", value)?;
     Ok(Packet {
         iface_in,
         iface_out,
-        src,
-        dst,
-        proto,
+        src: header.src,
+        dst: header.dst,
+        proto: header.proto,
+        sport: layer.sport,
+        dport: layer.dport,
+        icmp_kind: layer.icmp_kind,
+        icmp_code: layer.icmp_code,
+        state,
+    })
+}
+
+/// What a packet's IPv4 header says.
+#[derive(Clone, Copy)]
+pub struct ReadHeader {
+    pub src: Ipv4,
+    pub dst: Ipv4,
+    pub proto: Proto,
+}
+
+#[tactic(auto, unfolding(crate::specs::Packets::header))]
+fn read_header(alloc: Global, path: &Path<'_>, value: &Value) -> Result<ReadHeader, ReadFault>
+    ensures { IsAnswerOf (header (text_of path.now) (view value.now)) result }
+{
+    let src = required(alloc, &AddressForm, path, "src", value)?;
+    let dst = required(alloc, &AddressForm, path, "dst", value)?;
+    let proto = required(alloc, &ProtocolForm, path, "proto", value)?;
+    Ok(ReadHeader { src, dst, proto })
+}
+
+/// What the header behind it says: ports, or a message of ICMP.
+#[derive(Clone, Copy)]
+pub struct ReadLayer {
+    pub sport: u16,
+    pub dport: u16,
+    pub icmp_kind: u8,
+    pub icmp_code: u8,
+}
+
+#[tactic(auto, unfolding(crate::specs::Packets::layer))]
+fn read_layer(alloc: Global, path: &Path<'_>, value: &Value) -> Result<ReadLayer, ReadFault>
+    ensures { IsAnswerOf (layer (text_of path.now) (view value.now)) result }
+{
+    let sport = defaulted(alloc, &WordForm { low: 0 }, 0, path, "sport", value)?;
+    let dport = defaulted(alloc, &WordForm { low: 0 }, 0, path, "dport", value)?;
+    let icmp_kind = defaulted(alloc, &ByteForm { high: 255 }, 0, path, "icmpType", value)?;
+    let icmp_code = defaulted(alloc, &ByteForm { high: 255 }, 0, path, "icmpCode", value)?;
+    Ok(ReadLayer {
         sport,
         dport,
         icmp_kind,
         icmp_code,
-        state,
     })
 }
 

@@ -1,7 +1,7 @@
 //! Why a line is refused.
 ghost use Rattle.std.specs.Prelude.{◌≡◌};
 ghost use Rattle.fx_json.specs.declared.refusal.Refusal.TheVariants.{Read};
-ghost use Rattle.fx_json.specs.Refusals.{number_of, refusal_name, is_memory};
+ghost use Rattle.fx_json.specs.Refusals.{refusal_number, refusal_name, is_memory};
 
 use crate::fault::ReadFault;
 use fx_base::{KernelName, Text};
@@ -19,7 +19,7 @@ pub enum Refusal {
 impl Refusal {
     /// The number under which scripts know it.
     pub fn number(&self) -> u64
-        ensures { result ≡ number_of self.now }
+        ensures { result ≡ refusal_number self.now }
     {
         match self {
             Refusal::Read(fault) => fault.number(),

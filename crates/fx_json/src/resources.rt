@@ -1,9 +1,10 @@
 //! Reads a resource that is put or deleted: a Profile or a WorkloadEndpoint.
-ghost use Rattle.std.specs.Prelude.{◌≡◌, option_map};
+ghost use Rattle.std.specs.Prelude.{◌≡◌, ℕ, List, true, IfOk, option_map};
 ghost use Rattle.serde_json.specs.View.{view};
+ghost use Rattle.fx_model.specs.Formed.{is_formed, puts_workload_interface};
 ghost use Rattle.fx_json.specs.Faults.{IsReadFault, IsAnswerOf};
 ghost use Rattle.fx_json.specs.Paths.{text_of};
-ghost use Rattle.fx_json.specs.Resources.{unread_kind, calico_kind, core_kind, network_kind, kind_named, text_at, kind_of, profile_of, profile_put, namespaced_name, endpoint_key, port_fields, endpoint_port, endpoint_of, endpoint_put, put_of, resource_of, key_of, delete_of};
+ghost use Rattle.fx_json.specs.Resources.{unread_kind, calico_kind, core_kind, network_kind, kind_named, text_at, kind_of, profile_of, profile_put, namespaced_name, endpoint_key, port_fields, endpoint_port, endpoint_of, endpoint_put, put_of, resource_of, key_of, delete_of, key_in, name_in, profile_in, metadata_in, metadata_of, endpoint_in, workload, endpoint_profiles};
 
 use crate::fault::ReadFault;
 use crate::fields::{Form, field, items, object, optional, required, section};
@@ -12,7 +13,7 @@ use crate::path::Path;
 use crate::rules::RuleForm;
 use crate::texts::TextForm;
 use crate::values::{HostForm, PortProtocolForm, WordForm};
-use fx_base::Text;
+use fx_base::{Seq, Text};
 use fx_model::{Endpoint, Item, ItemKey, Key, Profile, Update};
 use fx_selector::Labels;
 use serde_json::Value;
@@ -26,8 +27,16 @@ enum Kind {
 }
 
 /// The update that a put of this resource is, or the first fault of the resource.
-#[tactic(auto, unfolding(crate::specs::Resources::resource_of))]
 pub fn read_resource(alloc: Global, value: &Value) -> Result<Update, ReadFault>
+    ensures answer { IsAnswerOf (resource_of (view value.now)) result }
+    ensures formed { IfOk result (λ update. is_formed update ≡ true) }
+    ensures interface { IfOk result (λ update. (node : List ℕ) → puts_workload_interface node update ≡ true) }
+{
+    put_of(alloc, value)
+}
+
+#[tactic(auto, unfolding(crate::specs::Resources::resource_of))]
+fn put_of(alloc: Global, value: &Value) -> Result<Update, ReadFault>
     ensures { IsAnswerOf (resource_of (view value.now)) result }
 {
     match kind_of(alloc, value)? {
@@ -37,16 +46,31 @@ pub fn read_resource(alloc: Global, value: &Value) -> Result<Update, ReadFault>
 }
 
 /// The update that a delete of this resource is, or the first fault of what names the resource.
-#[tactic(auto, unfolding(crate::specs::Resources::delete_of))]
 pub fn read_delete(alloc: Global, value: &Value) -> Result<Update, ReadFault>
+    ensures answer { IsAnswerOf (delete_of (view value.now)) result }
+    ensures formed { IfOk result (λ update. is_formed update ≡ true) }
+    ensures interface { IfOk result (λ update. (node : List ℕ) → puts_workload_interface node update ≡ true) }
+{
+    delete_of(alloc, value)
+}
+
+#[tactic(auto, unfolding(crate::specs::Resources::delete_of))]
+fn delete_of(alloc: Global, value: &Value) -> Result<Update, ReadFault>
     ensures { IsAnswerOf (delete_of (view value.now)) result }
 {
     let kind = kind_of(alloc, value)?;
+    let key = key_in(alloc, kind, value)?;
+    Ok(Update::Delete { key })
+}
+
+#[tactic(auto, unfolding(crate::specs::Resources::key_in))]
+fn key_in(alloc: Global, kind: Kind, resource: &Value) -> Result<Key, ReadFault>
+    ensures { IsAnswerOf (key_in kind (view resource.now)) result }
+{
     let nothing = Value::Null;
     let path = Path::top("metadata");
-    let metadata = section(alloc, &path, "metadata", value, &nothing)?;
-    let key = key_of(alloc, kind, &path, metadata)?;
-    Ok(Update::Delete { key })
+    let metadata = section(alloc, &path, "metadata", resource, &nothing)?;
+    key_of(alloc, kind, &path, metadata)
 }
 
 fn key_of(alloc: Global, kind: Kind, path: &Path<'_>, metadata: &Value) -> Result<Key, ReadFault>
@@ -141,17 +165,32 @@ fn unread_kind(alloc: Global) -> Result<Kind, ReadFault>
 fn profile_put(alloc: Global, resource: &Value) -> Result<Update, ReadFault>
     ensures { IsAnswerOf (profile_put (view resource.now)) result }
 {
-    let nothing = Value::Null;
-    let path = Path::top("metadata");
-    let metadata = section(alloc, &path, "metadata", resource, &nothing)?;
-    let name = required(alloc, &TextForm::Name, &path, "name", metadata)?;
-    let path = Path::top("spec");
-    let spec = section(alloc, &path, "spec", resource, &nothing)?;
-    let profile = read_profile(alloc, &path, spec)?;
+    let name = name_in(alloc, resource)?;
+    let profile = profile_in(alloc, resource)?;
     Ok(Update::Put {
         key: Key::Profile { name },
         item: Item::Profile(profile),
     })
+}
+
+#[tactic(auto, unfolding(crate::specs::Resources::name_in))]
+fn name_in(alloc: Global, resource: &Value) -> Result<Text, ReadFault>
+    ensures { IsAnswerOf (name_in (view resource.now)) result }
+{
+    let nothing = Value::Null;
+    let path = Path::top("metadata");
+    let metadata = section(alloc, &path, "metadata", resource, &nothing)?;
+    required(alloc, &TextForm::Name, &path, "name", metadata)
+}
+
+#[tactic(auto, unfolding(crate::specs::Resources::profile_in))]
+fn profile_in(alloc: Global, resource: &Value) -> Result<Profile, ReadFault>
+    ensures { IsAnswerOf (profile_in (view resource.now)) result }
+{
+    let nothing = Value::Null;
+    let path = Path::top("spec");
+    let spec = section(alloc, &path, "spec", resource, &nothing)?;
+    read_profile(alloc, &path, spec)
 }
 
 #[tactic(auto, unfolding(crate::specs::Resources::profile_of))]
@@ -174,18 +213,57 @@ fn read_profile(alloc: Global, path: &Path<'_>, spec: &Value) -> Result<Profile,
 fn endpoint_put(alloc: Global, resource: &Value) -> Result<Update, ReadFault>
     ensures { IsAnswerOf (endpoint_put (view resource.now)) result }
 {
-    let nothing = Value::Null;
-    let path = Path::top("metadata");
-    let metadata = section(alloc, &path, "metadata", resource, &nothing)?;
-    let named = namespaced_name(alloc, &path, metadata)?;
-    let given = labels_at(alloc, &path, "labels", metadata)?;
-    let path = Path::top("spec");
-    let spec = section(alloc, &path, "spec", resource, &nothing)?;
-    let endpoint = read_endpoint(alloc, given, &named.ns, &path, spec)?;
+    let EndpointMetadata { named, labels } = metadata_in(alloc, resource)?;
+    let endpoint = endpoint_in(alloc, labels, &named.ns, resource)?;
     Ok(Update::Put {
         key: endpoint_key(named),
         item: Item::Endpoint(endpoint),
     })
+}
+
+// What an endpoint's metadata says of it.
+#[derive(Drop)]
+struct EndpointMetadata {
+    named: NamespacedName,
+    labels: Labels,
+}
+
+#[tactic(auto, unfolding(crate::specs::Resources::metadata_in))]
+fn metadata_in(alloc: Global, resource: &Value) -> Result<EndpointMetadata, ReadFault>
+    ensures { IsAnswerOf (metadata_in (view resource.now)) result }
+{
+    let nothing = Value::Null;
+    let path = Path::top("metadata");
+    let metadata = section(alloc, &path, "metadata", resource, &nothing)?;
+    read_metadata(alloc, &path, metadata)
+}
+
+#[tactic(auto, unfolding(crate::specs::Resources::metadata_of))]
+fn read_metadata(
+    alloc: Global,
+    path: &Path<'_>,
+    metadata: &Value,
+) -> Result<EndpointMetadata, ReadFault>
+    ensures { IsAnswerOf (metadata_of (text_of path.now) (view metadata.now)) result }
+{
+    let named = namespaced_name(alloc, path, metadata)?;
+    let labels = labels_at(alloc, path, "labels", metadata)?;
+    Ok(EndpointMetadata { named, labels })
+}
+
+#[tactic(auto, unfolding(crate::specs::Resources::endpoint_in))]
+fn endpoint_in(
+    alloc: Global,
+    given: Labels,
+    namespace: &Text,
+    resource: &Value,
+) -> Result<Endpoint, ReadFault>
+    ensures { IsAnswerOf (endpoint_in given namespace.now (view resource.now)) result }
+{
+    let nothing = Value::Null;
+    let path = Path::top("spec");
+    let spec = section(alloc, &path, "spec", resource, &nothing)?;
+    read_endpoint(alloc, given, namespace, &path, spec)
 }
 
 // A name in a namespace.
@@ -227,6 +305,30 @@ fn read_endpoint(
 ) -> Result<Endpoint, ReadFault>
     ensures { IsAnswerOf (endpoint_of given namespace.now (text_of path.now) (view spec.now)) result }
 {
+    let workload = read_workload(alloc, path, spec)?;
+    let profiles = read_profiles(alloc, path, spec)?;
+    let labels = own_labels(given, namespace, workload.account, workload.orchestrator)?;
+    Ok(Endpoint {
+        node: workload.node,
+        iface: workload.iface,
+        labels,
+        profiles,
+    })
+}
+
+// Where a workload runs, and what it runs as.
+#[derive(Drop)]
+struct Workload {
+    node: Text,
+    orchestrator: Option<Text>,
+    account: Option<Text>,
+    iface: Text,
+}
+
+#[tactic(auto, unfolding(crate::specs::Resources::workload))]
+fn read_workload(alloc: Global, path: &Path<'_>, spec: &Value) -> Result<Workload, ReadFault>
+    ensures { IsAnswerOf (workload (text_of path.now) (view spec.now)) result }
+{
     let node = required(alloc, &TextForm::Name, path, "node", spec)?;
     let orchestrator = optional(alloc, &TextForm::Name, path, "orchestrator", spec)?;
     let account = optional(alloc, &TextForm::Name, path, "serviceAccountName", spec)?;
@@ -237,16 +339,23 @@ fn read_endpoint(
         "interfaceName",
         spec,
     )?;
+    Ok(Workload {
+        node,
+        orchestrator,
+        account,
+        iface,
+    })
+}
+
+// The profiles of an endpoint, between its addresses and its ports.
+#[tactic(auto, unfolding(crate::specs::Resources::endpoint_profiles))]
+fn read_profiles(alloc: Global, path: &Path<'_>, spec: &Value) -> Result<Seq<Text>, ReadFault>
+    ensures { IsAnswerOf (endpoint_profiles (text_of path.now) (view spec.now)) result }
+{
     items(alloc, &HostForm, path, "ipNetworks", spec)?;
     let profiles = items(alloc, &TextForm::Name, path, "profiles", spec)?;
     items(alloc, &EndpointPortForm, path, "ports", spec)?;
-    let labels = own_labels(given, namespace, account, orchestrator)?;
-    Ok(Endpoint {
-        node,
-        iface,
-        labels,
-        profiles,
-    })
+    Ok(profiles)
 }
 
 // A port of an endpoint, which nothing is made of yet.

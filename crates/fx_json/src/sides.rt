@@ -7,7 +7,7 @@ ghost use Rattle.fx_model.specs.Formed.{has_port_protocol};
 ghost use Rattle.fx_json.specs.Faults.{IsReadFault, IsAnswerOf};
 ghost use Rattle.fx_json.specs.Paths.{text_of};
 ghost use Rattle.fx_json.specs.Fields.{unread};
-ghost use Rattle.fx_json.specs.Sides.{selector, is_no_selector, accounts, selectors, with_ports, may_list, ports_in, ports_at, ipv4, is_ipv6, are_ipv6_alone, side};
+ghost use Rattle.fx_json.specs.Sides.{selector, is_no_selector, accounts, selectors, with_ports, may_list, ports_in, ports_at, ipv4, is_ipv6, are_ipv6_alone, nets_of, ports_of, side};
 
 use crate::fault::ReadFault;
 use crate::fields::{Form, field, is_absent, items, list_at, object, optional, read_items};
@@ -34,21 +34,61 @@ pub fn read_side(
 ) -> Result<ReadSide, ReadFault>
     ensures { IsAnswerOf (side protocol (text_of path.now) (view value.now)) result }
 {
-    let nets = items(alloc, &NetForm, path, "nets", value)?;
-    let not_nets = items(alloc, &NetForm, path, "notNets", value)?;
+    let nets = read_nets(alloc, path, value)?;
     read_selectors(alloc, path, value)?;
-    let ports = ports_at(alloc, protocol, path, "ports", value)?;
-    let not_ports = ports_at(alloc, protocol, path, "notPorts", value)?;
+    let ports = read_ports(alloc, protocol, path, value)?;
     optional(alloc, &UnreadForm, path, "services", value)?;
     Ok(ReadSide {
         side: Side {
-            nets: ipv4_nets(alloc, nets.as_slice())?,
-            not_nets: ipv4_nets(alloc, not_nets.as_slice())?,
-            ports,
-            not_ports,
+            nets: nets.nets,
+            not_nets: nets.not_nets,
+            ports: ports.ports,
+            not_ports: ports.not_ports,
         },
+        never: nets.never,
+    })
+}
+
+/// The nets of a side, and whether no packet of IPv4 meets them.
+#[derive(Drop)]
+pub struct ReadNets {
+    pub nets: Seq<Net>,
+    pub not_nets: Seq<Net>,
+    pub never: bool,
+}
+
+#[tactic(auto, unfolding(crate::specs::Sides::nets_of))]
+fn read_nets(alloc: Global, path: &Path<'_>, value: &Value) -> Result<ReadNets, ReadFault>
+    ensures { IsAnswerOf (nets_of (text_of path.now) (view value.now)) result }
+{
+    let nets = items(alloc, &NetForm, path, "nets", value)?;
+    let not_nets = items(alloc, &NetForm, path, "notNets", value)?;
+    Ok(ReadNets {
+        nets: ipv4_nets(alloc, nets.as_slice())?,
+        not_nets: ipv4_nets(alloc, not_nets.as_slice())?,
         never: are_ipv6_alone(nets.as_slice()),
     })
+}
+
+/// The ports of a side.
+#[derive(Drop)]
+pub struct ReadPorts {
+    pub ports: Seq<PortRange>,
+    pub not_ports: Seq<PortRange>,
+}
+
+#[tactic(auto, unfolding(crate::specs::Sides::ports_of))]
+fn read_ports(
+    alloc: Global,
+    protocol: Option<Proto>,
+    path: &Path<'_>,
+    value: &Value,
+) -> Result<ReadPorts, ReadFault>
+    ensures { IsAnswerOf (ports_of protocol (text_of path.now) (view value.now)) result }
+{
+    let ports = ports_at(alloc, protocol, path, "ports", value)?;
+    let not_ports = ports_at(alloc, protocol, path, "notPorts", value)?;
+    Ok(ReadPorts { ports, not_ports })
 }
 
 // ---- what isn't read yet

@@ -87,53 +87,50 @@ const WITH_ACCOUNT: &str =
 
 const TO_APPLY: &str =
     r#"{"apiVersion":"projectcalico.org/v3","kind":"Profile","metadata":{"name":"p","labels":{"app":"web"}},
-"spec":{"labelsToApply":{"tier":"front","old":null}}}"#;
+"spec":{"labelsToApply":{"tier":"web","old":null}}}"#;
 
-// A resource, a key, and the label of it that is wanted.
-const LABELS: [(&str, &str, Option<&str>); 14] = [
-    (GIVEN, "app", Some("web")),
-    (GIVEN, "none", Some("")),
-    (GIVEN, "old", None),
-    (GIVEN, "projectcalico.org/namespace", Some("shop")),
-    (GIVEN, "projectcalico.org/orchestrator", Some("y")),
-    (GIVEN, "projectcalico.org/serviceaccount", None),
-    (WITH_ACCOUNT, "projectcalico.org/namespace", Some("shop")),
-    (WITH_ACCOUNT, "projectcalico.org/orchestrator", Some("k8s")),
-    (
-        WITH_ACCOUNT,
-        "projectcalico.org/serviceaccount",
-        Some("till"),
-    ),
-    (WITH_ACCOUNT, "app", None),
-    (TO_APPLY, "tier", Some("front")),
-    (TO_APPLY, "old", None),
-    (TO_APPLY, "app", None),
-    (TO_APPLY, "projectcalico.org/namespace", None),
-];
+// The labels that are wanted: a key and its value, or the key alone of one that is absent.
+const GIVEN_LABELS: &str = "app => web
+none =>\x20
+old
+projectcalico.org/namespace => shop
+projectcalico.org/orchestrator => y
+projectcalico.org/serviceaccount";
 
-#[test]
-fn labels_are_kept(rt: HostRuntime) -> Result<(), Fail> {
-    let alloc = rt.alloc();
-    for (text, key, want) in LABELS {
-        let value = Value::from_str(alloc, text)?;
-        match read_resource(alloc, &value) {
-            Ok(update) => assert_eq!(rt; label(&update, key), want.map(str::as_bytes), "{key}"),
-            Err(_) => assert!(rt; false, "refused"),
+const ACCOUNT_LABELS: &str = "projectcalico.org/namespace => shop
+projectcalico.org/orchestrator => k8s
+projectcalico.org/serviceaccount => till
+app";
+
+const APPLIED_LABELS: &str = "tier => web
+old
+app
+projectcalico.org/namespace";
+
+// The first row that isn't so of the resource.
+fn wrong_label<'r>(alloc: Global, resource: &str, rows: &'r str) -> Result<Option<&'r str>, Fail> {
+    let value = Value::from_str(alloc, resource)?;
+    let Ok(update) = read_resource(alloc, &value) else {
+        return Ok(Some("refused"));
+    };
+    for row in rows.lines() {
+        let want = row.split_once(" => ");
+        let key = want.map_or(row, |(key, _)| key);
+        if label(&update, key) != want.map(|(_, value)| value.as_bytes()) {
+            return Ok(Some(row));
         }
     }
-    Ok(())
+    Ok(None)
 }
 
 #[test]
-fn long_names_of_profiles_are_read(rt: HostRuntime) -> Result<(), Fail> {
-    let alloc = rt.alloc();
-    let name = vec![in alloc; b'_'; 253]?;
-    let name = String::from_utf8(name)?;
-    let text = format!(in alloc;
-        "{{\"apiVersion\":\"projectcalico.org/v3\",\"kind\":\"Profile\",\"metadata\":{{\"name\":\"{name}\"}}}}"
-    )?;
-    let value = Value::from_str(alloc, text.as_str())?;
-    assert!(rt; read_resource(alloc, &value).is_ok());
+fn labels_are_kept(rt: HostRuntime) -> Result<(), Fail> {
+    assert_eq!(rt; wrong_label(rt.alloc(), GIVEN, GIVEN_LABELS)?, None);
+    assert_eq!(rt;
+        wrong_label(rt.alloc(), WITH_ACCOUNT, ACCOUNT_LABELS)?,
+        None
+    );
+    assert_eq!(rt; wrong_label(rt.alloc(), TO_APPLY, APPLIED_LABELS)?, None);
     Ok(())
 }
 

@@ -66,7 +66,7 @@ selector_kept n selectors text o old w same at = selector_set n selectors text o
     ] refl)
     at
 
--- ---- what the count tells
+-- ---- what follows from the count
 retested : (o : Option Counted) (tree : Tree) → is_some o ≡ true → ((counted : Counted) → o ≡ Some counted → counted.selector ≡ tree) → (uses : ℕ) (labels : Option LabelMap) → tests o labels ≡ tests (Some (record { selector = tree; uses = uses })) labels
 retested None tree h same uses labels = cc
 retested (Some c) tree h same uses labels = ap (λ t. holds_on t labels) (same c refl)

@@ -1,5 +1,5 @@
 pub mod Canonicals
 pub mod Rows
 pub mod Listed
-pub mod Turned
+pub mod Reversed
 pub mod Changed

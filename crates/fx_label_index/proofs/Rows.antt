@@ -47,10 +47,10 @@ module _ (sel : Selectors) (key : ItemKey) (before after : Option LabelMap) (old
   rows-stood now e es stood w h is = IsHalf-head nat_list_cmp_total bytes_exact (has old) (afterwards sel key after old) (has now) e es h key ∙ req e.0 ∙ ap (λ o. tests o before) (IsRest-head nat_list_cmp_total sel e es w) ∙ sym is
 
   pub rows-next : (now then : Pairs) (e : List ℕ × Counted) (es : List (List ℕ × Counted)) (stands : Bool) → IsRest sel (e ∷ es) → HalfRows sel key after old now (e ∷ es) → stands ≡ holds_on e.1.selector after → then ≡ put now (e.0, key) stands → HalfRows sel key after old then es
-  rows-next now then e es stands w h holds told =
+  rows-next now then e es stands w h holds changed =
       let b : Bool = holds_on e.1.selector after in
       let step : (t : List ℕ) (i : ItemKey) → has then t i ≡ cond (text_eq t e.0 && item_eq i key) b (has now t i) =
-      λ t i. ap (λ s. has s t i) (told ∙ ap (put now (e.0, key)) holds) ∙ contains_put_pair now e.0 key b t i in
+      λ t i. ap (λ s. has s t i) (changed ∙ ap (put now (e.0, key)) holds) ∙ contains_put_pair now e.0 key b t i in
       IsHalf-next nat_list_cmp_total bytes_exact (has old) (afterwards sel key after old) sel (has now) (has then) e es w h
       (λ i. step e.0 i
       ∙ ap (λ r. cond (is_eq r && item_eq i key) b (has now e.0 i)) (tied_itself nat_list_cmp_total e.0)

@@ -1,4 +1,10 @@
 //! The node.
+//!
+//! - **Inputs**: items with their own labels and their parents, parents' labels by their names, and selectors, each as often as
+//!   it was put.
+//! - **Tells** a `MatchSink` the pairs of a selector's text and an item on whose effective labels the selector holds.
+//! - **Holds** its inputs, and nothing beside them.
+//! - **Definition**: `IsMatched`. In Felix this node is the label inheritance index, `InheritIndex`.
 ghost use Rattle.std.specs.Prelude.{◌≡◌, OnOk};
 ghost use Rattle.std.specs.FinMap as map;
 ghost use Rattle.fx_base.specs.Set as set;
@@ -17,9 +23,7 @@ use fx_selector::{Labels, Selector};
 use std::alloc::Global;
 use std::marker::Model;
 
-/// Tells a sink on which items each selector holds, as items, their parents and selectors come and go.
-///
-/// After want of memory neither the index nor its sink is used again.
+/// Brings a sink up to date with each call. After want of memory neither the index nor its sink is used again.
 #[derive(Drop)]
 pub struct LabelIndex {
     alloc: Global,

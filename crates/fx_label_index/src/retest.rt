@@ -28,7 +28,7 @@ fn holds_on<T: Ticker>(selector: &Selector, labels: Option<&Labels>, ticks: &mut
     }
 }
 
-/// Tells the sink of a pair that comes or goes.
+/// Adds a pair that is to stand, or removes one that is not.
 #[tactic(auto, using(fx_model::proofs::PairAt::put_same_pair))]
 fn set_pair<S: MatchSink>(
     text: &Text,

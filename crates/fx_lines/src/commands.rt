@@ -7,7 +7,7 @@ ghost use Rattle.fx_json.specs.Packets.{packet_of};
 ghost use Rattle.fx_json.specs.Refusals.{Refuses};
 ghost use Rattle.fx_json.specs.Resources.{resource_of, delete_of};
 ghost use Rattle.fx_lines.specs.Commands.{is_blank_byte, is_true, by_name, command_of, shaped, of_value, update_answer, packet_answer};
-ghost use Rattle.fx_lines.specs.Formed.{is_formed_command};
+ghost use Rattle.fx_lines.specs.Formed.{IsReadCommand};
 
 use fx_json::{ReadFault, Refusal, field, has_members, read_delete, read_packet, read_resource};
 use fx_model::{Packet, Update};
@@ -27,7 +27,7 @@ pub enum Command {
 /// The command of a line, or its refusal.
 pub fn read_command(alloc: Global, line: &[u8]) -> Result<Command, Refusal>
     ensures answer { Refuses (command_of line.now) result }
-    ensures formed { IfOk result (λ command. is_formed_command command ≡ true) }
+    ensures read { IfOk result IsReadCommand }
 {
     if is_blank(line) {
         return Ok(Command::Blank);

@@ -7,7 +7,7 @@ use Rattle.fx_model.specs.declared.policy.Policy.{Policy}
 use Rattle.fx_model.specs.declared.resources.Endpoint.{Endpoint}
 use Rattle.fx_model.specs.declared.resources.Resources.{Resources}
 use Rattle.fx_model.specs.Directions.{Direction, Ingress, Egress}
-use Rattle.fx_model.specs.Labels.{effective_labels}
+use Rattle.fx_model.specs.Labels.{effective_labels, of_endpoint}
 use Rattle.fx_model.specs.Resources.{served_endpoints}
 
 abbrev pub is_on : Direction → Policy → Bool
@@ -19,7 +19,7 @@ has_types p = p.on_ingress || p.on_egress
 
 -- the policy selects the endpoint, and the direction is on
 abbrev pub applies : Resources → Direction → Policy → Endpoint → Bool
-applies R d p e = holds p.selector (effective_labels R e) && is_on d p
+applies R d p e = holds p.selector (effective_labels R (of_endpoint e)) && is_on d p
 
 -- the policy applies to some served endpoint in some direction
 abbrev pub is_active : Resources → Policy → Bool

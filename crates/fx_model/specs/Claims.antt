@@ -1,4 +1,4 @@
--- The names in the kernel that resources claim, and which claims of an update clash.
+-- The names in the kernel that resources claim, and which claims clash as records change.
 use Rattle.std.specs.Prelude.{◌≡◌, ℕ, ◌<◌, List, [], ◌∷◌, ◌++◌, false, codes, if◌then◌else◌, Option, Some, None}
 use Rattle.std.specs.List.{flat_map}
 use Rattle.std.specs.Str.{bytes_eq}
@@ -20,7 +20,7 @@ use Rattle.fx_model.specs.declared.resources.Profile.{Profile}
 use Rattle.fx_model.specs.declared.resources.Resources.{Resources}
 use Rattle.fx_model.specs.declared.resources.Update.{Update}
 use Rattle.fx_model.specs.declared.resources.Update.TheVariants as update
-use Rattle.fx_model.specs.Resources.{after_delete}
+use Rattle.fx_model.specs.Resources.{after, after_delete}
 
 -- `NS/NAME`; a network set of no namespace is told by its name
 abbrev pub item_text : ItemKey → List ℕ
@@ -74,11 +74,25 @@ all_claims dg R =
     flat_map (λ x. endpoint_claims dg R.node x.0 x.1) (maps.entries R.endpoints)
     ++ flat_map (λ x. profile_claims dg x.0) (maps.entries R.profiles)
 
--- the first claim of what is put that clashes with one of the other resources, or with one before it
+-- the keys whose records an update touches
+abbrev pub touched_by : Update → List Key
+touched_by update.InSync = []
+touched_by (update.Put k x) = k ∷ []
+touched_by (update.Delete k) = k ∷ []
+
+-- the resources without the records at these keys
+abbrev pub without : Resources → List Key → Resources
+without R [] = R
+without R (k ∷ ks) = without (after_delete R k) ks
+
+-- Where the records at these keys become those of the resources at the end: the first of their claims there, in order, that clashes
+-- with one of the other records or with one before it.
+abbrev pub clash_at : Digest → Resources → List Key → Resources → Option Clash
+clash_at dg R keys end = first_clash (all_claims dg (without R keys)) (flat_map (claims_at dg end) keys)
+
+-- the first clash that an update makes
 abbrev pub clash : Digest → Resources → Update → Option Clash
-clash dg R update.InSync = None
-clash dg R (update.Put k x) = first_clash (all_claims dg (after_delete R k)) (claims_of dg R.node k x)
-clash dg R (update.Delete k) = None
+clash dg R u = clash_at dg R (touched_by u) (after R u)
 
 -- no two of these claims clash
 abbrev pub AreApart : List Claim → Type 0

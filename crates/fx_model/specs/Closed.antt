@@ -1,9 +1,12 @@
 -- Nothing is named that isn't there: what the kernel asks of tables by iptables(8) and ipset(8), and what it asks of a view.
 use Rattle.std.specs.Prelude.{◌≡◌, ℕ, List, [], ◌∷◌, ◌++◌, true, Option, Some, None}
-use Rattle.std.specs.List.{flat_map}
+use Rattle.std.specs.List.{AllByRecursion, flat_map}
 use Rattle.std.specs.Ordering.{nat_cmp}
 use Rattle.std.specs.Cmp.Lexicographic.{slice_cmp}
 use Rattle.std.specs.FinMap as maps
+use Rattle.fx_base.specs.SetName.{kind_of}
+use Rattle.fx_base.specs.declared.set_name.SetKind.{SetKind}
+use Rattle.fx_base.specs.declared.set_name.SetKind.TheVariants.{Nets, Ports}
 use Rattle.fx_model.specs.declared.view.View.{View}
 use Rattle.fx_model.specs.declared.view.ViewTier.{ViewTier}
 use Rattle.fx_model.specs.declared.view.ViewEndpoint.{ViewEndpoint}
@@ -52,11 +55,31 @@ sets_of_rule r = sets_of_side r.source ++ sets_of_side r.destination
 abbrev pub sets_of_rules : List ViewRule → List (List ℕ)
 sets_of_rules rs = flat_map sets_of_rule rs
 
+abbrev pub AreOfKind : SetKind → List (List ℕ) → Type 0
+AreOfKind k [] = Unit {0}
+AreOfKind k (name ∷ names) = (kind_of name ≡ k) × AreOfKind k names
+
+-- sets of nets hold addresses, and those of ports an address with a protocol and a port
+pub record SideNamesKinds (s : ViewSide) : Type 0 where
+  pub set : AreOfKind Nets (set_given s.set)
+  pub not_set : AreOfKind Nets (set_given s.not_set)
+  pub ports : AreOfKind Ports (names_of s.ports)
+  pub not_ports : AreOfKind Ports (names_of s.not_ports)
+
+pub record NamesKinds (r : ViewRule) : Type 0 where
+  pub source : SideNamesKinds r.source
+  pub destination : SideNamesKinds r.destination
+
+-- each set that the rules name is there, and is of the kind that its place asks for
+pub record NameSets (sets : Sets) (rules : List ViewRule) : Type 0 where
+  pub there : AreThere sets (sets_of_rules rules)
+  pub kinds : AllByRecursion NamesKinds rules
+
 -- each set, policy and profile that is named is in the view
 pub record IsClosedView (v : View) : Type 0 where
   pub endpoints : (iface : List ℕ) (e : ViewEndpoint) → maps.get v.endpoints iface ≡ Some e → EndpointIsClosed v e
-  pub policies : (d : Direction) (key : List ℕ) (p : ViewPolicy) → maps.get v.policies key ≡ Some p → AreThere v.sets (sets_of_rules (policy_side d p))
-  pub profiles : (d : Direction) (key : List ℕ) (p : ViewProfile) → maps.get v.profiles key ≡ Some p → AreThere v.sets (sets_of_rules (profile_side d p))
+  pub policies : (d : Direction) (key : List ℕ) (p : ViewPolicy) → maps.get v.policies key ≡ Some p → NameSets v.sets (policy_side d p)
+  pub profiles : (d : Direction) (key : List ℕ) (p : ViewProfile) → maps.get v.profiles key ≡ Some p → NameSets v.sets (profile_side d p)
 
 -- ---- tables
 

@@ -1,16 +1,23 @@
--- What every resource that is read keeps. A rule that lists ports has a protocol with ports, and one that asks for a message of
--- ICMP has protocol ICMP, since iptables-extensions(8) can test these matches for no other; no rule of a profile passes; and a name of an interface has at most 15 bytes, as
--- the kernel bounds it (IFNAMSIZ), and Calico's begin with `cali`. In a view a profile's key fits behind a chain's prefix.
-use Rattle.std.specs.Prelude.{ℕ, List, [], ◌∷◌, Bool, true, false, not, ◌&&◌, ◌||◌, nat_le, nat_eq, length, codes, Option, Some, None, is_some}
-use Rattle.std.specs.List.{list_all, starts_with}
+-- The forms that keys and records have by themselves. A rule that lists ports has a protocol with ports, and one that asks for a
+-- message of ICMP has protocol ICMP, since iptables-extensions(8) can test these matches for no other; no rule of a profile passes;
+-- a name of an interface has at most 15 bytes, as the kernel bounds it (IFNAMSIZ); and a namespace holds no `/`, as Kubernetes has
+-- it. In a view a profile's key fits behind a chain's prefix. Apart from these forms, Calico's interfaces of workloads begin with
+-- `cali`.
+use Rattle.std.specs.Prelude.{ℕ, List, [], ◌∷◌, Bool, true, false, not, ◌&&◌, ◌||◌, ◌==◌, nat_le, nat_eq, length, Option, Some, None, is_some}
+use Rattle.std.specs.List.{list_all}
+use Rattle.std.specs.Str.{bytes_eq}
 use Rattle.std.specs.FinMap as maps
 use Rattle.fx_base.specs.declared.net.Proto.{Proto}
 use Rattle.fx_model.specs.declared.rules.Action.{Action}
 use Rattle.fx_model.specs.declared.rules.Action.TheVariants.{Allow, Deny, Log, Pass}
 use Rattle.fx_model.specs.declared.rules.Rule.{Rule}
+use Rattle.fx_model.specs.declared.ids.ItemKey.{ItemKey}
+use Rattle.fx_model.specs.declared.ids.ItemKey.TheVariants as item_key
+use Rattle.fx_model.specs.declared.ids.Key.{Key}
 use Rattle.fx_model.specs.declared.ids.Key.TheVariants as key
 use Rattle.fx_model.specs.declared.resources.Endpoint.{Endpoint}
 use Rattle.fx_model.specs.declared.resources.Profile.{Profile}
+use Rattle.fx_model.specs.declared.resources.Item.{Item}
 use Rattle.fx_model.specs.declared.resources.Item.TheVariants as item
 use Rattle.fx_model.specs.declared.resources.Update.{Update}
 use Rattle.fx_model.specs.declared.resources.Update.TheVariants as update
@@ -20,6 +27,7 @@ use Rattle.fx_model.specs.declared.view.View.{View}
 use Rattle.fx_model.specs.declared.view.ViewEndpoint.{ViewEndpoint}
 use Rattle.fx_model.specs.declared.view.ViewProfile.{ViewProfile}
 use Rattle.fx_model.specs.Criteria.{has_ports, icmp_number}
+use Rattle.fx_model.specs.Policy.{is_workload}
 
 -- ---- rules
 
@@ -70,32 +78,75 @@ is_formed_view_rule r =
 abbrev pub is_formed_view_profile_rule : ViewRule → Bool
 is_formed_view_profile_rule r = is_formed_view_rule r && not (passes r.action)
 
+-- ---- keys
+
+-- no byte is `/`
+abbrev pub is_formed_namespace : List ℕ → Bool
+is_formed_namespace ns = list_all (λ b. not (b == 47)) ns
+
+abbrev pub is_formed_item_key : ItemKey → Bool
+is_formed_item_key (item_key.Endpoint ns name) = is_formed_namespace ns
+is_formed_item_key (item_key.NetSet (Some ns) name) = is_formed_namespace ns
+is_formed_item_key (item_key.NetSet None name) = true
+
+abbrev pub is_formed_key : Key → Bool
+is_formed_key (key.Item k) = is_formed_item_key k
+is_formed_key (key.Profile name) = true
+
 -- ---- resources
 
 abbrev pub is_formed_endpoint : Endpoint → Bool
-is_formed_endpoint e = nat_le (length e.iface) 15 && starts_with nat_eq e.iface (codes "cali")
+is_formed_endpoint e = nat_le (length e.iface) 15
+
+-- the item is of its key's kind
+abbrev pub is_formed_item : Key → Item → Bool
+is_formed_item (key.Item (item_key.Endpoint ns name)) (item.Endpoint e) = is_formed_endpoint e
+is_formed_item (key.Item (item_key.Endpoint ns name)) (item.Profile p) = false
+is_formed_item (key.Item (item_key.NetSet ns name)) (item.Endpoint e) = false
+is_formed_item (key.Item (item_key.NetSet ns name)) (item.Profile p) = false
+is_formed_item (key.Profile name) (item.Endpoint e) = false
+is_formed_item (key.Profile name) (item.Profile p) = is_formed_profile p
 
 abbrev pub is_formed : Update → Bool
 is_formed update.InSync = true
-is_formed (update.Put (key.Item k) (item.Endpoint e)) = is_formed_endpoint e
--- the item is of its key's kind
-is_formed (update.Put (key.Item k) (item.Profile p)) = false
-is_formed (update.Put (key.Profile name) (item.Endpoint e)) = false
-is_formed (update.Put (key.Profile name) (item.Profile p)) = is_formed_profile p
-is_formed (update.Delete k) = true
+is_formed (update.Put k x) = is_formed_key k && is_formed_item k x
+is_formed (update.Delete k) = is_formed_key k
+
+abbrev pub is_formed_endpoint_entry : ItemKey × Endpoint → Bool
+is_formed_endpoint_entry x = is_formed_item_key x.0 && is_formed_item (key.Item x.0) (item.Endpoint x.1)
 
 abbrev pub are_formed : Resources → Bool
-are_formed R = list_all (λ x. is_formed_endpoint x.1) (maps.entries R.endpoints) && list_all (λ x. is_formed_profile x.1) (maps.entries R.profiles)
+are_formed R = list_all is_formed_endpoint_entry (maps.entries R.endpoints) && list_all (λ x. is_formed_profile x.1) (maps.entries R.profiles)
 
--- what the view of such resources keeps
+-- ---- interfaces of workloads
+
+-- a local endpoint's interface is one of workloads
+abbrev pub has_workload_interface : List ℕ → Endpoint → Bool
+has_workload_interface node e = implies (bytes_eq e.node node) (is_workload e.iface)
+
+-- the update puts no local endpoint on another interface
+abbrev pub puts_workload_interface : List ℕ → Update → Bool
+puts_workload_interface node update.InSync = true
+puts_workload_interface node (update.Put k (item.Endpoint e)) = has_workload_interface node e
+puts_workload_interface node (update.Put k (item.Profile p)) = true
+puts_workload_interface node (update.Delete k) = true
+
+abbrev pub have_workload_interfaces : Resources → Bool
+have_workload_interfaces R = list_all (λ x. has_workload_interface R.node x.1) (maps.entries R.endpoints)
+
+-- ---- what the view of such resources keeps
+
 abbrev pub is_formed_profile_key : List ℕ → Bool
 is_formed_profile_key key = nat_le (length key) 19
 
 abbrev pub is_formed_view_endpoint : List ℕ × ViewEndpoint → Bool
-is_formed_view_endpoint x = nat_le (length x.0) 15 && (starts_with nat_eq x.0 (codes "cali") && list_all is_formed_profile_key x.1.profiles)
+is_formed_view_endpoint x = nat_le (length x.0) 15 && list_all is_formed_profile_key x.1.profiles
 
 abbrev pub is_formed_view_profile : List ℕ × ViewProfile → Bool
 is_formed_view_profile x = is_formed_profile_key x.0
 
 abbrev pub is_formed_view : View → Bool
 is_formed_view v = list_all is_formed_view_endpoint (maps.entries v.endpoints) && list_all is_formed_view_profile (maps.entries v.profiles)
+
+abbrev pub has_workload_interfaces : View → Bool
+has_workload_interfaces v = list_all (λ x. is_workload x.0) (maps.entries v.endpoints)

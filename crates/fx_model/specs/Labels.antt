@@ -1,9 +1,11 @@
--- Effective labels. From Calico's resource reference (`projectcalico.org/v3`), Profile, `labelsToApply`: an endpoint inherits the
--- labels of the profiles that it lists. Its own labels win; else the first listed profile that is there and has the key.
-use Rattle.std.specs.Prelude.{ℕ, List, [], ◌∷◌, Option, Some, None, option_map}
+-- Effective labels of items: of endpoints and network sets. From Calico's resource reference (`projectcalico.org/v3`), Profile,
+-- `labelsToApply`: an endpoint inherits the labels of the profiles that it lists, and a network set those of its namespace's profile.
+-- An item's own labels win; else the first parent that is there and has the key.
+use Rattle.std.specs.Prelude.{ℕ, List, [], ◌∷◌, ◌++◌, codes, Option, Some, None, option_map}
 use Rattle.std.specs.FinMap as maps
 use Rattle.fx_base.specs.Extended.{extended}
 use Rattle.fx_selector.specs.Truth.{LabelMap}
+use Rattle.fx_model.specs.declared.policy.NetSet.{NetSet}
 use Rattle.fx_model.specs.declared.resources.Endpoint.{Endpoint}
 use Rattle.fx_model.specs.declared.resources.Resources.{Resources}
 
@@ -23,6 +25,22 @@ inherited parents (name ∷ names) = over_others (parents name) (inherited paren
 abbrev pub effective : (List ℕ → Option LabelMap) → LabelMap → List (List ℕ) → LabelMap
 effective parents own names = over own (inherited parents names)
 
+-- what counts of an item: its own labels, and the names of its parents
+pub record Labelled : Type 0 where
+  pub labels : LabelMap
+  pub parents : List (List ℕ)
+
 -- an endpoint's parents are the profiles that it lists
-abbrev pub effective_labels : Resources → Endpoint → LabelMap
-effective_labels R e = effective (λ name. option_map (λ p. p.labels) (maps.get R.profiles name)) e.labels e.profiles
+abbrev pub of_endpoint : Endpoint → Labelled
+of_endpoint e = record { labels = e.labels; parents = e.profiles }
+
+-- a network set's parent is its namespace's profile; a global one has none
+abbrev pub namespace_parents : Option (List ℕ) → List (List ℕ)
+namespace_parents None = []
+namespace_parents (Some ns) = (codes "kns." ++ ns) ∷ []
+
+abbrev pub of_net_set : Option (List ℕ) → NetSet → Labelled
+of_net_set ns s = record { labels = s.labels; parents = namespace_parents ns }
+
+abbrev pub effective_labels : Resources → Labelled → LabelMap
+effective_labels R x = effective (λ name. option_map (λ p. p.labels) (maps.get R.profiles name)) x.labels x.parents

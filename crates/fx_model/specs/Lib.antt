@@ -4,7 +4,6 @@ pub mod SameRules
 pub mod SameViews
 pub mod Directions
 pub mod Criteria
-pub mod Formed
 pub mod Resources
 pub mod Labels
 pub mod Pairs
@@ -18,11 +17,18 @@ pub mod Shapes
 pub mod Closed
 pub mod Writing
 pub mod Messages
-pub mod Flushing
+pub mod MemberLists
 pub mod Told
 pub mod Ranks
 pub mod Machine
 pub mod Walk
 pub mod Policy
+pub mod Formed
 pub mod ViewPolicy
 pub mod Places
+pub mod PolicyIdTexts
+pub mod MemberTexts
+pub mod MatchTexts
+pub mod MessageTexts
+pub mod TableTexts
+pub mod PacketTexts

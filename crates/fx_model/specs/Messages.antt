@@ -137,9 +137,24 @@ unfoldable pub messages : ℕ → View → View → List Change
 messages zero sent wanted = []
 messages (suc n) sent wanted = messages_from (λ after. messages n after wanted) (next_message sent wanted) sent wanted
 
--- all messages of a flush: each leaves one difference fewer
-abbrev pub flush : View → View → List Change
-flush sent wanted = messages (differences sent wanted) sent wanted
+-- the sent view after all these messages
+unfoldable pub sent_after : List Change → View → View → View
+sent_after [] sent wanted = sent
+sent_after (c ∷ cs) sent wanted = sent_after cs (step_at c sent wanted) wanted
+
+-- the messages of a flush, and the sent view that they end at
+pub record Flush : Type 0 where
+  pub messages : List Change
+  pub ends : View
+
+-- at most this many messages; without a limit one for each difference, since each leaves one fewer
+abbrev pub limit_or_all : Option ℕ → View → View → ℕ
+limit_or_all None sent wanted = differences sent wanted
+limit_or_all (Some limit) sent wanted = limit
+
+abbrev pub flush : Option ℕ → View → View → Flush
+flush limit sent wanted =
+    let told = messages (limit_or_all limit sent wanted) sent wanted in record { messages = told; ends = sent_after told sent wanted }
 
 -- the sent views after each single message
 unfoldable pub sent_views : List Change → View → View → List View

@@ -61,16 +61,24 @@ pub record Tier : Type 0 where
   pub name : List ℕ
   pub rules : List MetRule
 
--- Pass goes on behind the tier, and a tier that says nothing denies at its end
-abbrev pub after_tier : List ℕ → Answer → Decision → Decision
-after_tier name Silent rest = record { verdict = Deny; why = reason.EndOfTier name }
-after_tier name Passed rest = rest
-after_tier name (Allowed why) rest = record { verdict = Allow; why = why }
-after_tier name (Denied why) rest = record { verdict = Deny; why = why }
+-- what the rules of a tier's policies say
+abbrev pub policies_answer : Tier → Answer
+policies_answer t = first_answer t.rules
+
+-- the end of a tier denies
+abbrev pub end_of_tier : List ℕ → Decision
+end_of_tier name = record { verdict = Deny; why = reason.EndOfTier name }
+
+-- behind a tier's policies: where they say nothing the tier's end decides, and Pass goes on behind the tier
+abbrev pub after_policies : Answer → Decision → Decision → Decision
+after_policies Silent end rest = end
+after_policies Passed end rest = rest
+after_policies (Allowed why) end rest = record { verdict = Allow; why = why }
+after_policies (Denied why) end rest = record { verdict = Deny; why = why }
 
 abbrev pub tiers_verdict : List Tier → Decision → Decision
 tiers_verdict [] rest = rest
-tiers_verdict (t ∷ ts) rest = after_tier t.name (first_answer t.rules) (tiers_verdict ts rest)
+tiers_verdict (t ∷ ts) rest = after_policies (policies_answer t) (end_of_tier t.name) (tiers_verdict ts rest)
 
 -- a listed profile: missing, or there with its rules
 pub data Listed : Type 0 where

@@ -4,6 +4,8 @@ use Rattle.std.specs.Prelude.{◌≡◌, ◌<◌, ℕ, ◌+◌, Bool, ◌||◌, 
 use Rattle.std.specs.List.{starts_with}
 use Rattle.std.specs.Str.{bytes_eq}
 use Rattle.std.specs.FinMap as maps
+use Rattle.fx_names.specs.Names.{prefix_text}
+use Rattle.fx_names.specs.declared.prefix.Prefix.TheVariants.{ToEndpoint, FromEndpoint}
 use Rattle.fx_model.specs.declared.chain.Target.{Target}
 use Rattle.fx_model.specs.declared.chain.Target.TheVariants as target
 use Rattle.fx_model.specs.declared.chain.ChainRule.{ChainRule}
@@ -21,7 +23,7 @@ abbrev pub is_child : ChainName → Bool
 is_child name = is_child_of (root_of Egress) name || is_child_of (root_of Ingress) name
 
 abbrev pub is_of_endpoint : ChainName → Bool
-is_of_endpoint name = starts_with nat_eq name (codes "cali-tw-") || starts_with nat_eq name (codes "cali-fw-")
+is_of_endpoint name = starts_with nat_eq name (prefix_text ToEndpoint) || starts_with nat_eq name (prefix_text FromEndpoint)
 
 -- policies and profiles lead nowhere
 abbrev pub rank_of : ChainName → ℕ

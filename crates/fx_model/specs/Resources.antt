@@ -1,10 +1,11 @@
 -- The resources of a node, and what an update makes of them. From Calico's resource reference (`projectcalico.org/v3`):
 -- a workload endpoint runs on the node that `spec.node` names, and a put replaces the resource of its key,
 -- and a delete removes it.
-use Rattle.std.specs.Prelude.{List, Bool, true, ◌&&◌, filter}
+use Rattle.std.specs.Prelude.{ℕ, List, Bool, true, false, ◌&&◌, filter}
 use Rattle.std.specs.Str.{bytes_eq}
 use Rattle.std.specs.FinMap as map
 use Rattle.fx_model.specs.declared.ids.ItemKey.{ItemKey}
+use Rattle.fx_model.specs.declared.ids.ItemKey.TheVariants as item_key
 use Rattle.fx_model.specs.declared.ids.Key.{Key}
 use Rattle.fx_model.specs.declared.ids.Key.TheVariants as key
 use Rattle.fx_model.specs.declared.resources.Endpoint.{Endpoint}
@@ -14,10 +15,16 @@ use Rattle.fx_model.specs.declared.resources.Update.{Update}
 use Rattle.fx_model.specs.declared.resources.Update.TheVariants as update
 use Rattle.fx_model.specs.declared.resources.Resources.{Resources}
 
+-- no resources yet, and not in sync
+abbrev pub empty_resources : List ℕ → Resources
+empty_resources node = record { node = node; in_sync = false; endpoints = map.empty; profiles = map.empty }
+
 -- a put at a key; an item of another kind than the key changes nothing
 abbrev pub after_put : Resources → Key → Item → Resources
-after_put R (key.Item k) (item.Endpoint e) = record R { endpoints = map.insert R.endpoints k e }
-after_put R (key.Item k) (item.Profile p) = R
+after_put R (key.Item (item_key.Endpoint ns name)) (item.Endpoint e) = record R { endpoints = map.insert R.endpoints (item_key.Endpoint ns name) e }
+after_put R (key.Item (item_key.Endpoint ns name)) (item.Profile p) = R
+after_put R (key.Item (item_key.NetSet ns name)) (item.Endpoint e) = R
+after_put R (key.Item (item_key.NetSet ns name)) (item.Profile p) = R
 after_put R (key.Profile name) (item.Endpoint e) = R
 after_put R (key.Profile name) (item.Profile p) = record R { profiles = map.insert R.profiles name p }
 

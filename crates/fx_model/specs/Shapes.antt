@@ -1,6 +1,7 @@
 -- The shapes that rules of chains have: by iptables(8) and iptables-extensions(8) a rule has at most one each of `-p`, `-s`, `-d`,
 -- `-i`, `-o`, a match on the mark and one on the connection's state, and a match on ports takes at most 15 of them, a range
--- counting as two. Felix's matches stand in one order.
+-- counting as two. Felix's matches stand in one order; the sets of an end do so by their kinds, of which ipset(8) has `hash:net` and
+-- `hash:ip,port`.
 use Rattle.std.specs.Prelude.{◌≡◌, ℕ, ◌+◌, List, [], ◌∷◌, Bool, true, false, ◌&&◌, nat_le, if◌then◌else◌, Some}
 use Rattle.std.specs.FinMap as maps
 use Rattle.std.specs.List.{list_all}
@@ -20,6 +21,13 @@ use Rattle.fx_model.specs.Tables.{ChainName, Chains, Sets}
 use Rattle.fx_model.specs.Messages.{Members}
 use Rattle.fx_base.specs.Set as set
 
+-- the set of nets, the one that is excluded, sets of ports, and those that are excluded
+abbrev pub set_place : SetKind → Bool → ℕ
+set_place kind.Nets false = 0
+set_place kind.Nets true = 1
+set_place kind.Ports false = 2
+set_place kind.Ports true = 3
+
 abbrev pub behind_source : End → ℕ → ℕ
 behind_source Source place = place
 behind_source Dest place = place + 1
@@ -35,10 +43,11 @@ order_of (match.Net end net opposite) = behind_source end 1
 order_of (match.Iface end name wild) = behind_source end 3
 order_of (match.Mark value mask) = 5
 order_of (match.State related_established) = 6
-order_of (match.Set end name opposite) = behind_source end 7
-order_of (match.Ports Source list opposite) = behind_positive opposite 9
-order_of (match.Ports Dest list opposite) = behind_positive opposite 11
-order_of (match.Icmp icmp opposite) = 13
+order_of (match.Set Source name opposite) = set_place (kind_of name) opposite + 7
+order_of (match.Set Dest name opposite) = set_place (kind_of name) opposite + 11
+order_of (match.Ports Source list opposite) = behind_positive opposite 15
+order_of (match.Ports Dest list opposite) = behind_positive opposite 17
+order_of (match.Icmp icmp opposite) = 19
 
 -- the places up to here stand at most once in a rule
 abbrev pub last_single : ℕ

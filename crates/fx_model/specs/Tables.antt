@@ -7,6 +7,8 @@ use Rattle.std.specs.Cmp.Lexicographic.{slice_cmp}
 use Rattle.std.specs.FinMap as maps
 use Rattle.fx_base.specs.Extended.{collected}
 use Rattle.fx_base.specs.Set as set
+use Rattle.fx_names.specs.Names.{prefix_text}
+use Rattle.fx_names.specs.declared.prefix.Prefix.TheVariants.{PolicyIn, PolicyOut, ProfileIn, ProfileOut, ToEndpoint, FromEndpoint}
 use Rattle.fx_model.specs.contracts.member.MemberOrd.TheImpl.{cmp-value}
 use Rattle.fx_model.specs.declared.view.View.{View}
 use Rattle.fx_model.specs.declared.view_rule.ViewRule.{ViewRule}
@@ -41,12 +43,12 @@ pub record Tables : Type 0 where
 -- ---- chains of policies and profiles
 
 abbrev pub policy_chain : Direction → List ℕ → ChainName
-policy_chain Ingress key = codes "cali-pi-" ++ key
-policy_chain Egress key = codes "cali-po-" ++ key
+policy_chain Ingress key = prefix_text PolicyIn ++ key
+policy_chain Egress key = prefix_text PolicyOut ++ key
 
 abbrev pub profile_chain : Direction → List ℕ → ChainName
-profile_chain Ingress key = codes "cali-pri-" ++ key
-profile_chain Egress key = codes "cali-pro-" ++ key
+profile_chain Ingress key = prefix_text ProfileIn ++ key
+profile_chain Egress key = prefix_text ProfileOut ++ key
 
 abbrev pub policy_side : Direction → ViewPolicy → List ViewRule
 policy_side Ingress p = p.ingress
@@ -70,8 +72,8 @@ profile_rules d p = present_or_missing p.missing p.name (rendered_rules (reason.
 -- ---- chains of endpoints
 
 abbrev pub endpoint_chain : Direction → List ℕ → ChainName
-endpoint_chain Ingress iface = codes "cali-tw-" ++ iface
-endpoint_chain Egress iface = codes "cali-fw-" ++ iface
+endpoint_chain Ingress iface = prefix_text ToEndpoint ++ iface
+endpoint_chain Egress iface = prefix_text FromEndpoint ++ iface
 
 -- a policy is asked while none has passed
 abbrev pub policy_jumps : Direction → List (List ℕ) → List ChainRule
@@ -79,11 +81,18 @@ policy_jumps d [] = []
 policy_jumps d (key ∷ keys) =
     plain (is_clear pass_mark ∷ []) (target.Jump (policy_chain d key)) ∷ plain (is_set accept_mark ∷ []) target.Return ∷ policy_jumps d keys
 
+-- the policies of a tier, of which none has passed at its start
+abbrev pub tier_policies : Direction → ViewTier → List ChainRule
+tier_policies d t = plain [] (clear_mark pass_mark) ∷ policy_jumps d t.policies
+
+-- the end of a tier drops what none has passed
+abbrev pub tier_end : ViewTier → List ChainRule
+tier_end t = tagged (is_clear pass_mark ∷ []) target.Drop (reason.EndOfTier t.name) ∷ []
+
 -- the tiers, each with its end, and then what follows them
 abbrev pub tier_rules : Direction → List ViewTier → List ChainRule → List ChainRule
 tier_rules d [] rest = rest
-tier_rules d (t ∷ ts) rest =
-    plain [] (clear_mark pass_mark) ∷ (policy_jumps d t.policies ++ tagged (is_clear pass_mark ∷ []) target.Drop (reason.EndOfTier t.name) ∷ tier_rules d ts rest)
+tier_rules d (t ∷ ts) rest = tier_policies d t ++ (tier_end t ++ tier_rules d ts rest)
 
 -- the profiles, and then the end
 abbrev pub profile_jumps : Direction → List (List ℕ) → List ChainRule

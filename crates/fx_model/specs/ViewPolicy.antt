@@ -3,14 +3,11 @@
 use Rattle.std.specs.Prelude.{◌≡◌, ℕ, suc, Bool, true, false, not, ◌&&◌, List, [], ◌∷◌, map, Option, Some, None}
 use Rattle.std.specs.List.{flat_map, list_any, list_all}
 use Rattle.std.specs.FinMap as maps
-use Rattle.fx_model.specs.declared.ids.ItemKey.{ItemKey}
 use Rattle.fx_model.specs.declared.packet.State.TheVariants.{New}
 use Rattle.fx_model.specs.declared.packet.Packet.{Packet}
 use Rattle.fx_model.specs.declared.packet.Verdict.{Verdict}
 use Rattle.fx_model.specs.declared.chain.Reason.{Reason}
 use Rattle.fx_model.specs.declared.chain.Reason.TheVariants as reason
-use Rattle.fx_model.specs.declared.resources.Endpoint.{Endpoint}
-use Rattle.fx_model.specs.declared.resources.Profile.{Profile}
 use Rattle.fx_model.specs.declared.resources.Resources.{Resources}
 use Rattle.fx_model.specs.declared.view.View.{View}
 use Rattle.fx_model.specs.declared.view_rule.ViewRule.{ViewRule}
@@ -24,15 +21,15 @@ use Rattle.fx_model.specs.declared.view.ViewPolicy.{ViewPolicy}
 use Rattle.fx_model.specs.declared.view.ViewProfile.{ViewProfile}
 use Rattle.fx_model.specs.declared.view.ViewEndpoint.{ViewEndpoint}
 use Rattle.fx_model.specs.Directions.{Direction, Ingress, Egress}
-use Rattle.fx_model.specs.Resources.{is_local, is_served}
 use Rattle.fx_names.specs.Digests.{Digest}
-use Rattle.fx_model.specs.Views.{view_of, is_active_profile, profile_key}
+use Rattle.fx_model.specs.Views.{view_of}
+use Rattle.fx_model.specs.Claims.{IsClashFree}
 use Rattle.fx_model.specs.Closed.{IsClosedView}
 use Rattle.fx_model.specs.Tables.{Tables, Sets, tables_of, policy_side, profile_side, tiers_side}
 use Rattle.fx_model.specs.Policy.{MetRule, Tier, Listed, Missing, There, Decision, Outcome, tiers_verdict, profiles_verdict, side_verdict, both_sides, is_workload, packet_verdict}
 use Rattle.fx_model.specs.Machine.{set_holds, Decides}
 use Rattle.fx_model.specs.Criteria.{address_at, port_at, proto_is, proto_is_not, lies_in, lies_in_given, holds_port, icmp_is, icmp_is_not}
-use Rattle.fx_model.specs.Formed.{is_formed_view_rule, is_formed_view_profile_rule, is_formed_profile}
+use Rattle.fx_model.specs.Formed.{is_formed_view_rule, is_formed_view_profile_rule, are_formed, have_workload_interfaces}
 
 -- a port in a set is one by address, protocol and number
 abbrev pub view_port_holds : Sets → End → Packet → ViewPort → Bool
@@ -122,19 +119,11 @@ TablesAgree =
     (v : View) (a : Packet) → IsClosedView v → IsOnWorkloads v → HasFormedRules v → a.state ≡ New
     → let answer = view_verdict v a in Decides (tables_of v) a answer.verdict answer.egress answer.ingress
 
--- served endpoints stand on workloads' interfaces, each on its own; the rules of profiles are formed, and the profiles that served
--- endpoints list have each its own key
+-- what resources have that are read and whose updates are let through
 pub record IsServable (dg : Digest) (R : Resources) : Type 0 where
-  pub rules : (name : List ℕ) (p : Profile) → maps.get R.profiles name ≡ Some p → is_formed_profile p ≡ true
-  pub on_workloads : (k : ItemKey) (e : Endpoint) → maps.get R.endpoints k ≡ Some e → is_served R e ≡ true → is_workload e.iface ≡ true
-  pub apart : (k l : ItemKey) (e f : Endpoint) → maps.get R.endpoints k ≡ Some e → maps.get R.endpoints l ≡ Some f → is_served R e ≡ true → is_served R f ≡ true → e.iface ≡ f.iface → k ≡ l
-  pub keys_apart : (a b : List ℕ) → is_active_profile R a ≡ true → is_active_profile R b ≡ true → profile_key dg a ≡ profile_key dg b → a ≡ b
-
--- at most one endpoint runs on this node
-abbrev pub HasLoneLocal : Resources → Type 0
-HasLoneLocal R =
-    (k l : ItemKey) (e f : Endpoint) → maps.get R.endpoints k ≡ Some e → maps.get R.endpoints l ≡ Some f → is_local R e ≡ true → is_local R f ≡ true
-    → k ≡ l
+  pub formed : are_formed R ≡ true
+  pub clash_free : IsClashFree dg R
+  pub on_workloads : have_workload_interfaces R ≡ true
 
 -- the tables of servable resources give each first packet the policy reference's verdict and reasons
 abbrev pub PolicyIsKept : Type 0

@@ -1,4 +1,4 @@
-//! What the resources make of endpoints' labels and of policies, computed whole.
+//! What the resources make of labels and of policies, computed whole.
 ghost use Rattle.std.specs.Prelude.{◌≡◌, ◌||◌, IfOk, if◌then◌else◌};
 ghost use Rattle.fx_model.specs.Active.{applies, is_active};
 ghost use Rattle.fx_model.specs.Directions.{Ingress, Egress};
@@ -6,26 +6,27 @@ ghost use Rattle.fx_model.specs.Labels.{effective_labels};
 
 use crate::policy::Policy;
 use crate::resources::{Endpoint, Resources};
-use fx_base::{Memory, Ticker};
+use fx_base::{Memory, Text, Ticker};
 use fx_selector::Labels;
 use std::alloc::Global;
 
-/// The endpoint's labels with those that it inherits: from the last parent to the first, and then its own.
+/// An item's own labels with those that it inherits: from the last parent to the first, and then its own.
 #[tactic(auto, using(crate::proofs::Inheriting::inheriting))]
 pub fn effective_labels(
     alloc: Global,
     resources: &Resources,
-    endpoint: &Endpoint,
+    own: &Labels,
+    parents: &[Text],
 ) -> Result<Labels, Memory>
-    ensures { IfOk result (λ labels. labels ≡ effective_labels resources.now endpoint.now) }
+    ensures { IfOk result (λ labels. labels ≡ effective_labels resources.now (record { labels = own.now; parents = parents.now })) }
 {
     let mut labels = Labels::new(alloc);
-    for name in endpoint.profiles.as_slice().iter().rev() {
+    for name in parents.iter().rev() {
         if let Some(profile) = resources.profiles.get(name) {
             labels.put_all(&profile.labels)?;
         }
     }
-    labels.put_all(&endpoint.labels)?;
+    labels.put_all(own)?;
     Ok(labels)
 }
 
@@ -40,7 +41,8 @@ pub fn applies<T: Ticker>(
 ) -> Result<bool, Memory>
     ensures { IfOk result (λ yes. yes ≡ applies resources.now (if ingress then Ingress else Egress) policy.now endpoint.now) }
 {
-    let labels = effective_labels(alloc, resources, endpoint)?;
+    let parents = endpoint.profiles.as_slice();
+    let labels = effective_labels(alloc, resources, &endpoint.labels, parents)?;
     let selected = policy.selector.matches(&labels, ticks);
     let on = if ingress {
         policy.on_ingress

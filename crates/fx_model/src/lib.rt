@@ -1,14 +1,13 @@
 //! What resources, views, messages, chains and packets are, and what one makes of another.
 #![tactic(auto)]
 
-pub mod laws;
-
 pub use chain::{ChainRule, End, Match, Reason, Tag, Target};
 pub use ids::{ItemKey, Key, PolicyId};
 pub use item_map::ItemMap;
 pub use labels::{applies, effective_labels, is_active};
 pub use member::{Member, MemberSet};
-pub use message::{MemberList, Message};
+pub use member_list::{MemberList, MemberWalk};
+pub use message::Message;
 pub use next::next_message;
 pub use packet::{Packet, State, Verdict, has_ports};
 pub use pairs::PairSet;
@@ -16,7 +15,6 @@ pub use place::{Place, place_of, take_at};
 pub use policy::{NetSet, Policy, Tier};
 pub use policy_map::PolicyMap;
 pub use policy_pairs::PolicyPairSet;
-pub use records::{RecordActive, RecordMatches};
 pub use resources::{Endpoint, Item, Profile, Resources, Update};
 pub use rules::{Action, Icmp, Rule, Side};
 pub use sinks::{ActiveSink, MatchSink};
@@ -29,6 +27,7 @@ mod ids;
 mod item_map;
 mod labels;
 mod member;
+mod member_list;
 mod message;
 mod next;
 mod packet;
@@ -37,7 +36,6 @@ mod place;
 mod policy;
 mod policy_map;
 mod policy_pairs;
-mod records;
 mod resources;
 mod rules;
 mod sinks;

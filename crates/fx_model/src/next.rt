@@ -10,7 +10,8 @@ ghost use Rattle.fx_model.specs.contracts.view.ViewProfilePartialEq.TheImpl as p
 ghost use Rattle.fx_model.specs.contracts.view.ViewEndpointPartialEq.TheImpl as endpoint_eq;
 
 use crate::member::MemberSet;
-use crate::message::{MemberList, Message};
+use crate::member_list::MemberList;
+use crate::message::Message;
 use crate::view::{View, ViewEndpoint, ViewPolicy, ViewProfile};
 use fx_base::{Exact, NameKey, NameMap, SetMap, SetName, Text, TextMap};
 

@@ -1,5 +1,5 @@
 //! A set of pairs of a policy's id and an item's key, seen as a finite set.
-ghost use Rattle.std.specs.Prelude.{◌≡◌, IfOk, OnOk, OnErr, not};
+ghost use Rattle.std.specs.Prelude.{◌≡◌, OnOk, OnErr};
 ghost use Rattle.fx_base.specs.Set as set;
 
 use crate::ids::{ItemKey, PolicyId};

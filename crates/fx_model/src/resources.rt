@@ -1,6 +1,5 @@
 //! The resources, as Calico's resource reference (`projectcalico.org/v3`) names them, and what changes them.
-ghost use Rattle.std.specs.Prelude.{◌≡◌, OnOk, OnErr, false};
-ghost use Rattle.std.specs.FinMap as map;
+ghost use Rattle.std.specs.Prelude.{◌≡◌, OnOk, OnErr};
 
 use crate::ids::{ItemKey, Key};
 use crate::item_map::ItemMap;
@@ -63,11 +62,11 @@ pub struct Resources {
 }
 
 impl Resources {
-    ghost use Rattle.fx_model.specs.Resources.{after, after_put, after_delete, is_local, is_served};
+    ghost use Rattle.fx_model.specs.Resources.{empty_resources, after, after_put, after_delete, is_local, is_served};
 
     /// No resources yet, and not in sync.
     pub fn new(alloc: Global, node: Text) -> Resources
-        ensures { result ≡ record { node = node; in_sync = false; endpoints = map.empty; profiles = map.empty } }
+        ensures { result ≡ empty_resources node }
     {
         Resources {
             node,
@@ -99,21 +98,36 @@ impl Resources {
         ensures ok { OnOk result (self.new ≡ after_put self.old key item) }
         ensures err { OnErr result (self.new ≡ self.old) }
     {
+        match item {
+            Item::Endpoint(endpoint) => self.put_endpoint(key, endpoint),
+            Item::Profile(profile) => self.put_profile(key, profile),
+        }
+    }
+
+    fn put_endpoint(&mut self, key: Key, endpoint: Endpoint) -> Result<(), Memory>
+        ensures ok { OnOk result (self.new ≡ after_put self.old key (Item.Endpoint endpoint)) }
+        ensures err { OnErr result (self.new ≡ self.old) }
+    {
         match key {
-            Key::Item(key) => match item {
-                Item::Endpoint(endpoint) => {
-                    self.endpoints.insert(key, endpoint)?;
-                    Ok(())
-                }
-                Item::Profile(_) => Ok(()),
-            },
-            Key::Profile { name } => match item {
-                Item::Endpoint(_) => Ok(()),
-                Item::Profile(profile) => {
-                    self.profiles.insert(name, profile)?;
-                    Ok(())
-                }
-            },
+            Key::Item(ItemKey::Endpoint { ns, name }) => {
+                self.endpoints
+                    .insert(ItemKey::Endpoint { ns, name }, endpoint)?;
+                Ok(())
+            }
+            Key::Item(ItemKey::NetSet { .. }) | Key::Profile { .. } => Ok(()),
+        }
+    }
+
+    fn put_profile(&mut self, key: Key, profile: Profile) -> Result<(), Memory>
+        ensures ok { OnOk result (self.new ≡ after_put self.old key (Item.Profile profile)) }
+        ensures err { OnErr result (self.new ≡ self.old) }
+    {
+        match key {
+            Key::Item(_) => Ok(()),
+            Key::Profile { name } => {
+                self.profiles.insert(name, profile)?;
+                Ok(())
+            }
         }
     }
 

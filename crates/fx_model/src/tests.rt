@@ -1,3 +1,2 @@
 //! What no clause says: that calls with memory succeed, on an endpoint with two profiles.
 mod resources;
-mod sinks;

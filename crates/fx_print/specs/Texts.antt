@@ -5,7 +5,7 @@ use Rattle.fx_base.specs.KernelName.{kernel_bytes}
 use Rattle.fx_json.specs.declared.refusal.Refusal.{Refusal}
 use Rattle.fx_json.specs.declared.refusal.Refusal.TheVariants.{Read, BadJson, BadLine, Taken}
 use Rattle.fx_json.specs.Faults.{path_of}
-use Rattle.fx_json.specs.Refusals.{number_of, refusal_name}
+use Rattle.fx_json.specs.Refusals.{refusal_number, refusal_name}
 
 -- a space and the path, where there is one
 abbrev pub path_text : Option (List ℕ) → List ℕ
@@ -22,7 +22,7 @@ detail_of (Taken name holder) = codes " " ++ (kernel_bytes name ++ (codes " " ++
 -- `refused LINE NUMBER NAME`, and what follows it
 abbrev pub refusal_line : ℕ → Refusal → List ℕ
 refusal_line line r =
-    codes "refused " ++ (decimal line ++ (codes " " ++ (decimal (number_of r) ++ (codes " " ++ (refusal_name r ++ (detail_of r ++ codes "\n"))))))
+    codes "refused " ++ (decimal line ++ (codes " " ++ (decimal (refusal_number r) ++ (codes " " ++ (refusal_name r ++ (detail_of r ++ codes "\n"))))))
 
 -- the end of a flush that told so many messages
 abbrev pub flushed_line : ℕ → List ℕ

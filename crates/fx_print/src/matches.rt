@@ -1,6 +1,6 @@
 //! Matches of rules as text.
 ghost use Rattle.std.specs.Prelude.{◌≡◌, ◌++◌, OnOk};
-ghost use Rattle.fx_print.specs.MatchTexts.{mark_text, iface_option, wild_sign, states_text, not_sign, net_option, set_flags, ports_option, range_text, later_ranges, ranges_text, icmp_text, match_text};
+ghost use Rattle.fx_model.specs.MatchTexts.{mark_text, iface_option, wild_sign, states_text, not_sign, net_option, set_flags, ports_option, range_text, later_ranges, ranges_text, icmp_text, match_text};
 
 use crate::members::{push_net, push_protocol};
 use crate::texts::{push_both, push_decimal};

@@ -1,6 +1,6 @@
 //! Members of sets as text.
 ghost use Rattle.std.specs.Prelude.{◌≡◌, ◌++◌, OnOk};
-ghost use Rattle.fx_print.specs.MemberTexts.{address_text, protocol_text, net_text, member_text, type_text};
+ghost use Rattle.fx_model.specs.MemberTexts.{address_text, protocol_text, net_text, member_text, type_text};
 
 use crate::texts::push_decimal;
 use fx_base::{Ipv4, Memory, Net, Proto, SetKind, SetName};

@@ -1,15 +1,15 @@
 //! What is told of a view as text.
 ghost use Rattle.std.specs.Prelude.{◌≡◌, ◌++◌, OnOk, IfOk, codes};
-ghost use Rattle.fx_base.specs.Set as sets;
 ghost use Rattle.fx_model.specs.Messages.{Change, SetAdd, SetDelta, PolicyPut, ProfilePut, EndpointPut};
-ghost use Rattle.fx_model.specs.Told.{listed, change_of};
-ghost use Rattle.fx_print.specs.MessageTexts.{id_text, each_member, behind, keys_text, tier_text, later_tiers, tiers_text, counts_text, rules_text, sides_text, endpoint_text, named_line, message_line};
+ghost use Rattle.fx_model.specs.Told.{change_of};
+ghost use Rattle.fx_model.specs.PolicyIdTexts.{policy_id_text};
+ghost use Rattle.fx_model.specs.MessageTexts.{each_member, behind, keys_text, tier_text, later_tiers, tiers_text, counts_text, rules_text, sides_text, endpoint_text, named_line, message_line};
 
 use crate::members::{push_member, type_name};
 use crate::texts::{push_both, push_decimal, push_word};
 use fx_base::{Memory, NameKey, SetName, Text};
 use fx_model::{
-    MemberList, MemberSet, Message, PolicyId, ViewEndpoint, ViewPolicy, ViewProfile, ViewRule,
+    MemberList, Message, PolicyId, ViewEndpoint, ViewPolicy, ViewProfile, ViewRule,
     ViewTier,
 };
 use std::alloc::Global;
@@ -45,7 +45,7 @@ fn named_text(alloc: Global, word: &[u8], name: &[u8]) -> Result<Text, Memory>
 }
 
 fn set_add_text(alloc: Global, name: &SetName, members: &MemberList<'_>) -> Result<Text, Memory>
-    ensures { IfOk result (λ text. text ≡ message_line (SetAdd name.now (listed members.now))) }
+    ensures { IfOk result (λ text. text ≡ message_line (SetAdd name.now members.now)) }
 {
     let mut bytes = Vec::from_slice(alloc, b"set-add ")?;
     bytes.extend_from_slice(name.bytes())?;
@@ -62,7 +62,7 @@ fn set_delta_text(
     adds: &MemberList<'_>,
     removes: &MemberList<'_>,
 ) -> Result<Text, Memory>
-    ensures { IfOk result (λ text. text ≡ message_line (SetDelta name.now (listed adds.now) (listed removes.now))) }
+    ensures { IfOk result (λ text. text ≡ message_line (SetDelta name.now adds.now removes.now)) }
 {
     let mut bytes = Vec::from_slice(alloc, b"set-delta ")?;
     bytes.extend_from_slice(name.bytes())?;
@@ -72,38 +72,13 @@ fn set_delta_text(
     Ok(Text::from_vec(bytes))
 }
 
+// Each member behind a lead.
 fn push_listed(line: &mut Vec<u8>, lead: &[u8], members: &MemberList<'_>) -> Result<(), Memory>
-    ensures { OnOk result (line.new.items ≡ line.old.items ++ each_member lead.now (listed members.now)) }
+    ensures { OnOk result (line.new.items ≡ line.old.items ++ each_member lead.now members.now) }
 {
-    match members.without {
-        None => push_all(line, lead, members.set),
-        Some(other) => push_lacked(line, lead, members.set, other),
-    }
-}
-
-fn push_all(line: &mut Vec<u8>, lead: &[u8], members: &MemberSet) -> Result<(), Memory>
-    ensures { OnOk result (line.new.items ≡ line.old.items ++ each_member lead.now (sets.items members.now)) }
-{
-    for member in members.iter() {
+    for member in members.walk() {
         line.extend_from_slice(lead)?;
-        push_member(line, *member)?;
-    }
-    Ok(())
-}
-
-fn push_lacked(
-    line: &mut Vec<u8>,
-    lead: &[u8],
-    members: &MemberSet,
-    other: &MemberSet,
-) -> Result<(), Memory>
-    ensures { OnOk result (line.new.items ≡ line.old.items ++ each_member lead.now (sets.items_minus members.now other.now)) }
-{
-    for member in members.iter() {
-        if !other.contains(*member) {
-            line.extend_from_slice(lead)?;
-            push_member(line, *member)?;
-        }
+        push_member(line, member)?;
     }
     Ok(())
 }
@@ -127,7 +102,7 @@ fn policy_text(alloc: Global, key: &NameKey, policy: &ViewPolicy) -> Result<Text
 
 /// The name of a policy with its kind, as `gnp/NAME`.
 pub fn push_id(line: &mut Vec<u8>, id: &PolicyId) -> Result<(), Memory>
-    ensures { OnOk result (line.new.items ≡ line.old.items ++ id_text id.now) }
+    ensures { OnOk result (line.new.items ≡ line.old.items ++ policy_id_text id.now) }
 {
     match id {
         PolicyId::Global { name } => push_both(line, b"gnp/", name.bytes()),

@@ -1,9 +1,9 @@
 //! What became of a packet as text.
 ghost use Rattle.std.specs.Prelude.{◌≡◌, ◌++◌, ◌∷◌, OnOk, IfOk, codes, decimal};
 ghost use Rattle.std.specs.Option.{option_copied};
-ghost use Rattle.fx_walk.specs.Stops.{hops_of};
-ghost use Rattle.fx_print.specs.MessageTexts.{id_text};
-ghost use Rattle.fx_print.specs.PacketTexts.{hop_text, hops_text, path_line, reason_text, side_line, side_lines, verdict_line, packet_lines};
+ghost use Rattle.fx_walk.specs.WalkEnds.{hops_of};
+ghost use Rattle.fx_model.specs.PolicyIdTexts.{policy_id_text};
+ghost use Rattle.fx_model.specs.PacketTexts.{hop_text, hops_text, path_line, reason_text, side_line, side_lines, verdict_line, packet_lines};
 
 use crate::messages::push_id;
 use crate::texts::{push_both, push_decimal};
@@ -105,7 +105,7 @@ fn push_reason(line: &mut Vec<u8>, why: &Reason) -> Result<(), Memory>
 }
 
 fn push_policy(line: &mut Vec<u8>, id: &PolicyId, place: u64) -> Result<(), Memory>
-    ensures { OnOk result (line.new.items ≡ line.old.items ++ (codes "policy " ++ (id_text id.now ++ (codes " " ++ decimal place)))) }
+    ensures { OnOk result (line.new.items ≡ line.old.items ++ (codes "policy " ++ (policy_id_text id.now ++ (codes " " ++ decimal place)))) }
 {
     line.extend_from_slice(b"policy ")?;
     push_id(line, id)?;

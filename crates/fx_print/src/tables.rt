@@ -3,7 +3,7 @@ ghost use Rattle.std.specs.Prelude.{◌≡◌, ◌++◌, ◌∷◌, [], OnOk, If
 ghost use Rattle.std.specs.List.{flat_map};
 ghost use Rattle.std.specs.FinMap as maps;
 ghost use Rattle.fx_base.specs.Set as set;
-ghost use Rattle.fx_print.specs.TableTexts.{create_line, add_line, set_lines, matches_text, target_text, rule_line, header_line, header_lines, chain_lines, table_lines};
+ghost use Rattle.fx_model.specs.TableTexts.{create_line, add_line, set_lines, matches_text, target_text, rule_line, header_line, header_lines, chain_lines, table_lines};
 
 use crate::matches::{push_mark, push_match};
 use crate::members::{push_member, type_name};

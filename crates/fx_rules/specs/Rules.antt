@@ -21,9 +21,9 @@ abbrev pub reason_at : Owner → ℕ → Reason
 reason_at (Policy id) place = reason.Policy id.now place
 reason_at (Profile name) place = reason.Profile name.now place
 
--- behind what was there stands a front of these rules
-abbrev pub GrowsByFront : List ChainRule → List ChainRule → List ChainRule → Type 0
-GrowsByFront before now rules = (front : List ChainRule) × (rest : List ChainRule) × (rules ≡ front ++ rest) × (now ≡ before ++ front)
+-- behind what was there stands a prefix of these rules
+abbrev pub GrowsByPrefix : List ChainRule → List ChainRule → List ChainRule → Type 0
+GrowsByPrefix before now rules = (prefix : List ChainRule) × (rest : List ChainRule) × (rules ≡ prefix ++ rest) × (now ≡ before ++ prefix)
 
 -- the main rule's match on what the blocks left, where there are blocks
 abbrev pub mark_match : Bool → List Match

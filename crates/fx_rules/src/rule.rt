@@ -2,7 +2,7 @@
 ghost use Rattle.std.specs.Prelude.{◌≡◌, ◌++◌, IfOk, OnOk, OnErr};
 ghost use Rattle.fx_model.specs.Formed.{is_given};
 ghost use Rattle.fx_model.specs.Rendering.{is_void, block_rules, main_rules, rendered_rule};
-ghost use Rattle.fx_rules.specs.Rules.{GrowsByFront};
+ghost use Rattle.fx_rules.specs.Rules.{GrowsByPrefix};
 
 use crate::blocks::blocks_of;
 use crate::marks::{ACCEPT, ALL_BLOCKS, PASS, set_mark};
@@ -55,7 +55,7 @@ fn push_main(
 // Moves the rules behind those that are there.
 fn append(rules: Seq<ChainRule>, out: &mut Seq<ChainRule>) -> Result<(), Memory>
     ensures ok { OnOk result (out.new ≡ out.old ++ rules) }
-    ensures err { OnErr result (GrowsByFront out.old out.new rules) }
+    ensures err { OnErr result (GrowsByPrefix out.old out.new rules) }
 {
     for rule in rules.into_vec() {
         out.push(rule)?;
@@ -109,7 +109,7 @@ pub fn push_rule(
     Ok(())
 }
 
-/// Renders a rule behind the rules that are there. On want of memory a front of what the rule gives may stand there.
+/// Renders a rule behind the rules that are there. On want of memory a prefix of what the rule gives may stand there.
 pub fn render_rule(
     alloc: Global,
     rule: &ViewRule,
@@ -117,7 +117,7 @@ pub fn render_rule(
     out: &mut Seq<ChainRule>,
 ) -> Result<(), Memory>
     ensures ok { OnOk result (out.new ≡ out.old ++ rendered_rule rule.now why.now) }
-    ensures err { OnErr result (GrowsByFront out.old out.new (rendered_rule rule.now why.now)) }
+    ensures err { OnErr result (GrowsByPrefix out.old out.new (rendered_rule rule.now why.now)) }
 {
     let mut rules = Seq::new(alloc);
     push_rule(alloc, rule, copied(why)?, &mut rules)?;

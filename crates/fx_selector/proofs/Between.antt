@@ -30,10 +30,10 @@ between-more f mark (x ∷ xs) (suc i) d h =
 -- what a loop has written, and what it writes in one step
 pub written_more : {A : Type 0} (f : A → List ℕ) (mark : List ℕ) (xs : List A) (i : ℕ) (x : A) → i < length xs → x ≡ get_or xs i x → (start a b c : List ℕ) → a ≡ start ++ between mark (map f (take i xs)) → b ≡ a ++ (if i == 0 then [] else mark) → c ≡ b ++ f x → c ≡ start ++ between mark (map f (take (i + 1) xs))
 written_more f mark xs i x h is start a b c e1 e2 e3 =
-    let front : List ℕ = between mark (map f (take i xs)) in
+    let prefix : List ℕ = between mark (map f (take i xs)) in
     let sep : List ℕ = if i == 0 then [] else mark in
-    let moved : ((start ++ front) ++ sep) ++ f x ≡ start ++ (front ++ (sep ++ f x)) = simp append_assoc in
-    e3 ∙ (ap (λ z. z ++ f x) (e2 ∙ ap (λ z. z ++ sep) e1) ∙ (moved ∙ ap (λ z. start ++ z) (ap (λ y. front ++ (sep ++ f y)) is ∙ sym (between-more f mark xs i x h))))
+    let moved : ((start ++ prefix) ++ sep) ++ f x ≡ start ++ (prefix ++ (sep ++ f x)) = simp append_assoc in
+    e3 ∙ (ap (λ z. z ++ f x) (e2 ∙ ap (λ z. z ++ sep) e1) ∙ (moved ∙ ap (λ z. start ++ z) (ap (λ y. prefix ++ (sep ++ f y)) is ∙ sym (between-more f mark xs i x h))))
 
 pub texts-trees_of : (ns : List Node) → map (λ n. canonical_text (tree n)) ns ≡ texts (trees_of ns)
 texts-trees_of [] = refl

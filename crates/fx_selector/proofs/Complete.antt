@@ -9,9 +9,9 @@ use Rattle.fx_selector.proofs.Exact.{Filled, Opens, Outcome, Reads, ends_after}
 use Rattle.fx_selector.proofs.Marks.{skip_blanks, Skips, skips}
 use Rattle.fx_selector.proofs.Language.{not_reads, or_reads_of}
 
-abbrev pub Answers : (List ℕ → Tree → Type 0) → (List ℕ → Res Tree) → List ℕ → Res Tree → Type 0
-Answers G r text (Got t rest) = (rest ≡ []) × G text t
-Answers G r text (Stop why rest) = (taken : List ℕ) × (text ≡ taken ++ rest) × Opens G taken × ((c : ℕ) (m : List ℕ) → rest ≡ c ∷ m → (other : List ℕ) → r (taken ++ c ∷ other) ≡ Stop why (c ∷ other))
+abbrev pub IsAnswered : (List ℕ → Tree → Type 0) → (List ℕ → Res Tree) → List ℕ → Res Tree → Type 0
+IsAnswered G r text (Got t rest) = (rest ≡ []) × G text t
+IsAnswered G r text (Stop why rest) = (taken : List ℕ) × (text ≡ taken ++ rest) × Opens G taken × ((c : ℕ) (m : List ℕ) → rest ≡ c ∷ m → (other : List ℕ) → r (taken ++ c ∷ other) ≡ Stop why (c ∷ other))
 
 module _ (limit : ℕ) (pos : 0 < limit) (n depth : ℕ) where
   abbrev pub O : List ℕ → Tree → Type 0
@@ -56,11 +56,11 @@ module _ (limit : ℕ) (pos : 0 < limit) (n depth : ℕ) where
   from_head [] c other = refl
   from_head (d ∷ ds) c other = refl
 
-  pub front_ends : (q rest : List ℕ) → Ends not_blank (q ++ rest) → Ends not_blank q
-  front_ends [] rest e = tt
-  front_ends (c ∷ cs) rest e = e
+  pub prefix_ends : (q rest : List ℕ) → Ends not_blank (q ++ rest) → Ends not_blank q
+  prefix_ends [] rest e = tt
+  prefix_ends (c ∷ cs) rest e = e
 
-  pub at_outcome : (text c_text : List ℕ) → Skips text c_text → (x : Res Tree) → Outcome O or_ends o c_text x → Answers W whole text (at_end x)
+  pub at_outcome : (text c_text : List ℕ) → Skips text c_text → (x : Res Tree) → Outcome O or_ends o c_text x → IsAnswered W whole text (at_end x)
   at_outcome text mid s (Got t []) f = (refl, inr (s.blank, f.taken, s.each, s.whole ∙ ap (λ x. s.blank ++ x) (f.whole ∙ append-nil f.taken), starts f.taken (o_reads.filled f.taken t f.phrase) (subst (Ends not_blank) f.whole s.ends), f.phrase))
     where
       starts : (q : List ℕ) → Filled q → Ends not_blank (q ++ []) → Starts not_blank q
@@ -69,7 +69,7 @@ module _ (limit : ℕ) (pos : 0 < limit) (n depth : ℕ) where
   at_outcome text mid s (Got t (d ∷ ds)) f = (
     s.blank ++ f.taken,
     s.whole ∙ (ap (λ x. s.blank ++ x) f.whole ∙ sym (append_assoc s.blank f.taken (d ∷ ds))),
-    opens_led s.blank f.taken s.each (front_ends f.taken (d ∷ ds) (subst (Ends not_blank) f.whole s.ends)) (λ _. ([], t, subst (λ x. O x t) (sym (append-nil f.taken)) f.phrase)),
+    opens_led s.blank f.taken s.each (prefix_ends f.taken (d ∷ ds) (subst (Ends not_blank) f.whole s.ends)) (λ _. ([], t, subst (λ x. O x t) (sym (append-nil f.taken)) f.phrase)),
     (λ c m e other.
         let same : d ≡ c = cc in
         ap whole (append_assoc s.blank f.taken (c ∷ other))
@@ -80,7 +80,7 @@ module _ (limit : ℕ) (pos : 0 < limit) (n depth : ℕ) where
   at_outcome text mid s (Stop why rest) f = (
     s.blank ++ f.taken,
     s.whole ∙ (ap (λ x. s.blank ++ x) f.whole ∙ sym (append_assoc s.blank f.taken rest)),
-    opens_led s.blank f.taken s.each (front_ends f.taken rest (subst (Ends not_blank) f.whole s.ends)) f.opens,
+    opens_led s.blank f.taken s.each (prefix_ends f.taken rest (subst (Ends not_blank) f.whole s.ends)) f.opens,
     (λ c m e other.
         ap whole (append_assoc s.blank f.taken (c ∷ other))
         ∙ (ap (from_start o) (skip_blanks s.blank (f.taken ++ c ∷ other) s.each (same_first f.taken c m other (subst (Ends not_blank) (f.whole ∙ ap (λ x. f.taken ++ x) e) s.ends)))
@@ -88,11 +88,11 @@ module _ (limit : ℕ) (pos : 0 < limit) (n depth : ℕ) where
         ∙ ap at_end (f.fixed c m e other)))),
   )
 
-  pub from_outcome : (text mid : List ℕ) → Skips text mid → Answers W whole text (from_start o mid)
+  pub from_outcome : (text mid : List ℕ) → Skips text mid → IsAnswered W whole text (from_start o mid)
   from_outcome text [] s = (refl, inl (subst (Each is_blank) (sym (s.whole ∙ append-nil s.blank)) s.each, refl))
   from_outcome text (c ∷ cs) s = at_outcome text (c ∷ cs) s (o (c ∷ cs)) (o_reads.outcome (c ∷ cs))
 
-  pub whole_answers : (text : List ℕ) → Answers W whole text (whole text)
+  pub whole_answers : (text : List ℕ) → IsAnswered W whole text (whole text)
   whole_answers text = from_outcome text (skip text) (skips text)
 
   -- a text says at most one tree

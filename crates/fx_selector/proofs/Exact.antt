@@ -49,23 +49,23 @@ module _ {A B : Type 0} (G : List ℕ → A → Type 0) (H : A → List ℕ → 
 
   pub both_complete : (p rest : List ℕ) (v : B) → Then stops G H p v → Ends ends rest → both (p ++ rest) ≡ Got v rest
   both_complete p rest v t e =
-      let regrouped : p ++ rest ≡ t.front ++ (t.back ++ rest) = ap (λ x. x ++ rest) t.whole ∙ append_assoc t.front t.back rest in
-      let one : r (t.front ++ (t.back ++ rest)) ≡ Got t.said (t.back ++ rest) = R.complete t.front (t.back ++ rest) t.said t.first (ends_after stops t.back rest t.apart) in
+      let regrouped : p ++ rest ≡ t.prefix ++ (t.back ++ rest) = ap (λ x. x ++ rest) t.whole ∙ append_assoc t.prefix t.back rest in
+      let one : r (t.prefix ++ (t.back ++ rest)) ≡ Got t.said (t.back ++ rest) = R.complete t.prefix (t.back ++ rest) t.said t.first (ends_after stops t.back rest t.apart) in
       ap both regrouped ∙ (ap (λ x. bind x s) one ∙ (S t.said).complete t.back rest v t.second e)
 
   pub opens_second : (p q : List ℕ) (a : A) (rest : List ℕ) → G p a → Ends stops (q ++ rest) → (Filled q → Opens (H a) q) → Opens (Then stops G H) (p ++ q)
   opens_second p [] a rest g e o =
       let w = some a in
-      (w.0, w.1, record { front = p; back = w.0; said = a; whole = ap (λ x. x ++ w.0) (append-nil p); first = g; apart = w.2; second = w.3 })
+      (w.0, w.1, record { prefix = p; back = w.0; said = a; whole = ap (λ x. x ++ w.0) (append-nil p); first = g; apart = w.2; second = w.3 })
   opens_second p (c ∷ cs) a rest g e o =
       let w = o tt in
-      (w.0, w.1, record { front = p; back = c ∷ cs ++ w.0; said = a; whole = append_assoc p (c ∷ cs) w.0; first = g; apart = e; second = w.2 })
+      (w.0, w.1, record { prefix = p; back = c ∷ cs ++ w.0; said = a; whole = append_assoc p (c ∷ cs) w.0; first = g; apart = e; second = w.2 })
 
   pub second_outcome : (text : List ℕ) (a : A) (mid : List ℕ) → Finds G stops text a mid → (x : Res B) → Outcome (H a) ends (s a) mid x → Outcome (Then stops G H) ends both text x
   second_outcome text a mid f (Got v rest) o = record {
     taken = f.taken ++ o.taken;
     whole = f.whole ∙ (ap (λ x. f.taken ++ x) o.whole ∙ sym (append_assoc f.taken o.taken rest));
-    phrase = record { front = f.taken; back = o.taken; said = a; whole = refl; first = f.phrase; apart = starts_of stops o.taken rest ((S a).filled o.taken v o.phrase) (subst (Ends stops) o.whole f.ends); second = o.phrase };
+    phrase = record { prefix = f.taken; back = o.taken; said = a; whole = refl; first = f.phrase; apart = starts_of stops o.taken rest ((S a).filled o.taken v o.phrase) (subst (Ends stops) o.whole f.ends); second = o.phrase };
     ends = o.ends;
   }
   second_outcome text a mid f (Stop why rest) o = record {
@@ -88,12 +88,12 @@ module _ {A B : Type 0} (G : List ℕ → A → Type 0) (H : A → List ℕ → 
     taken = o.taken;
     whole = o.whole;
     opens = λ f. let w = o.opens f in let z = some w.1 in
-        (w.0 ++ z.0, z.1, record { front = o.taken ++ w.0; back = z.0; said = w.1; whole = sym (append_assoc o.taken w.0 z.0); first = w.2; apart = z.2; second = z.3 });
+        (w.0 ++ z.0, z.1, record { prefix = o.taken ++ w.0; back = z.0; said = w.1; whole = sym (append_assoc o.taken w.0 z.0); first = w.2; apart = z.2; second = z.3 });
     fixed = λ c m e other. ap (λ x. bind x s) (o.fixed c m e other);
   }
 
   pub filled_both : (p : List ℕ) (v : B) → Then stops G H p v → Filled p
-  filled_both p v t = subst Filled (sym t.whole) (more_filled t.front t.back (R.filled t.front t.said t.first))
+  filled_both p v t = subst Filled (sym t.whole) (more_filled t.prefix t.back (R.filled t.prefix t.said t.first))
     where
       more_filled : (a b : List ℕ) → Filled a → Filled (a ++ b)
       more_filled [] b h = absurd h

@@ -6,7 +6,7 @@ use Rattle.fx_selector.specs.Tree.{Tree}
 use Rattle.fx_selector.specs.Reader.{parsed}
 use Rattle.fx_selector.specs.Places.{Spells, NestsWithin, KeysWithin, Begins, IsUnexpected, IsTooDeep, IsKeyTooLong}
 use Rattle.fx_selector.proofs.Exact.{Opens}
-use Rattle.fx_selector.proofs.Complete.{Answers, whole_complete, whole_answers}
+use Rattle.fx_selector.proofs.Complete.{IsAnswered, whole_complete, whole_answers}
 use Rattle.fx_selector.proofs.Grow.{Later, Agrees}
 use Rattle.fx_selector.proofs.GrowAll.{whole_agrees}
 
@@ -50,7 +50,7 @@ module _ (key : ℕ) (pos : 0 < key) (n depth : ℕ) where
       (subst (λ x. Agrees false true x (parsed key (n + s.0 + 1) (depth + s.1 + 1) text)) e up)
 
   -- a text whose last byte larger limits read past begins a text within them
-  pub past_end : (k m d : ℕ) (text : List ℕ) (c : ℕ) → (x : Res Tree) → Later x (c ∷ []) → Answers (SelectorText k m d) (parsed k m d) text x → Opens (SelectorText k m d) text
+  pub past_end : (k m d : ℕ) (text : List ℕ) (c : ℕ) → (x : Res Tree) → Later x (c ∷ []) → IsAnswered (SelectorText k m d) (parsed k m d) text x → Opens (SelectorText k m d) text
   past_end k m d text c (Got t rest) l a = ([], t, subst (λ z. SelectorText k m d z t) (sym (append-nil text)) a.1)
   past_end k m d text c (Stop why []) l a = let w = a.2 in (w.0, w.1, subst (λ z. SelectorText k m d (z ++ w.0) w.1) (sym (a.1 ∙ append-nil a.0)) w.2)
   past_end k m d text c (Stop why (x ∷ xs)) l a = absurd (omega arith)

@@ -5,7 +5,7 @@ use Rattle.fx_selector.specs.Reading.{Cause, unexpected, deep, long, spent, Res,
 use Rattle.fx_selector.specs.Reader.{test}
 use Rattle.fx_selector.proofs.Exact.{Outcome, Reads}
 use Rattle.fx_selector.proofs.Marks.{mark_reads, skips}
-use Rattle.fx_selector.proofs.Words.{Ran, ran, with_front}
+use Rattle.fx_selector.proofs.Words.{Ran, ran, with_prefix}
 use Rattle.fx_selector.specs.Going.{going}
 
 -- reading went on past here
@@ -98,7 +98,7 @@ module _ (K D : Bool) where
   pub closed_same : (q : ℕ) (text : List ℕ) → Agrees K D (closed q text) (closed q text)
   closed_same q [] = refl
   closed_same q (c ∷ cs) = cond_agrees (eqb c q) (Got [] (skip cs)) (Got [] (skip cs)) _ _ refl
-      (cond_agrees (is_text q c) (with_front c (closed q cs)) (with_front c (closed q cs)) (Stop unexpected (c ∷ cs)) (Stop unexpected (c ∷ cs)) (mapped_agrees (λ v. c ∷ v) (closed q cs) (closed q cs) (closed_same q cs)) refl)
+      (cond_agrees (is_text q c) (with_prefix c (closed q cs)) (with_prefix c (closed q cs)) (Stop unexpected (c ∷ cs)) (Stop unexpected (c ∷ cs)) (mapped_agrees (λ v. c ∷ v) (closed q cs) (closed q cs) (closed_same q cs)) refl)
 
   pub byte_same : (test : ℕ → Bool) (text : List ℕ) → Agrees K D (byte test text) (byte test text)
   byte_same test [] = refl
@@ -112,10 +112,10 @@ module _ (K D : Bool) where
       by (Got v rest) o = omega (arith, ap length o.0, length-append v rest)
       by (Stop why rest) o = omega (arith, ap length o.1, length-append o.0 rest)
 
-  pub run_past : (j c : ℕ) (cs : List ℕ) → Later (with_front c (run j cs)) (c ∷ cs)
+  pub run_past : (j c : ℕ) (cs : List ℕ) → Later (with_prefix c (run j cs)) (c ∷ cs)
   run_past j c cs = by (run j cs) (run_no_longer j cs)
     where
-      by : (x : Res (List ℕ)) → NoLonger x cs → Later (with_front c x) (c ∷ cs)
+      by : (x : Res (List ℕ)) → NoLonger x cs → Later (with_prefix c x) (c ∷ cs)
       by (Got v rest) l = omega arith
       by (Stop why rest) l = omega arith
 
@@ -130,9 +130,9 @@ module _ (K D : Bool) where
       full : (b : Bool) → Grown b zero zero → Moves b long (c ∷ cs) (stop {A = List ℕ} long (c ∷ cs))
       full true h = absurd (omega arith)
       full false h = refl
-  run_agrees zero (suc j) g (c ∷ cs) = cond_agrees (is_key c) (Stop long (c ∷ cs)) (with_front c (run j cs)) (Got [] (c ∷ cs)) (Got [] (c ∷ cs)) (full K g) refl
+  run_agrees zero (suc j) g (c ∷ cs) = cond_agrees (is_key c) (Stop long (c ∷ cs)) (with_prefix c (run j cs)) (Got [] (c ∷ cs)) (Got [] (c ∷ cs)) (full K g) refl
     where
-      full : (b : Bool) → Grown b zero (suc j) → Moves b long (c ∷ cs) (with_front c (run j cs))
+      full : (b : Bool) → Grown b zero (suc j) → Moves b long (c ∷ cs) (with_prefix c (run j cs))
       full true h = run_past j c cs
       full false h = absurd (omega arith)
   run_agrees (suc k) zero g (c ∷ cs) = absurd (none K g)
@@ -140,7 +140,7 @@ module _ (K D : Bool) where
       none : (b : Bool) → Grown b (suc k) zero → ⊥
       none true h = omega arith
       none false h = omega arith
-  run_agrees (suc k) (suc j) g (c ∷ cs) = cond_agrees (is_key c) (with_front c (run k cs)) (with_front c (run j cs)) (Got [] (c ∷ cs)) (Got [] (c ∷ cs)) (mapped_agrees (λ v. c ∷ v) (run k cs) (run j cs) (run_agrees k j (less K g) cs)) refl
+  run_agrees (suc k) (suc j) g (c ∷ cs) = cond_agrees (is_key c) (with_prefix c (run k cs)) (with_prefix c (run j cs)) (Got [] (c ∷ cs)) (Got [] (c ∷ cs)) (mapped_agrees (λ v. c ∷ v) (run k cs) (run j cs) (run_agrees k j (less K g) cs)) refl
     where
       less : (b : Bool) → Grown b (suc k) (suc j) → Grown b k j
       less true h = omega arith

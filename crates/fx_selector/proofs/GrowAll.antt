@@ -103,14 +103,14 @@ module _ (K D : Bool) where
       abbrev pub part_test : List ℕ → Res Tree
       part_test x = bind (keyword contains_word x) (λ _. led (mapped (contains k) string))
 
-      abbrev pub front_test : List ℕ → Res Tree
-      front_test x = bind (keyword starts_word x) (λ _. led (with_string (starts k)))
+      abbrev pub starts_test : List ℕ → Res Tree
+      starts_test x = bind (keyword starts_word x) (λ _. led (with_string (starts k)))
 
-      abbrev pub back_test : List ℕ → Res Tree
-      back_test x = bind (keyword ends_word x) (λ _. led (with_string (ends k)))
+      abbrev pub ends_test : List ℕ → Res Tree
+      ends_test x = bind (keyword ends_word x) (λ _. led (with_string (ends k)))
 
       pub g6 : (text : List ℕ) → Agrees K D (q6 n k text) (q6 m k text)
-      g6 = choose_agrees K D (λ c. eqb c 115) front_test back_test front_test back_test
+      g6 = choose_agrees K D (λ c. eqb c 115) starts_test ends_test starts_test ends_test
           (word_then starts_word (with_string (starts k)) (with_string (starts k)) (with_same (starts k)) (no_longer _ not_blank (with_string (starts k)) (with_reads m k (starts k))))
           (word_then ends_word (with_string (ends k)) (with_string (ends k)) (with_same (ends k)) (no_longer _ not_blank (with_string (ends k)) (with_reads m k (ends k))))
 

@@ -14,12 +14,12 @@ use Rattle.fx_selector.proofs.Series.{picked, series_reads}
 use Rattle.fx_selector.proofs.Keywords.{keyword_reads}
 
 -- a phrase that begins as its first part begins
-pub starts_front : (test : ℕ → Bool) (a b : List ℕ) → Starts test a → Starts test (a ++ b)
-starts_front test [] b h = absurd h
-starts_front test (c ∷ cs) b h = h
+pub starts_prefix : (test : ℕ → Bool) (a b : List ℕ) → Starts test a → Starts test (a ++ b)
+starts_prefix test [] b h = absurd h
+starts_prefix test (c ∷ cs) b h = h
 
 pub then_starts : {A B : Type 0} (stops : ℕ → Bool) (G : List ℕ → A → Type 0) (H : A → List ℕ → B → Type 0) (test : ℕ → Bool) → ((p : List ℕ) (v : A) → G p v → Starts test p) → (p : List ℕ) (v : B) → Then stops G H p v → Starts test p
-then_starts stops G H test first p v h = subst (Starts test) (sym h.whole) (starts_front test h.front h.back (first h.front h.said h.first))
+then_starts stops G H test first p v h = subst (Starts test) (sym h.whole) (starts_prefix test h.prefix h.back (first h.prefix h.said h.first))
 
 pub mark_starts : (test : ℕ → Bool) (b : ℕ) (bs : List ℕ) → test b ≡ true → (p : List ℕ) (v : Unit {0}) → Mark (b ∷ bs) p v → Starts test p
 mark_starts test b bs t p v h = subst (Starts test) (sym h.2) t
@@ -71,7 +71,7 @@ string_starts test t = then_starts any_byte (Byte is_quote) Closed test (λ p v 
 
 -- ""
 pub some_string : String (34 ∷ 34 ∷ []) []
-some_string = record { front = 34 ∷ []; back = 34 ∷ []; said = 34; whole = refl; first = (refl, quote_34); apart = refl; second = ([], tt, tt, refl) }
+some_string = record { prefix = 34 ∷ []; back = 34 ∷ []; said = 34; whole = refl; first = (refl, quote_34); apart = refl; second = ([], tt, tt, refl) }
 
 pub a_string : (more : List ℕ) × (v : List ℕ) × Starts not_blank more × String more v
 a_string = (34 ∷ 34 ∷ [], [], refl, some_string)
@@ -80,7 +80,7 @@ pub series_starts : {A : Type 0} (stops : ℕ → Bool) (G : List ℕ → A → 
 series_starts stops G between test g zero p v (inl h) = g p h.0 h.1
 series_starts stops G between test g zero p v (inr h) = absurd h.second
 series_starts stops G between test g (suc n) p v (inl h) = g p h.0 h.1
-series_starts stops G between test g (suc n) p v (inr h) = subst (Starts test) (sym h.whole) (starts_front test h.front h.back (g h.front h.said h.first))
+series_starts stops G between test g (suc n) p v (inr h) = subst (Starts test) (sym h.whole) (starts_prefix test h.prefix h.back (g h.prefix h.said h.first))
 
 abbrev pub comma_ends : ℕ → Bool
 comma_ends c = not_blank c && not (eqb c 44)
@@ -117,7 +117,7 @@ pub spaced_word : {A : Type 0} (b : ℕ) (bs : List ℕ) (H : List ℕ → A →
 spaced_word b bs H ends_h r R s = seq (Keyword (b ∷ bs)) (λ _. Led H) not_key ends_h (keyword (b ∷ bs)) (λ _. led r) (keyword_reads b bs) (λ _. led_reads H ends_h r R s) (λ _. led_by_space H s)
 
 pub spaced_some : {A : Type 0} (b : ℕ) (bs : List ℕ) (H : List ℕ → A → Type 0) → not_blank b ≡ true → ((more : List ℕ) × (v : A) × Starts not_blank more × H more v) → (more : List ℕ) × (v : A) × Starts not_blank more × Then not_key (Keyword (b ∷ bs)) (λ _. Led H) more v
-spaced_some b bs H n s = let w = led_by_space H s in (b ∷ bs ++ w.0, w.1, n, record { front = b ∷ bs; back = w.0; said = tt; whole = refl; first = refl; apart = w.2; second = w.3 })
+spaced_some b bs H n s = let w = led_by_space H s in (b ∷ bs ++ w.0, w.1, n, record { prefix = b ∷ bs; back = w.0; said = tt; whole = refl; first = refl; apart = w.2; second = w.3 })
 
 pub word_test : {A : Type 0} (test : ℕ → Bool) (b : ℕ) (bs : List ℕ) (H : List ℕ → A → Type 0) → test b ≡ true → (p : List ℕ) (v : A) → Then not_key (Keyword (b ∷ bs)) (λ _. Led H) p v → Starts test p
 word_test test b bs H t = then_starts not_key (Keyword (b ∷ bs)) (λ _. Led H) test (keyword_starts test b bs t)
@@ -133,7 +133,7 @@ module _ (n : ℕ) (k : List ℕ) where
   a_mapped f = (34 ∷ 34 ∷ [], f [], refl, ([], some_string, refl))
 
   pub a_set : (f : List (List ℕ) → Tree) → (more : List ℕ) × (v : Tree) × Starts not_blank more × Mapped f (Set n) more v
-  a_set f = (123 ∷ 125 ∷ [], f [], refl, ([], record { front = 123 ∷ []; back = 125 ∷ []; said = tt; whole = refl; first = ([], tt, refl); apart = refl; second = inl (tt, ([], tt, refl), refl) }, refl))
+  a_set f = (123 ∷ 125 ∷ [], f [], refl, ([], record { prefix = 123 ∷ []; back = 125 ∷ []; said = tt; whole = refl; first = ([], tt, refl); apart = refl; second = inl (tt, ([], tt, refl), refl) }, refl))
 
   abbrev pub OfString : (List ℕ → Tree) → List ℕ → Tree → Type 0
   OfString f = Mapped f String
@@ -319,7 +319,7 @@ module _ (limit : ℕ) (pos : 0 < limit) (n : ℕ) where
 
   pub a_keyed : (more : List ℕ) × (v : Tree) × Starts not_blank more × Keyed more v
   a_keyed = let w = led_by_space (Mapped (λ _. has (97 ∷ [])) (Mark (41 ∷ []))) (a_close (has (97 ∷ []))) in
-      (97 ∷ w.0, w.1, refl, record { front = 97 ∷ []; back = w.0; said = 97 ∷ []; whole = refl; first = ((key_a, tt), omega arith, omega arith, refl); apart = w.2; second = w.3 })
+      (97 ∷ w.0, w.1, refl, record { prefix = 97 ∷ []; back = w.0; said = 97 ∷ []; whole = refl; first = ((key_a, tt), omega arith, omega arith, refl); apart = w.2; second = w.3 })
 
   abbrev pub HasCall : List ℕ → Tree → Type 0
   HasCall = Then not_blank (Mark (40 ∷ [])) (λ _. Keyed)
@@ -346,7 +346,7 @@ module _ (limit : ℕ) (pos : 0 < limit) (n : ℕ) where
 
     -- ==""
     pub a_follow : (more : List ℕ) × (v : Tree) × Starts not_blank more × Follows more v
-    a_follow = (61 ∷ 61 ∷ 34 ∷ 34 ∷ [], equal w [], refl, inr (inl (record { front = 61 ∷ 61 ∷ []; back = 34 ∷ 34 ∷ []; said = tt; whole = refl; first = ([], tt, refl); apart = refl; second = ([], some_string, refl) })))
+    a_follow = (61 ∷ 61 ∷ 34 ∷ 34 ∷ [], equal w [], refl, inr (inl (record { prefix = 61 ∷ 61 ∷ []; back = 34 ∷ 34 ∷ []; said = tt; whole = refl; first = ([], tt, refl); apart = refl; second = ([], some_string, refl) })))
 
   pub atom_reads : Reads (Atom limit n) not_blank (atom limit n)
   atom_reads = seq (Word limit) (λ w. Led (Follows w)) not_key not_blank (word limit) (λ w. led (choose (λ c. eqb c 40) (call limit w) (test n w))) (word_reads limit pos)
@@ -358,7 +358,7 @@ module _ (limit : ℕ) (pos : 0 < limit) (n : ℕ) where
 
   pub an_atom : (more : List ℕ) × (v : Tree) × Starts not_blank more × Atom limit n more v
   an_atom = let w = led_by_space (Follows (97 ∷ [])) (a_follow (97 ∷ [])) in
-      (97 ∷ w.0, w.1, refl, record { front = 97 ∷ []; back = w.0; said = 97 ∷ []; whole = refl; first = ((key_a, tt), omega arith, omega arith, refl); apart = w.2; second = w.3 })
+      (97 ∷ w.0, w.1, refl, record { prefix = 97 ∷ []; back = w.0; said = 97 ∷ []; whole = refl; first = ((key_a, tt), omega arith, omega arith, refl); apart = w.2; second = w.3 })
 
   abbrev pub N : ℕ → List ℕ → Tree → Type 0
   N d = Not limit n d
@@ -408,7 +408,7 @@ module _ (limit : ℕ) (pos : 0 < limit) (n : ℕ) where
   inner_reads d R = seq (Ored d) (λ t. Mapped (λ _. t) (Mark (41 ∷ []))) or_ends not_blank (or_of (not_of limit n d) n) (λ t. mapped (λ _. t) (mark (41 ∷ []))) (or_reads_of d R) closing (λ t. (41 ∷ [], t, refl, (tt, ([], tt, refl), refl)))
 
   pub an_inner : (d : ℕ) → (more : List ℕ) × (v : Tree) × Starts not_blank more × Inner d more v
-  an_inner d = let w = an_or d n in (w.0 ++ 41 ∷ [], w.1, starts_front not_blank w.0 (41 ∷ []) w.2, record { front = w.0; back = 41 ∷ []; said = w.1; whole = refl; first = w.3; apart = refl; second = (tt, ([], tt, refl), refl) })
+  an_inner d = let w = an_or d n in (w.0 ++ 41 ∷ [], w.1, starts_prefix not_blank w.0 (41 ∷ []) w.2, record { prefix = w.0; back = 41 ∷ []; said = w.1; whole = refl; first = w.3; apart = refl; second = (tt, ([], tt, refl), refl) })
 
   pub not_reads : (d : ℕ) → Reads (N d) not_blank (not_of limit n d)
   not_reads zero = choice (λ c. eqb c 33) Nothing (Either Nothing (Atom limit n)) not_blank (stop deep) (choose (λ c. eqb c 40) (stop deep) (atom limit n)) (stops_all deep not_blank)

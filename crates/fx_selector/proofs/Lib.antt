@@ -6,7 +6,7 @@ pub mod Series
 pub mod Keywords
 pub mod Language
 pub mod Complete
-pub mod Fronts
+pub mod Prefixes
 pub mod Rows
 pub mod Goes
 pub mod Paths

@@ -13,7 +13,7 @@ use Rattle.fx_selector.specs.declared.fault.SelectorFault.TheVariants as selecto
 use Rattle.fx_selector.specs.Parsing.{fault_at}
 use Rattle.fx_selector.specs.declared.fault.Fault.{Fault}
 use Rattle.fx_selector.specs.declared.fault.Fault.TheVariants.{Unexpected, TooDeep, KeyTooLong}
-use Rattle.fx_selector.proofs.Complete.{Answers, whole_complete, whole_answers}
+use Rattle.fx_selector.proofs.Complete.{IsAnswered, whole_complete, whole_answers}
 use Rattle.fx_selector.proofs.GrowAll.{whole_agrees}
 use Rattle.fx_selector.proofs.Grow.{Agrees}
 use Rattle.fx_selector.proofs.Faults.{Stands, fault}
@@ -29,14 +29,14 @@ module _ (text : List ℕ) (short : length text ≤ 65536) where
   abbrev n : ℕ
   n = length text + 1
 
-  pub answers : Answers (SelectorText 512 n 64) (parsed 512 n 64) text (parsed 512 n 64 text)
+  pub answers : IsAnswered (SelectorText 512 n 64) (parsed 512 n 64) text (parsed 512 n 64 text)
   answers = whole_answers 512 (lit< tt) n 64 text
 
   pub means : (t : Tree) → parsed 512 n 64 text ≡ Got t [] → Means text t
-  means t e = (short, (n, (subst (Answers (SelectorText 512 n 64) (parsed 512 n 64) text) e answers).1))
+  means t e = (short, (n, (subst (IsAnswered (SelectorText 512 n 64) (parsed 512 n 64) text) e answers).1))
 
-  stop_answers : (why : Cause) (rest : List ℕ) → parsed 512 n 64 text ≡ Stop why rest → Answers (SelectorText 512 n 64) (parsed 512 n 64) text (Stop why rest)
-  stop_answers why rest e = subst (Answers (SelectorText 512 n 64) (parsed 512 n 64) text) e answers
+  stop_answers : (why : Cause) (rest : List ℕ) → parsed 512 n 64 text ≡ Stop why rest → IsAnswered (SelectorText 512 n 64) (parsed 512 n 64) text (Stop why rest)
+  stop_answers why rest e = subst (IsAnswered (SelectorText 512 n 64) (parsed 512 n 64) text) e answers
 
   -- what is left is no longer than the text
   pub left_short : (why : Cause) (rest : List ℕ) → parsed 512 n 64 text ≡ Stop why rest → length rest ≤ length text
@@ -46,9 +46,9 @@ module _ (text : List ℕ) (short : length text ≤ 65536) where
   stands why rest real e =
       let a = stop_answers why rest e in
       let at : length text - length rest ≡ length a.0 = omega (arith, ap length a.1, length-append a.0 rest) in
-      let front : take (length text - length rest) text ≡ a.0 = ap (λ k. take k text) at ∙ (ap (take (length a.0)) a.1 ∙ take-append_seam a.0 rest) in
+      let prefix : take (length text - length rest) text ≡ a.0 = ap (λ k. take k text) at ∙ (ap (take (length a.0)) a.1 ∙ take-append_seam a.0 rest) in
       let back : drop (length text - length rest) text ≡ rest = ap (λ k. drop k text) at ∙ (ap (drop (length a.0)) a.1 ∙ drop-append_seam a.0 rest) in
-      rw (front, back) (fault 512 (lit< tt) n 64 text a.0 rest why a.1 e a.2 a.3 real)
+      rw (prefix, back) (fault 512 (lit< tt) n 64 text a.0 rest why a.1 e a.2 a.3 real)
 
   -- the fault of a stop
   pub is_fault : (f : Fault) (rest : List ℕ) → parsed 512 n 64 text ≡ Stop (cause f) rest → IsSelectorFault text (fault_at f (length text - length rest))

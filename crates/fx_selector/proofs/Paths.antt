@@ -1,8 +1,8 @@
 -- Which way a reader goes.
 use Rattle.std.proofs.Common.{◌≡◌, ◌≢◌, ℕ, zero, suc, ◌-◌, true, false, cond, eqb, List, [], ◌∷◌, length, refl, sym, ap, ◌∙◌, arith}
 use Rattle.fx_selector.specs.Reading.{unexpected, deep, Res, Got, Stop, bind, choose, mapped, mark, skip, word, led, begins_with}
-use Rattle.fx_selector.specs.Tree.{Tree, negated}
-use Rattle.fx_selector.specs.Reader.{call, test, word_test, atom, or_of, not_of, at_end, from_start, parsed}
+use Rattle.fx_selector.specs.Tree.{Tree, within, negated}
+use Rattle.fx_selector.specs.Reader.{in_set, equal_test, unequal_test, outside_test, contains_test, starts_test, ends_test, call, test, word_test, atom, or_of, not_of, at_end, from_start, parsed}
 
 pub choose_yes : {A : Type 0} (b : ℕ) (r s : List ℕ → Res A) (text : List ℕ) → begins_with b text ≡ true → choose (λ c. eqb c b) r s text ≡ r text
 choose_yes b r s [] e = cc
@@ -12,10 +12,52 @@ pub choose_no : {A : Type 0} (b : ℕ) (r s : List ℕ → Res A) (text : List �
 choose_no b r s [] e = refl
 choose_no b r s (c ∷ cs) e = ap (λ x. cond x (r (c ∷ cs)) (s (c ∷ cs))) e
 
--- at no `=` and no `!`
-pub test_word : (n : ℕ) (k rest : List ℕ) → begins_with 61 rest ≡ false → begins_with 33 rest ≡ false → test n k rest ≡ word_test n k rest
-test_word n k [] e f = refl
-test_word n k (c ∷ cs) e f = rw (e, f) refl
+-- the test that the first byte tells
+module _ (n : ℕ) (k rest : List ℕ) where
+  abbrev past_equal : List ℕ → Res Tree
+  past_equal = choose (λ c. eqb c 33) (unequal_test k) (word_test n k)
+
+  abbrev past_contains : List ℕ → Res Tree
+  past_contains = choose (λ c. eqb c 115) (starts_test k) (ends_test k)
+
+  abbrev past_not : List ℕ → Res Tree
+  past_not = choose (λ c. eqb c 99) (contains_test k) past_contains
+
+  abbrev past_in : List ℕ → Res Tree
+  past_in = choose (λ c. eqb c 110) (outside_test n k) past_not
+
+  pub test_equal : begins_with 61 rest ≡ true → test n k rest ≡ equal_test k rest
+  test_equal e = choose_yes 61 (equal_test k) past_equal rest e
+
+  pub test_unequal : begins_with 61 rest ≡ false → begins_with 33 rest ≡ true → test n k rest ≡ unequal_test k rest
+  test_unequal e f = choose_no 61 (equal_test k) past_equal rest e ∙ choose_yes 33 (unequal_test k) (word_test n k) rest f
+
+  pub test_word : begins_with 61 rest ≡ false → begins_with 33 rest ≡ false → test n k rest ≡ word_test n k rest
+  test_word e f = choose_no 61 (equal_test k) past_equal rest e ∙ choose_no 33 (unequal_test k) (word_test n k) rest f
+
+  pub word_within : begins_with 105 rest ≡ true → word_test n k rest ≡ in_set (within k) n rest
+  word_within e = choose_yes 105 (in_set (within k) n) past_in rest e
+
+  no_in : begins_with 105 rest ≡ false → word_test n k rest ≡ past_in rest
+  no_in e = choose_no 105 (in_set (within k) n) past_in rest e
+
+  pub word_outside : begins_with 105 rest ≡ false → begins_with 110 rest ≡ true → word_test n k rest ≡ outside_test n k rest
+  word_outside e f = no_in e ∙ choose_yes 110 (outside_test n k) past_not rest f
+
+  no_not : begins_with 105 rest ≡ false → begins_with 110 rest ≡ false → word_test n k rest ≡ past_not rest
+  no_not e f = no_in e ∙ choose_no 110 (outside_test n k) past_not rest f
+
+  pub word_contains : begins_with 105 rest ≡ false → begins_with 110 rest ≡ false → begins_with 99 rest ≡ true → word_test n k rest ≡ contains_test k rest
+  word_contains e f g = no_not e f ∙ choose_yes 99 (contains_test k) past_contains rest g
+
+  no_contains : begins_with 105 rest ≡ false → begins_with 110 rest ≡ false → begins_with 99 rest ≡ false → word_test n k rest ≡ past_contains rest
+  no_contains e f g = no_not e f ∙ choose_no 99 (contains_test k) past_contains rest g
+
+  pub word_starts : begins_with 105 rest ≡ false → begins_with 110 rest ≡ false → begins_with 99 rest ≡ false → begins_with 115 rest ≡ true → word_test n k rest ≡ starts_test k rest
+  word_starts e f g h = no_contains e f g ∙ choose_yes 115 (starts_test k) (ends_test k) rest h
+
+  pub word_ends : begins_with 105 rest ≡ false → begins_with 110 rest ≡ false → begins_with 99 rest ≡ false → begins_with 115 rest ≡ false → word_test n k rest ≡ ends_test k rest
+  word_ends e f g h = no_contains e f g ∙ choose_no 115 (starts_test k) (ends_test k) rest h
 
 module _ (limit n : ℕ) (rest w behind after : List ℕ) (read : word limit rest ≡ Got w behind) (past : after ≡ skip behind) where
   pub atom_follow : atom limit n rest ≡ choose (λ c. eqb c 40) (call limit w) (test n w) after

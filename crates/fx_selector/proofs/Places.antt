@@ -7,8 +7,8 @@ use Rattle.fx_selector.specs.Places.{Allows, NestsWithin, KeysWithin, Begins}
 use Rattle.fx_selector.proofs.Faults.{Stands}
 
 module _ (key : ℕ) (pos : 0 < key) (depth : ℕ) where
-  pub front_begins : (a b : List ℕ) → Begins (Allows key depth) (a ++ b) → Begins (Allows key depth) a
-  front_begins a b h = (b ++ h.0, h.1, subst (λ z. Allows key depth z h.1) (append_assoc a b h.0) h.2)
+  pub prefix_begins : (a b : List ℕ) → Begins (Allows key depth) (a ++ b) → Begins (Allows key depth) a
+  prefix_begins a b h = (b ++ h.0, h.1, subst (λ z. Allows key depth z h.1) (append_assoc a b h.0) h.2)
 
   -- no text within the limits goes on past a fault
   pub goes_nowhere : (why : Cause) (taken : List ℕ) (c : ℕ) (m : List ℕ) → Stands key depth why taken (c ∷ m) → Begins (Allows key depth) (taken ++ c ∷ []) → ⊥
@@ -44,4 +44,4 @@ module _ (key : ℕ) (pos : 0 < key) (depth : ℕ) where
   pub one_place : (a b x : List ℕ) (c : ℕ) (m : List ℕ) (v w : Cause) → a ++ x ≡ b ++ c ∷ m → Stands key depth v a x → Stands key depth w b (c ∷ m) → length b < length a → ⊥
   one_place a b x c m v w e s t l =
       let r = split a b c m x e l in
-      goes_nowhere w b c m t (front_begins (b ++ c ∷ []) r.0 (subst (Begins (Allows key depth)) r.1 (begun_before v a x s)))
+      goes_nowhere w b c m t (prefix_begins (b ++ c ∷ []) r.0 (subst (Begins (Allows key depth)) r.1 (begun_before v a x s)))

@@ -33,9 +33,9 @@ module _ {A B : Type 0} (one : A → B) (test : ℕ → Bool) (G : List ℕ → 
   pub longer_complete : (p rest : List ℕ) (v : B) → Longer p v → Ends ends rest → longer (p ++ rest) ≡ Got v rest
   longer_complete p rest v (inl m) e = ap (λ x. bind x (go_on one test t)) (R.complete p rest m.0 m.1 (ends_all rest e)) ∙ (go_end m.0 rest e ∙ ap (λ x. Got x rest) (sym m.2))
   longer_complete p rest v (inr h) e =
-      let regrouped : p ++ rest ≡ h.front ++ (h.back ++ rest) = ap (λ x. x ++ rest) h.whole ∙ append_assoc h.front h.back rest in
+      let regrouped : p ++ rest ≡ h.prefix ++ (h.back ++ rest) = ap (λ x. x ++ rest) h.whole ∙ append_assoc h.prefix h.back rest in
       ap longer regrouped
-      ∙ (ap (λ x. bind x (go_on one test t)) (R.complete h.front (h.back ++ rest) h.said h.first (ends_after stops h.back rest h.apart))
+      ∙ (ap (λ x. bind x (go_on one test t)) (R.complete h.prefix (h.back ++ rest) h.said h.first (ends_after stops h.back rest h.apart))
       ∙ (go_more h.said h.back rest (begins h.said h.back v h.second) ∙ (S h.said).complete h.back rest v h.second e))
 
   -- where more follows
@@ -43,7 +43,7 @@ module _ {A B : Type 0} (one : A → B) (test : ℕ → Bool) (G : List ℕ → 
   on_outcome text a c cs f h (Got v rest) o = record {
     taken = f.taken ++ o.taken;
     whole = f.whole ∙ (ap (λ x. f.taken ++ x) o.whole ∙ sym (append_assoc f.taken o.taken rest));
-    phrase = inr (record { front = f.taken; back = o.taken; said = a; whole = refl; first = f.phrase; apart = test_starts o.taken (begins a o.taken v o.phrase); second = o.phrase });
+    phrase = inr (record { prefix = f.taken; back = o.taken; said = a; whole = refl; first = f.phrase; apart = test_starts o.taken (begins a o.taken v o.phrase); second = o.phrase });
     ends = o.ends;
   }
     where
@@ -64,7 +64,7 @@ module _ {A B : Type 0} (one : A → B) (test : ℕ → Bool) (G : List ℕ → 
       opened : (q : List ℕ) → (Filled q → Opens (T a) q) → c ∷ cs ≡ q ++ rest → Opens Longer (f.taken ++ q)
       opened [] g e = ([], one a, inl (a, subst (λ x. G x a) (sym (append-nil (f.taken ++ [])) ∙ refl) (subst (λ x. G x a) (sym (append-nil f.taken)) f.phrase), refl))
       opened (d ∷ ds) g e = let w = g tt in
-          (w.0, w.1, inr (record { front = f.taken; back = d ∷ ds ++ w.0; said = a; whole = append_assoc f.taken (d ∷ ds) w.0; first = f.phrase; apart = (let same : c ≡ d = cc in subst (λ x. stops x ≡ true) same (test_stops c h)); second = w.2 }))
+          (w.0, w.1, inr (record { prefix = f.taken; back = d ∷ ds ++ w.0; said = a; whole = append_assoc f.taken (d ∷ ds) w.0; first = f.phrase; apart = (let same : c ≡ d = cc in subst (λ x. stops x ≡ true) same (test_stops c h)); second = w.2 }))
 
       still_ends : (q : List ℕ) (d : ℕ) (m other : List ℕ) → c ∷ cs ≡ q ++ d ∷ m → Ends stops (q ++ d ∷ other)
       still_ends [] d m other e = let same : c ≡ d = cc in subst (λ x. stops x ≡ true) same (test_stops c h)
@@ -93,7 +93,7 @@ module _ {A B : Type 0} (one : A → B) (test : ℕ → Bool) (G : List ℕ → 
 
   pub longer_filled : (p : List ℕ) (v : B) → Longer p v → Filled p
   longer_filled p v (inl m) = R.filled p m.0 m.1
-  longer_filled p v (inr h) = subst Filled (sym h.whole) (more_filled h.front h.back (R.filled h.front h.said h.first))
+  longer_filled p v (inr h) = subst Filled (sym h.whole) (more_filled h.prefix h.back (R.filled h.prefix h.said h.first))
     where
       more_filled : (a b : List ℕ) → Filled a → Filled (a ++ b)
       more_filled [] b h = absurd h

@@ -58,14 +58,14 @@ series_said P Q stops G sep one further said zero text vs (inl h) = subst P (sym
 series_said P Q stops G sep one further said zero text vs (inr h) = absurd h.second
 series_said P Q stops G sep one further said (suc n) text vs (inl h) = subst P (sym h.2) (one h.0 (said text h.0 h.1))
 series_said P Q stops G sep one further said (suc n) text vs (inr h) =
-    subst P (sym h.second.2) (further h.said h.second.0 (said h.front h.said h.first) (series_said P Q stops G sep one further said n h.second.1.back h.second.0 h.second.1.second))
+    subst P (sym h.second.2) (further h.said h.second.0 (said h.prefix h.said h.first) (series_said P Q stops G sep one further said n h.second.1.back h.second.0 h.second.1.second))
 
 pub set_said : (n : ℕ) (text : List ℕ) (vs : List (List ℕ)) → Set n text vs → IsSet vs
 set_said n text vs h = by h.back vs h.second
   where
     by : (back : List ℕ) (vs : List (List ℕ)) → Either (Mapped (λ _. []) (Mark (125 ∷ []))) (Then (λ c. not_blank c && not (eqb c 44)) (Series not_blank String (44 ∷ []) n) (λ vs. Mapped (λ _. set_of vs) (Mark (125 ∷ [])))) back vs → IsSet vs
     by back vs (inl m) = subst IsSet (sym m.2) (set-set_of [] tt)
-    by back vs (inr m) = subst IsSet (sym m.second.2) (set-set_of m.said (series_said AreStrings IsString not_blank String (44 ∷ []) (λ a q. (q, tt)) (λ a rest q p. (q, p)) string_said n m.front m.said m.first))
+    by back vs (inr m) = subst IsSet (sym m.second.2) (set-set_of m.said (series_said AreStrings IsString not_blank String (44 ∷ []) (λ a q. (q, tt)) (λ a rest q p. (q, p)) string_said n m.prefix m.said m.first))
 
 -- a tree of at most so many levels
 abbrev pub Low : ℕ → Tree → Type 0
@@ -97,7 +97,7 @@ abbrev HasKey : ℕ → List ℕ → Tree → Type 0
 HasKey limit = Then not_blank (Mark (40 ∷ [])) (λ _. Then not_key (Word limit) (λ k. Led (Mapped (λ _. has k) (Mark (41 ∷ [])))))
 
 has_said : (limit : ℕ) (text : List ℕ) (t : Tree) → HasKey limit text t → Low 1 t
-has_said limit text t h = subst (Low 1) (sym h.second.second.5.2) (word_said limit h.second.front h.second.said h.second.first, omega arith)
+has_said limit text t h = subst (Low 1) (sym h.second.second.5.2) (word_said limit h.second.prefix h.second.said h.second.first, omega arith)
 
 pub call_said : (limit : ℕ) (w text : List ℕ) (t : Tree) → Call limit w text t → Low 1 t
 call_said limit w = pick_said (Low 1) (same_bytes w all_word) (Bare all) _ (bare_said all (tt, omega arith))
@@ -109,7 +109,7 @@ atom_said limit n text t h = by h.second.1 h.second.5
   where
     by : (back : List ℕ) → Either (Call limit h.said) (Test n h.said) back t → Low 1 t
     by back (inl c) = call_said limit h.said back t c
-    by back (inr c) = test_said n h.said back t (word_said limit h.front h.said h.first) c
+    by back (inr c) = test_said n h.said back t (word_said limit h.prefix h.said h.first) c
 
 lower : (m k : ℕ) → m ≤ k → (t : Tree) → Low m t → Low k t
 lower m k l t h = (h.0, omega arith)
@@ -148,7 +148,7 @@ not_said limit n (suc d) text t (inl h) =
     let inner : Low (2 * d + 1) h.second.0 = not_said limit n d h.back h.second.0 h.second.1 in
     subst (Low (2 * suc d + 1)) (sym h.second.2) (inner.0, omega arith)
 not_said limit n (suc d) text t (inr (inl h)) =
-    let inner : Low (2 * d + 1 + 1 + 1) h.second.said = or_said (2 * d + 1) n (Not limit n d) (not_said limit n d) h.second.front h.second.said h.second.first in
+    let inner : Low (2 * d + 1 + 1 + 1) h.second.said = or_said (2 * d + 1) n (Not limit n d) (not_said limit n d) h.second.prefix h.second.said h.second.first in
     subst (Low (2 * suc d + 1)) (sym h.second.second.2) (inner.0, omega arith)
 not_said limit n (suc d) text t (inr (inr h)) = let a : Low 1 t = atom_said limit n text t h in (a.0, omega arith)
 

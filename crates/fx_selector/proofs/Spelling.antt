@@ -83,7 +83,7 @@ quote_is_quote false = refl
 
 pub string_of_quoted : (v blank : List ℕ) → Each (is_text (quote_of v)) v → Each is_blank blank → String (quoted v ++ blank) v
 string_of_quoted v blank h b = record {
-  front = quote_of v ∷ [];
+  prefix = quote_of v ∷ [];
   back = (v ++ quote_of v ∷ []) ++ blank;
   said = quote_of v;
   whole = refl;
@@ -96,8 +96,8 @@ string_of_quoted v blank h b = record {
     any_starts [] = refl
     any_starts (c ∷ cs) = refl
 
-pub quote_front : (v : List ℕ) → not_blank (quote_of v) ≡ true
-quote_front v = by (list_any (λ c. nat_eq c 34) v)
+pub quote_prefix : (v : List ℕ) → not_blank (quote_of v) ≡ true
+quote_prefix v = by (list_any (λ c. nat_eq c 34) v)
   where
     by : (q : Bool) → not_blank (cond q 39 34) ≡ true
     by true = refl
@@ -109,18 +109,18 @@ single stops G sep (suc k) p v g = inl (v, g, refl)
 
 -- a word of the language, a space and what follows
 pub spaced : {A : Type 0} (word rest : List ℕ) (H : List ℕ → A → Type 0) (v : A) → Starts not_blank rest → H rest v → Then not_key (Keyword word) (λ _. Led H) (word ++ (32 ∷ rest)) v
-spaced word rest H v s h = record { front = word; back = 32 ∷ rest; said = tt; whole = refl; first = refl; apart = space_ends; second = (32 ∷ [], rest, (refl, tt), refl, s, h) }
+spaced word rest H v s h = record { prefix = word; back = 32 ∷ rest; said = tt; whole = refl; first = refl; apart = space_ends; second = (32 ∷ [], rest, (refl, tt), refl, s, h) }
 
 pub listed_starts : (v : List ℕ) (vs : List (List ℕ)) (tail : List ℕ) → Starts not_blank (listed (v ∷ vs) ++ tail)
-listed_starts v [] tail = quote_front v
-listed_starts v (w ∷ ws) tail = quote_front v
+listed_starts v [] tail = quote_prefix v
+listed_starts v (w ∷ ws) tail = quote_prefix v
 
 -- the strings of a set, with commas
 pub listed_series : (v : List ℕ) (vs : List (List ℕ)) (k : ℕ) → AreStrings (v ∷ vs) → length vs ≤ k → Series not_blank String (44 ∷ []) k (listed (v ∷ vs)) (v ∷ vs)
 listed_series v [] k s l = single not_blank String (44 ∷ []) k (quoted v) v (subst (λ x. String x v) (append-nil (quoted v)) (string_of_quoted v [] s.0 tt))
 listed_series v (w ∷ ws) zero s l = absurd (omega arith)
 listed_series v (w ∷ ws) (suc k) s l = inr (record {
-  front = quoted v;
+  prefix = quoted v;
   back = 44 ∷ 32 ∷ listed (w ∷ ws);
   said = v;
   whole = refl;
@@ -129,7 +129,7 @@ listed_series v (w ∷ ws) (suc k) s l = inr (record {
   second = (
     w ∷ ws,
     record {
-      front = 44 ∷ 32 ∷ [];
+      prefix = 44 ∷ 32 ∷ [];
       back = listed (w ∷ ws);
       said = tt;
       whole = refl;
@@ -142,16 +142,16 @@ listed_series v (w ∷ ws) (suc k) s l = inr (record {
 })
 
 pub set_of_braced : (n : ℕ) (vs : List (List ℕ)) (blank : List ℕ) → ShortSet n vs → Each is_blank blank → Set n (braced vs ++ blank) vs
-set_of_braced n [] blank s b = record { front = 123 ∷ []; back = 125 ∷ blank; said = tt; whole = refl; first = ([], tt, refl); apart = refl; second = inl (tt, (blank, b, refl), refl) }
+set_of_braced n [] blank s b = record { prefix = 123 ∷ []; back = 125 ∷ blank; said = tt; whole = refl; first = ([], tt, refl); apart = refl; second = inl (tt, (blank, b, refl), refl) }
 set_of_braced n (v ∷ vs) blank s b = record {
-  front = 123 ∷ [];
+  prefix = 123 ∷ [];
   back = (listed (v ∷ vs) ++ 125 ∷ []) ++ blank;
   said = tt;
   whole = refl;
   first = ([], tt, refl);
   apart = subst (Starts not_blank) (sym (append_assoc (listed (v ∷ vs)) (125 ∷ []) blank)) (listed_starts v vs (125 ∷ blank));
   second = inr (record {
-    front = listed (v ∷ vs);
+    prefix = listed (v ∷ vs);
     back = 125 ∷ blank;
     said = v ∷ vs;
     whole = append_assoc (listed (v ∷ vs)) (125 ∷ []) blank;
@@ -172,35 +172,35 @@ module _ (limit n : ℕ) (wide : 6 < limit) where
   pub close_ends : not_key 41 ≡ true
   close_ends = ap not (key_is 41 refl)
 
-  pub key_front : (k rest blank : List ℕ) → ShortKey limit k → Starts not_blank ((k ++ rest) ++ blank)
-  key_front [] rest blank h = absurd (omega arith)
-  key_front (c ∷ cs) rest blank h = blank_key limit (omega arith) n c h.0.0
+  pub key_prefix : (k rest blank : List ℕ) → ShortKey limit k → Starts not_blank ((k ++ rest) ++ blank)
+  key_prefix [] rest blank h = absurd (omega arith)
+  key_prefix (c ∷ cs) rest blank h = blank_key limit (omega arith) n c h.0.0
 
   pub all_atom : (blank : List ℕ) → Each is_blank blank → Atom limit n (canonical_text all ++ blank) all
   all_atom blank b = record {
-    front = all_word;
+    prefix = all_word;
     back = 40 ∷ 41 ∷ blank;
     said = all_word;
     whole = refl;
     first = (all_is_word, omega arith, omega arith, refl);
     apart = bracket_ends;
-    second = ([], 40 ∷ 41 ∷ blank, tt, refl, refl, inl (record { front = 40 ∷ []; back = 41 ∷ blank; said = tt; whole = refl; first = ([], tt, refl); apart = refl; second = (tt, (blank, b, refl), refl) }));
+    second = ([], 40 ∷ 41 ∷ blank, tt, refl, refl, inl (record { prefix = 40 ∷ []; back = 41 ∷ blank; said = tt; whole = refl; first = ([], tt, refl); apart = refl; second = (tt, (blank, b, refl), refl) }));
   }
 
   pub global_atom : (blank : List ℕ) → Each is_blank blank → Atom limit n (canonical_text global ++ blank) global
   global_atom blank b = record {
-    front = global_word;
+    prefix = global_word;
     back = 40 ∷ 41 ∷ blank;
     said = global_word;
     whole = refl;
     first = (global_is_word, omega arith, omega arith, refl);
     apart = bracket_ends;
-    second = ([], 40 ∷ 41 ∷ blank, tt, refl, refl, inl (record { front = 40 ∷ []; back = 41 ∷ blank; said = tt; whole = refl; first = ([], tt, refl); apart = refl; second = (tt, (blank, b, refl), refl) }));
+    second = ([], 40 ∷ 41 ∷ blank, tt, refl, refl, inl (record { prefix = 40 ∷ []; back = 41 ∷ blank; said = tt; whole = refl; first = ([], tt, refl); apart = refl; second = (tt, (blank, b, refl), refl) }));
   }
 
   pub has_atom : (k blank : List ℕ) → ShortKey limit k → Each is_blank blank → Atom limit n (canonical_text (has k) ++ blank) (has k)
   has_atom k blank h b = record {
-    front = has_word;
+    prefix = has_word;
     back = 40 ∷ ((k ++ 41 ∷ []) ++ blank);
     said = has_word;
     whole = refl;
@@ -213,14 +213,14 @@ module _ (limit n : ℕ) (wide : 6 < limit) where
       refl,
       refl,
       inl (record {
-        front = 40 ∷ [];
+        prefix = 40 ∷ [];
         back = (k ++ 41 ∷ []) ++ blank;
         said = tt;
         whole = refl;
         first = ([], tt, refl);
-        apart = key_front k (41 ∷ []) blank h;
+        apart = key_prefix k (41 ∷ []) blank h;
         second = record {
-          front = k;
+          prefix = k;
           back = 41 ∷ blank;
           said = k;
           whole = append_assoc k (41 ∷ []) blank;
@@ -235,7 +235,7 @@ module _ (limit n : ℕ) (wide : 6 < limit) where
   -- a key, a space and a test
   pub key_atom : (k test blank : List ℕ) (t : Tree) → ShortKey limit k → Starts not_blank (test ++ blank) → Test n k (test ++ blank) t → Atom limit n ((k ++ (32 ∷ test)) ++ blank) t
   key_atom k test blank t h s w = record {
-    front = k;
+    prefix = k;
     back = 32 ∷ (test ++ blank);
     said = k;
     whole = append_assoc k (32 ∷ test) blank;
@@ -246,23 +246,23 @@ module _ (limit n : ℕ) (wide : 6 < limit) where
 
   pub equal_atom : (k v blank : List ℕ) → ShortKey limit k → IsString v → Each is_blank blank → Atom limit n (canonical_text (equal k v) ++ blank) (equal k v)
   equal_atom k v blank h s b = key_atom k (61 ∷ 61 ∷ 32 ∷ quoted v) blank (equal k v) h refl (inl (record {
-    front = 61 ∷ 61 ∷ 32 ∷ [];
+    prefix = 61 ∷ 61 ∷ 32 ∷ [];
     back = quoted v ++ blank;
     said = tt;
     whole = refl;
     first = (32 ∷ [], (refl, tt), refl);
-    apart = quote_front v;
+    apart = quote_prefix v;
     second = (v, string_of_quoted v blank s b, refl);
   }))
 
   pub unequal_atom : (k v blank : List ℕ) → ShortKey limit k → IsString v → Each is_blank blank → Atom limit n (canonical_text (unequal k v) ++ blank) (unequal k v)
   unequal_atom k v blank h s b = key_atom k (33 ∷ 61 ∷ 32 ∷ quoted v) blank (unequal k v) h refl (inr (inl (record {
-    front = 33 ∷ 61 ∷ 32 ∷ [];
+    prefix = 33 ∷ 61 ∷ 32 ∷ [];
     back = quoted v ++ blank;
     said = tt;
     whole = refl;
     first = (32 ∷ [], (refl, tt), refl);
-    apart = quote_front v;
+    apart = quote_prefix v;
     second = (v, string_of_quoted v blank s b, refl);
   })))
 
@@ -277,30 +277,30 @@ module _ (limit n : ℕ) (wide : 6 < limit) where
 
   pub contains_atom : (k v blank : List ℕ) → ShortKey limit k → IsString v → Each is_blank blank → Atom limit n (canonical_text (contains k v) ++ blank) (contains k v)
   contains_atom k v blank h s b = key_atom k (contains_word ++ (32 ∷ quoted v)) blank (contains k v) h refl
-      (inr (inr (inr (inr (inl (spaced contains_word (quoted v ++ blank) (Mapped (contains k) String) (contains k v) (quote_front v) (v, string_of_quoted v blank s b, refl)))))))
+      (inr (inr (inr (inr (inl (spaced contains_word (quoted v ++ blank) (Mapped (contains k) String) (contains k v) (quote_prefix v) (v, string_of_quoted v blank s b, refl)))))))
 
   pub starts_atom : (k v blank : List ℕ) → ShortKey limit k → IsString v → Each is_blank blank → Atom limit n (canonical_text (starts k v) ++ blank) (starts k v)
   starts_atom k v blank h s b = key_atom k (starts_word ++ (32 ∷ (with_word ++ (32 ∷ quoted v)))) blank (starts k v) h refl
       (inr (inr (inr (inr (inr (inl (spaced starts_word (with_word ++ (32 ∷ (quoted v ++ blank))) (Then not_key (Keyword with_word) (λ _. Led (Mapped (starts k) String))) (starts k v) refl
-      (spaced with_word (quoted v ++ blank) (Mapped (starts k) String) (starts k v) (quote_front v) (v, string_of_quoted v blank s b, refl)))))))))
+      (spaced with_word (quoted v ++ blank) (Mapped (starts k) String) (starts k v) (quote_prefix v) (v, string_of_quoted v blank s b, refl)))))))))
 
   pub ends_atom : (k v blank : List ℕ) → ShortKey limit k → IsString v → Each is_blank blank → Atom limit n (canonical_text (ends k v) ++ blank) (ends k v)
   ends_atom k v blank h s b = key_atom k (ends_word ++ (32 ∷ (with_word ++ (32 ∷ quoted v)))) blank (ends k v) h refl
       (inr (inr (inr (inr (inr (inr (spaced ends_word (with_word ++ (32 ∷ (quoted v ++ blank))) (Then not_key (Keyword with_word) (λ _. Led (Mapped (ends k) String))) (ends k v) refl
-      (spaced with_word (quoted v ++ blank) (Mapped (ends k) String) (ends k v) (quote_front v) (v, string_of_quoted v blank s b, refl)))))))))
+      (spaced with_word (quoted v ++ blank) (Mapped (ends k) String) (ends k v) (quote_prefix v) (v, string_of_quoted v blank s b, refl)))))))))
 
   -- a series of one phrase for each tree
   pub starts_good : (t : Tree) (d : ℕ) → Good limit n t d → (blank : List ℕ) → Starts not_blank (canonical_text t ++ blank)
   starts_good all d g blank = refl
   starts_good global d g blank = refl
   starts_good (has k) d g blank = refl
-  starts_good (equal k v) d g blank = key_front k _ blank g.0
-  starts_good (unequal k v) d g blank = key_front k _ blank g.0
-  starts_good (within k vs) d g blank = key_front k _ blank g.0
-  starts_good (outside k vs) d g blank = key_front k _ blank g.0
-  starts_good (contains k v) d g blank = key_front k _ blank g.0
-  starts_good (starts k v) d g blank = key_front k _ blank g.0
-  starts_good (ends k v) d g blank = key_front k _ blank g.0
+  starts_good (equal k v) d g blank = key_prefix k _ blank g.0
+  starts_good (unequal k v) d g blank = key_prefix k _ blank g.0
+  starts_good (within k vs) d g blank = key_prefix k _ blank g.0
+  starts_good (outside k vs) d g blank = key_prefix k _ blank g.0
+  starts_good (contains k v) d g blank = key_prefix k _ blank g.0
+  starts_good (starts k v) d g blank = key_prefix k _ blank g.0
+  starts_good (ends k v) d g blank = key_prefix k _ blank g.0
   starts_good (negated t) d g blank = refl
   starts_good (each ts) d g blank = refl
   starts_good (some ts) d g blank = refl
@@ -332,7 +332,7 @@ module _ (limit n : ℕ) (wide : 6 < limit) where
   spelled_series b stops nb sb G (more t none) d s g k l h = single stops G (b ∷ b ∷ []) k (canonical_text t) t (subst (λ x. G x t) (append-nil (canonical_text t)) (s.0 [] tt))
   spelled_series b stops nb sb G (more t (more u us)) d s g zero l h = absurd (omega arith)
   spelled_series b stops nb sb G (more t (more u us)) d s g (suc k) l h = inr (record {
-    front = canonical_text t ++ 32 ∷ [];
+    prefix = canonical_text t ++ 32 ∷ [];
     back = b ∷ b ∷ 32 ∷ joined (32 ∷ b ∷ b ∷ 32 ∷ []) (more u us);
     said = t;
     whole = sym (append_assoc (canonical_text t) (32 ∷ []) (b ∷ b ∷ 32 ∷ joined (32 ∷ b ∷ b ∷ 32 ∷ []) (more u us)));
@@ -341,7 +341,7 @@ module _ (limit n : ℕ) (wide : 6 < limit) where
     second = (
       list_of (more u us),
       record {
-        front = b ∷ b ∷ 32 ∷ [];
+        prefix = b ∷ b ∷ 32 ∷ [];
         back = joined (32 ∷ b ∷ b ∷ 32 ∷ []) (more u us);
         said = tt;
         whole = refl;
@@ -356,13 +356,13 @@ module _ (limit n : ℕ) (wide : 6 < limit) where
   -- a group around what is spelled
   pub grouped : (d : ℕ) (inside blank : List ℕ) (t : Tree) → Or (Not limit n d) n inside t → Starts not_blank ((inside ++ 41 ∷ []) ++ blank) → Each is_blank blank → Not limit n (suc d) (40 ∷ (inside ++ 41 ∷ []) ++ blank) t
   grouped d inside blank t o s b = inr (inl (record {
-    front = 40 ∷ [];
+    prefix = 40 ∷ [];
     back = (inside ++ 41 ∷ []) ++ blank;
     said = tt;
     whole = refl;
     first = ([], tt, refl);
     apart = s;
-    second = record { front = inside; back = 41 ∷ blank; said = t; whole = append_assoc inside (41 ∷ []) blank; first = o; apart = refl; second = (tt, (blank, b, refl), refl) };
+    second = record { prefix = inside; back = 41 ∷ blank; said = t; whole = append_assoc inside (41 ∷ []) blank; first = o; apart = refl; second = (tt, (blank, b, refl), refl) };
   }))
 
   pub one_and : (d : ℕ) (text : List ℕ) (t : Tree) → Not limit n d text t → And (Not limit n d) n text t
@@ -390,7 +390,7 @@ module _ (limit n : ℕ) (wide : 6 < limit) where
       (starts_inside (32 ∷ 124 ∷ 124 ∷ 32 ∷ []) ts d g (omega arith) blank) b
 
   pub bang_not : (d : ℕ) (t : Tree) → ((blank : List ℕ) → Each is_blank blank → Not limit n d (canonical_text t ++ blank) t) → Good limit n t d → (blank : List ℕ) → Each is_blank blank → Not limit n (suc d) (canonical_text (negated t) ++ blank) (negated t)
-  bang_not d t s g blank b = inl (record { front = 33 ∷ []; back = canonical_text t ++ blank; said = tt; whole = refl; first = ([], tt, refl); apart = starts_good t d g blank; second = (t, s blank b, refl) })
+  bang_not d t s g blank b = inl (record { prefix = 33 ∷ []; back = canonical_text t ++ blank; said = tt; whole = refl; first = ([], tt, refl); apart = starts_good t d g blank; second = (t, s blank b, refl) })
 
   abbrev pub Says : ℕ → Tree → Type 0
   Says d t = (blank : List ℕ) → Each is_blank blank → Not limit n d (canonical_text t ++ blank) t

@@ -6,8 +6,8 @@ use Rattle.fx_selector.specs.Reading.{unexpected, long, Res, Got, Stop, bind, sk
 use Rattle.fx_selector.proofs.Exact.{Filled, Opens, Outcome, Reads, ends_after}
 use Rattle.fx_selector.proofs.Marks.{opposite, skip_blanks, Skips, skips}
 
-abbrev pub with_front : ℕ → Res (List ℕ) → Res (List ℕ)
-with_front c x = bind x (λ v rest. Got (c ∷ v) rest)
+abbrev pub with_prefix : ℕ → Res (List ℕ) → Res (List ℕ)
+with_prefix c x = bind x (λ v rest. Got (c ∷ v) rest)
 
 -- a byte that closes no string of its own kind
 pub text_no_quote : (q c : ℕ) → is_text q c ≡ true → eqb c q ≡ false
@@ -20,34 +20,34 @@ text_no_quote q c e = second (leb 32 c && not (eqb c 127)) (eqb c q) e
     second false b e = cc
 
 pub closed_end : (q : ℕ) (rest : List ℕ) → closed q (q ∷ rest) ≡ Got [] (skip rest)
-closed_end q rest = ap (λ x. cond x (Got [] (skip rest)) (cond (is_text q q) (with_front q (closed q rest)) (Stop unexpected (q ∷ rest)))) (eq-eqb q q refl)
+closed_end q rest = ap (λ x. cond x (Got [] (skip rest)) (cond (is_text q q) (with_prefix q (closed q rest)) (Stop unexpected (q ∷ rest)))) (eq-eqb q q refl)
 
-pub closed_on : (q c : ℕ) (cs : List ℕ) → is_text q c ≡ true → closed q (c ∷ cs) ≡ with_front c (closed q cs)
+pub closed_on : (q c : ℕ) (cs : List ℕ) → is_text q c ≡ true → closed q (c ∷ cs) ≡ with_prefix c (closed q cs)
 closed_on q c cs e =
-    ap (λ x. cond x (Got [] (skip cs)) (cond (is_text q c) (with_front c (closed q cs)) (Stop unexpected (c ∷ cs)))) (text_no_quote q c e)
-    ∙ ap (λ x. cond x (with_front c (closed q cs)) (Stop unexpected (c ∷ cs))) e
+    ap (λ x. cond x (Got [] (skip cs)) (cond (is_text q c) (with_prefix c (closed q cs)) (Stop unexpected (c ∷ cs)))) (text_no_quote q c e)
+    ∙ ap (λ x. cond x (with_prefix c (closed q cs)) (Stop unexpected (c ∷ cs))) e
 
 pub closed_goes : (q : ℕ) (v blank rest : List ℕ) → Each (is_text q) v → Each is_blank blank → Ends not_blank rest → closed q (v ++ (q ∷ (blank ++ rest))) ≡ Got v rest
 closed_goes q [] blank rest h b e = closed_end q (blank ++ rest) ∙ ap (Got []) (skip_blanks blank rest b e)
-closed_goes q (c ∷ cs) blank rest h b e = closed_on q c (cs ++ (q ∷ (blank ++ rest))) h.0 ∙ ap (with_front c) (closed_goes q cs blank rest h.1 b e)
+closed_goes q (c ∷ cs) blank rest h b e = closed_on q c (cs ++ (q ∷ (blank ++ rest))) h.0 ∙ ap (with_prefix c) (closed_goes q cs blank rest h.1 b e)
 
 pub closed_complete : (q : ℕ) (p rest : List ℕ) (v : List ℕ) → Closed q p v → Ends not_blank rest → closed q (p ++ rest) ≡ Got v rest
 closed_complete q p rest v h e = ap (λ x. closed q (x ++ rest)) h.3 ∙ (ap (closed q) (append_assoc v (q ∷ h.0) rest) ∙ closed_goes q v h.0 rest h.1 h.2 e)
 
-pub closed_more : (q c : ℕ) (cs : List ℕ) → is_text q c ≡ true → (x : Res (List ℕ)) → Outcome (Closed q) not_blank (closed q) cs x → Outcome (Closed q) not_blank (closed q) (c ∷ cs) (with_front c x)
+pub closed_more : (q c : ℕ) (cs : List ℕ) → is_text q c ≡ true → (x : Res (List ℕ)) → Outcome (Closed q) not_blank (closed q) cs x → Outcome (Closed q) not_blank (closed q) (c ∷ cs) (with_prefix c x)
 closed_more q c cs t (Got v rest) o = record { taken = c ∷ o.taken; whole = ap (λ x. c ∷ x) o.whole; phrase = (o.phrase.0, (t, o.phrase.1), o.phrase.2, ap (λ x. c ∷ x) o.phrase.3); ends = o.ends }
 closed_more q c cs t (Stop why rest) o = record {
   taken = c ∷ o.taken;
   whole = ap (λ x. c ∷ x) o.whole;
   opens = λ _. opened o.taken o.opens;
-  fixed = λ d m e other. closed_on q c (o.taken ++ d ∷ other) t ∙ ap (with_front c) (o.fixed d m e other);
+  fixed = λ d m e other. closed_on q c (o.taken ++ d ∷ other) t ∙ ap (with_prefix c) (o.fixed d m e other);
 }
   where
     opened : (p : List ℕ) → (Filled p → Opens (Closed q) p) → Opens (Closed q) (c ∷ p)
     opened [] f = (q ∷ [], c ∷ [], ([], (t, tt), tt, refl))
     opened (d ∷ ds) f = let w = f tt in (w.0, c ∷ w.1, (w.2.0, (t, w.2.1), w.2.2, ap (λ x. c ∷ x) w.2.3))
 
-pub closed_head : (q c : ℕ) (cs : List ℕ) → Outcome (Closed q) not_blank (closed q) cs (closed q cs) → (a b : Bool) → eqb c q ≡ a → is_text q c ≡ b → Outcome (Closed q) not_blank (closed q) (c ∷ cs) (cond a (Got [] (skip cs)) (cond b (with_front c (closed q cs)) (Stop unexpected (c ∷ cs))))
+pub closed_head : (q c : ℕ) (cs : List ℕ) → Outcome (Closed q) not_blank (closed q) cs (closed q cs) → (a b : Bool) → eqb c q ≡ a → is_text q c ≡ b → Outcome (Closed q) not_blank (closed q) (c ∷ cs) (cond a (Got [] (skip cs)) (cond b (with_prefix c (closed q cs)) (Stop unexpected (c ∷ cs))))
 closed_head q c cs o true b e f = let s = skips cs in record { taken = q ∷ s.blank; whole = ap (λ x. x ∷ cs) (eqb-true c q e) ∙ ap (λ x. q ∷ x) s.whole; phrase = (s.blank, tt, s.each, refl); ends = s.ends }
 closed_head q c cs o false true e f = closed_more q c cs f (closed q cs) o
 closed_head q c cs o false false e f = record {
@@ -55,8 +55,8 @@ closed_head q c cs o false false e f = record {
   whole = refl;
   opens = λ h. absurd h;
   fixed = λ d m h other. let same : c ≡ d = cc in
-      ap (λ x. cond x (Got [] (skip other)) (cond (is_text q d) (with_front d (closed q other)) (Stop unexpected (d ∷ other)))) (subst (λ x. eqb x q ≡ false) same e)
-      ∙ ap (λ x. cond x (with_front d (closed q other)) (Stop unexpected (d ∷ other))) (subst (λ x. is_text q x ≡ false) same f);
+      ap (λ x. cond x (Got [] (skip other)) (cond (is_text q d) (with_prefix d (closed q other)) (Stop unexpected (d ∷ other)))) (subst (λ x. eqb x q ≡ false) same e)
+      ∙ ap (λ x. cond x (with_prefix d (closed q other)) (Stop unexpected (d ∷ other))) (subst (λ x. is_text q x ≡ false) same f);
 }
 
 pub closed_outcome : (q : ℕ) (text : List ℕ) → Outcome (Closed q) not_blank (closed q) text (closed q text)
@@ -82,25 +82,25 @@ run_goes k [] [] h l e = empty k
     empty zero = refl
     empty (suc k) = refl
 run_goes zero [] (c ∷ cs) h l e = ap (λ x. cond x (Stop long (c ∷ cs)) (Got [] (c ∷ cs))) (opposite (is_key c) e)
-run_goes (suc k) [] (c ∷ cs) h l e = ap (λ x. cond x (with_front c (run k cs)) (Got [] (c ∷ cs))) (opposite (is_key c) e)
+run_goes (suc k) [] (c ∷ cs) h l e = ap (λ x. cond x (with_prefix c (run k cs)) (Got [] (c ∷ cs))) (opposite (is_key c) e)
 run_goes zero (c ∷ cs) rest h l e = absurd (omega arith)
 run_goes (suc k) (c ∷ cs) rest h l e =
-    ap (λ x. cond x (with_front c (run k (cs ++ rest))) (Got [] (c ∷ cs ++ rest))) h.0
-    ∙ ap (with_front c) (run_goes k cs rest h.1 (omega arith) e)
+    ap (λ x. cond x (with_prefix c (run k (cs ++ rest))) (Got [] (c ∷ cs ++ rest))) h.0
+    ∙ ap (with_prefix c) (run_goes k cs rest h.1 (omega arith) e)
 
 -- the run, what stops it, and whether the limit did
 abbrev pub Ran : ℕ → List ℕ → Res (List ℕ) → Type 0
 Ran k text (Got v rest) = (text ≡ v ++ rest) × Each is_key v × (length v ≤ k) × Ends not_key rest
 Ran k text (Stop why rest) = (taken : List ℕ) × (text ≡ taken ++ rest) × Each is_key taken × (length taken ≤ k) × ((c : ℕ) (m : List ℕ) → rest ≡ c ∷ m → (other : List ℕ) → run k (taken ++ c ∷ other) ≡ Stop why (c ∷ other)) × Filled rest
 
-pub ran_more : (k c : ℕ) (cs : List ℕ) → is_key c ≡ true → (x : Res (List ℕ)) → Ran k cs x → Ran (suc k) (c ∷ cs) (with_front c x)
+pub ran_more : (k c : ℕ) (cs : List ℕ) → is_key c ≡ true → (x : Res (List ℕ)) → Ran k cs x → Ran (suc k) (c ∷ cs) (with_prefix c x)
 ran_more k c cs t (Got v rest) o = (ap (λ x. c ∷ x) o.0, (t, o.1), omega arith, o.3)
 ran_more k c cs t (Stop why rest) o = (
   c ∷ o.0,
   ap (λ x. c ∷ x) o.1,
   (t, o.2),
   omega arith,
-  λ d m e other. ap (λ x. cond x (with_front c (run k (o.0 ++ d ∷ other))) (Got [] (c ∷ o.0 ++ d ∷ other))) t ∙ ap (with_front c) (o.4 d m e other),
+  λ d m e other. ap (λ x. cond x (with_prefix c (run k (o.0 ++ d ∷ other))) (Got [] (c ∷ o.0 ++ d ∷ other))) t ∙ ap (with_prefix c) (o.4 d m e other),
   o.5,
 )
 
@@ -108,7 +108,7 @@ pub ran_full : (c : ℕ) (cs : List ℕ) (b : Bool) → is_key c ≡ b → Ran z
 ran_full c cs true e = ([], refl, tt, omega arith, (λ d m h other. let same : c ≡ d = cc in ap (λ x. cond x (Stop long (d ∷ other)) (Got [] (d ∷ other))) (subst (λ x. is_key x ≡ true) same e)), tt)
 ran_full c cs false e = (refl, tt, omega arith, ap not e)
 
-pub ran_head : (k c : ℕ) (cs : List ℕ) → Ran k cs (run k cs) → (b : Bool) → is_key c ≡ b → Ran (suc k) (c ∷ cs) (cond b (with_front c (run k cs)) (Got [] (c ∷ cs)))
+pub ran_head : (k c : ℕ) (cs : List ℕ) → Ran k cs (run k cs) → (b : Bool) → is_key c ≡ b → Ran (suc k) (c ∷ cs) (cond b (with_prefix c (run k cs)) (Got [] (c ∷ cs)))
 ran_head k c cs o true e = ran_more k c cs e (run k cs) o
 ran_head k c cs o false e = (refl, tt, omega arith, ap not e)
 

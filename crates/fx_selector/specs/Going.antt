@@ -3,7 +3,7 @@ use Rattle.std.specs.Prelude.{◌≡◌, ℕ, zero, suc, ◌<◌, ◌≤◌, Lis
 use Rattle.fx_selector.specs.Reading.{spent, Res, Got, bind, mapped, mark, stop, go_on, series}
 
 abbrev pub with_list : {A : Type 0} → List A → Res (List A) → Res (List A)
-with_list front x = bind x (λ v rest. Got (front ++ v) rest)
+with_list prefix x = bind x (λ v rest. Got (prefix ++ v) rest)
 
 -- behind an operand, where so many more may come
 abbrev pub going : {A : Type 0} → (List ℕ → Res A) → ℕ → List ℕ → ℕ → A → List ℕ → Res (List A)

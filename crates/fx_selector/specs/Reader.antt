@@ -19,25 +19,47 @@ with_string f text = bind (keyword with_word text) (λ _. led (mapped f string))
 abbrev pub in_set : (List (List ℕ) → Tree) → ℕ → List ℕ → Res Tree
 in_set f n text = bind (keyword in_word text) (λ _. led (mapped f (set n)))
 
+-- the tests, from their first mark or word on
+abbrev pub equal_test : List ℕ → List ℕ → Res Tree
+equal_test k text = bind (mark (61 ∷ 61 ∷ []) text) (λ _. mapped (equal k) string)
+
+abbrev pub unequal_test : List ℕ → List ℕ → Res Tree
+unequal_test k text = bind (mark (33 ∷ 61 ∷ []) text) (λ _. mapped (unequal k) string)
+
+abbrev pub outside_test : ℕ → List ℕ → List ℕ → Res Tree
+outside_test n k text = bind (keyword not_word text) (λ _. led (in_set (outside k) n))
+
+abbrev pub contains_test : List ℕ → List ℕ → Res Tree
+contains_test k text = bind (keyword contains_word text) (λ _. led (mapped (contains k) string))
+
+abbrev pub starts_test : List ℕ → List ℕ → Res Tree
+starts_test k text = bind (keyword starts_word text) (λ _. led (with_string (starts k)))
+
+abbrev pub ends_test : List ℕ → List ℕ → Res Tree
+ends_test k text = bind (keyword ends_word text) (λ _. led (with_string (ends k)))
+
 abbrev pub word_test : ℕ → List ℕ → List ℕ → Res Tree
 word_test n k =
     choose (λ c. eqb c 105) (in_set (within k) n)
-    (choose (λ c. eqb c 110) (λ x. bind (keyword not_word x) (λ _. led (in_set (outside k) n)))
-    (choose (λ c. eqb c 99) (λ x. bind (keyword contains_word x) (λ _. led (mapped (contains k) string)))
-    (choose (λ c. eqb c 115) (λ x. bind (keyword starts_word x) (λ _. led (with_string (starts k))))
-    (λ x. bind (keyword ends_word x) (λ _. led (with_string (ends k)))))))
+    (choose (λ c. eqb c 110) (outside_test n k)
+    (choose (λ c. eqb c 99) (contains_test k)
+    (choose (λ c. eqb c 115) (starts_test k) (ends_test k))))
 
 abbrev pub test : ℕ → List ℕ → List ℕ → Res Tree
-test n k = choose (λ c. eqb c 61) (λ x. bind (mark (61 ∷ 61 ∷ []) x) (λ _. mapped (equal k) string))
-    (choose (λ c. eqb c 33) (λ x. bind (mark (33 ∷ 61 ∷ []) x) (λ _. mapped (unequal k) string))
-    (word_test n k))
+test n k = choose (λ c. eqb c 61) (equal_test k) (choose (λ c. eqb c 33) (unequal_test k) (word_test n k))
+
+-- `()`, and `(key)`
+abbrev pub bare_call : Tree → List ℕ → Res Tree
+bare_call t text = bind (mark (40 ∷ []) text) (λ _. mapped (λ _. t) (mark (41 ∷ [])))
+
+abbrev pub key_call : ℕ → List ℕ → Res Tree
+key_call limit text = bind (mark (40 ∷ []) text) (λ _. λ y. bind (word limit y) (λ k. led (mapped (λ _. has k) (mark (41 ∷ [])))))
 
 abbrev pub call : ℕ → List ℕ → List ℕ → Res Tree
 call limit w =
-    pick (same_bytes w all_word) (λ x. bind (mark (40 ∷ []) x) (λ _. mapped (λ _. all) (mark (41 ∷ []))))
-    (pick (same_bytes w global_word) (λ x. bind (mark (40 ∷ []) x) (λ _. mapped (λ _. global) (mark (41 ∷ []))))
-    (pick (same_bytes w has_word) (λ x. bind (mark (40 ∷ []) x) (λ _. λ y. bind (word limit y) (λ k. led (mapped (λ _. has k) (mark (41 ∷ []))))))
-    (stop unexpected)))
+    pick (same_bytes w all_word) (bare_call all)
+    (pick (same_bytes w global_word) (bare_call global)
+    (pick (same_bytes w has_word) (key_call limit) (stop unexpected)))
 
 abbrev pub atom : ℕ → ℕ → List ℕ → Res Tree
 atom limit n text = bind (word limit text) (λ w. led (choose (λ c. eqb c 40) (call limit w) (test n w)))

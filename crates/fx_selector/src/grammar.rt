@@ -1,10 +1,10 @@
 //! The grammar, by recursive descent.
-ghost use Rattle.std.specs.Prelude.{◌≡◌, ◌<◌, ◌≤◌, ◌+◌, length, IfOk, map, ℕ, true, false, [], ◌∷◌};
+ghost use Rattle.std.specs.Prelude.{◌≡◌, ◌<◌, ◌≤◌, ◌+◌, length, IfOk, List, map, ℕ, true, false, [], ◌∷◌};
 ghost use Rattle.fx_selector.specs.Reading.{series, begins_with};
-ghost use Rattle.fx_selector.specs.Reader.{string, set, test, word_test, call, atom, and_of, or_of, not_of};
-ghost use Rattle.fx_selector.specs.Nodes.{tree};
+ghost use Rattle.fx_selector.specs.Reader.{string, set, in_set, equal_test, unequal_test, outside_test, contains_test, starts_test, ends_test, test, word_test, bare_call, key_call, call, atom, and_of, or_of, not_of};
+ghost use Rattle.fx_selector.specs.Nodes.{tree, label_tree};
 ghost use Rattle.fx_selector.specs.Language.{same_bytes};
-ghost use Rattle.fx_selector.specs.Tree.{set_of};
+ghost use Rattle.fx_selector.specs.Tree.{Tree, has, within, set_of};
 ghost use Rattle.fx_selector.specs.Gives.{Gives};
 
 use crate::fault::{Fault, ParseError};
@@ -89,23 +89,54 @@ pub fn not_at<'a>(
     ensures shorter { IfOk result (λ x. length x.1.now < length rest.now) }
 {
     if begins(b'!', rest) {
-        if depth == 0 {
-            return Err(ParseError::At(Fault::TooDeep, rest.len()));
-        }
-        let after = mark_of(b"!", rest)?;
-        let (inner, end) = not_at(alloc, limit, depth - 1, after)?;
-        return Ok((Node::Not(Box::new(alloc, inner)?), end));
+        return negated_at(alloc, limit, depth, rest);
     }
     if begins(b'(', rest) {
-        if depth == 0 {
-            return Err(ParseError::At(Fault::TooDeep, rest.len()));
-        }
-        let after = mark_of(b"(", rest)?;
-        let (inner, behind) = or_at(alloc, limit, depth - 1, after)?;
-        let end = mark_of(b")", behind)?;
-        return Ok((inner, end));
+        return group_at(alloc, limit, depth, rest);
     }
     atom_at(alloc, limit, rest)
+}
+
+/// A `!` and what it negates.
+#[cycle(descent)]
+fn negated_at<'a>(
+    alloc: Global,
+    limit: usize,
+    depth: usize,
+    rest: &'a [u8],
+) -> Result<(Node, &'a [u8]), ParseError>
+    requires { begins_with 33 rest.now ≡ true }
+    ensures reads { (n : ℕ) → length rest.now < n → Gives (λ x. tree x.0) (λ x. x.1.now) result (not_of limit n depth rest.now) }
+    ensures shorter { IfOk result (λ x. length x.1.now < length rest.now) }
+{
+    if depth == 0 {
+        return Err(ParseError::At(Fault::TooDeep, rest.len()));
+    }
+    let after = mark_of(b"!", rest)?;
+    let (inner, end) = not_at(alloc, limit, depth - 1, after)?;
+    Ok((Node::Not(Box::new(alloc, inner)?), end))
+}
+
+/// A `(` and what stands in it.
+#[cycle(descent)]
+fn group_at<'a>(
+    alloc: Global,
+    limit: usize,
+    depth: usize,
+    rest: &'a [u8],
+) -> Result<(Node, &'a [u8]), ParseError>
+    requires other { begins_with 33 rest.now ≡ false }
+    requires open { begins_with 40 rest.now ≡ true }
+    ensures reads { (n : ℕ) → length rest.now < n → Gives (λ x. tree x.0) (λ x. x.1.now) result (not_of limit n depth rest.now) }
+    ensures shorter { IfOk result (λ x. length x.1.now < length rest.now) }
+{
+    if depth == 0 {
+        return Err(ParseError::At(Fault::TooDeep, rest.len()));
+    }
+    let after = mark_of(b"(", rest)?;
+    let (inner, behind) = or_at(alloc, limit, depth - 1, after)?;
+    let end = mark_of(b")", behind)?;
+    Ok((inner, end))
 }
 
 pub fn atom_at<'a>(
@@ -119,10 +150,10 @@ pub fn atom_at<'a>(
     let (word, behind) = word_of(alloc, limit, rest)?;
     let after = past_blanks(behind);
     if begins(b'(', after) {
-        call_at(alloc, limit, word.bytes(), after)
-    } else {
-        test_at(alloc, word, after)
+        return call_at(alloc, limit, word.bytes(), after);
     }
+    let (test, end) = test_at(alloc, after)?;
+    Ok((Node::Label(word, test), end))
 }
 
 fn same_word(a: &[u8], b: &[u8]) -> bool
@@ -141,22 +172,37 @@ fn call_at<'a>(
     ensures shorter { IfOk result (λ x. length x.1.now < length rest.now) }
 {
     if same_word(word, b"all") {
-        let after = mark_of(b"(", rest)?;
-        let end = mark_of(b")", after)?;
-        return Ok((Node::All, end));
+        return Ok((Node::All, bare_at(rest)?));
     }
     if same_word(word, b"global") {
-        let after = mark_of(b"(", rest)?;
-        let end = mark_of(b")", after)?;
-        return Ok((Node::Global, end));
+        return Ok((Node::Global, bare_at(rest)?));
     }
     if same_word(word, b"has") {
-        let after = mark_of(b"(", rest)?;
-        let (key, behind) = word_of(alloc, limit, after)?;
-        let end = mark_of(b")", past_blanks(behind))?;
+        let (key, end) = keyed_at(alloc, limit, rest)?;
         return Ok((Node::Label(key, Test::Present), end));
     }
     Err(ParseError::At(Fault::Unexpected, rest.len()))
+}
+
+/// `()`, behind a word that says it all.
+fn bare_at<'a>(rest: &'a [u8]) -> Result<&'a [u8], ParseError>
+    ensures reads { (t : Tree) → Gives (λ _. t) (λ r. r.now) result (bare_call t rest.now) }
+    ensures shorter { IfOk result (λ r. length r.now < length rest.now) }
+{
+    let after = mark_of(b"(", rest)?;
+    let end = mark_of(b")", after)?;
+    Ok(end)
+}
+
+/// `(key)`.
+fn keyed_at<'a>(alloc: Global, limit: usize, rest: &'a [u8]) -> Result<(Text, &'a [u8]), ParseError>
+    ensures reads { Gives (λ x. has x.0) (λ x. x.1.now) result (key_call limit rest.now) }
+    ensures shorter { IfOk result (λ x. length x.1.now < length rest.now) }
+{
+    let after = mark_of(b"(", rest)?;
+    let (key, behind) = word_of(alloc, limit, after)?;
+    let end = mark_of(b")", past_blanks(behind))?;
+    Ok((key, end))
 }
 
 /// The values, distinct and ascending.
@@ -183,56 +229,102 @@ pub fn set_at<'a>(alloc: Global, rest: &'a [u8]) -> Result<(Vec<Text>, &'a [u8])
     Ok((ascending(values), end))
 }
 
-fn test_at<'a>(alloc: Global, key: Text, rest: &'a [u8]) -> Result<(Node, &'a [u8]), ParseError>
-    ensures reads { (n : ℕ) → length rest.now < n → Gives (λ x. tree x.0) (λ x. x.1.now) result (test n key rest.now) }
+/// What is asked of the label at a key.
+fn test_at<'a>(alloc: Global, rest: &'a [u8]) -> Result<(Test, &'a [u8]), ParseError>
+    ensures reads { (k : List ℕ) (n : ℕ) → length rest.now < n → Gives (λ x. label_tree k x.0) (λ x. x.1.now) result (test n k rest.now) }
     ensures shorter { IfOk result (λ x. length x.1.now < length rest.now) }
 {
     if begins(b'=', rest) {
-        let after = mark_of(b"==", rest)?;
-        let (value, end) = string_of(alloc, after)?;
-        return Ok((Node::Label(key, Test::Equal(value)), end));
+        return equal_at(alloc, rest);
     }
     if begins(b'!', rest) {
-        let after = mark_of(b"!=", rest)?;
-        let (value, end) = string_of(alloc, after)?;
-        return Ok((Node::Label(key, Test::Unequal(value)), end));
+        return unequal_at(alloc, rest);
     }
-    word_test_at(alloc, key, rest)
+    word_test_at(alloc, rest)
 }
 
-/// The tests that begin with a word.
-fn word_test_at<'a>(
-    alloc: Global,
-    key: Text,
-    rest: &'a [u8],
-) -> Result<(Node, &'a [u8]), ParseError>
-    ensures reads { (n : ℕ) → length rest.now < n → Gives (λ x. tree x.0) (λ x. x.1.now) result (word_test n key rest.now) }
+fn equal_at<'a>(alloc: Global, rest: &'a [u8]) -> Result<(Test, &'a [u8]), ParseError>
+    ensures reads { (k : List ℕ) → Gives (λ x. label_tree k x.0) (λ x. x.1.now) result (equal_test k rest.now) }
+    ensures shorter { IfOk result (λ x. length x.1.now < length rest.now) }
+{
+    let after = mark_of(b"==", rest)?;
+    let (value, end) = string_of(alloc, after)?;
+    Ok((Test::Equal(value), end))
+}
+
+fn unequal_at<'a>(alloc: Global, rest: &'a [u8]) -> Result<(Test, &'a [u8]), ParseError>
+    ensures reads { (k : List ℕ) → Gives (λ x. label_tree k x.0) (λ x. x.1.now) result (unequal_test k rest.now) }
+    ensures shorter { IfOk result (λ x. length x.1.now < length rest.now) }
+{
+    let after = mark_of(b"!=", rest)?;
+    let (value, end) = string_of(alloc, after)?;
+    Ok((Test::Unequal(value), end))
+}
+
+/// A test that begins with a word.
+fn word_test_at<'a>(alloc: Global, rest: &'a [u8]) -> Result<(Test, &'a [u8]), ParseError>
+    ensures reads { (k : List ℕ) (n : ℕ) → length rest.now < n → Gives (λ x. label_tree k x.0) (λ x. x.1.now) result (word_test n k rest.now) }
     ensures shorter { IfOk result (λ x. length x.1.now < length rest.now) }
 {
     if begins(b'i', rest) {
-        let after = keyword_of(b"in", rest)?;
-        let (values, end) = set_at(alloc, past_blanks(after))?;
-        return Ok((Node::Label(key, Test::Within(values)), end));
+        return within_at(alloc, rest);
     }
     if begins(b'n', rest) {
-        let after = keyword_of(b"not", rest)?;
-        let behind = keyword_of(b"in", past_blanks(after))?;
-        let (values, end) = set_at(alloc, past_blanks(behind))?;
-        return Ok((Node::Label(key, Test::Outside(values)), end));
+        return outside_at(alloc, rest);
     }
     if begins(b'c', rest) {
-        let after = keyword_of(b"contains", rest)?;
-        let (value, end) = string_of(alloc, past_blanks(after))?;
-        return Ok((Node::Label(key, Test::Contains(value)), end));
+        return contains_at(alloc, rest);
     }
     if begins(b's', rest) {
-        let after = keyword_of(b"starts", rest)?;
-        let behind = keyword_of(b"with", past_blanks(after))?;
-        let (value, end) = string_of(alloc, past_blanks(behind))?;
-        return Ok((Node::Label(key, Test::Starts(value)), end));
+        return starts_at(alloc, rest);
     }
+    ends_at(alloc, rest)
+}
+
+fn within_at<'a>(alloc: Global, rest: &'a [u8]) -> Result<(Test, &'a [u8]), ParseError>
+    ensures reads { (k : List ℕ) (n : ℕ) → length rest.now < n → Gives (λ x. label_tree k x.0) (λ x. x.1.now) result (in_set (within k) n rest.now) }
+    ensures shorter { IfOk result (λ x. length x.1.now < length rest.now) }
+{
+    let after = keyword_of(b"in", rest)?;
+    let (values, end) = set_at(alloc, past_blanks(after))?;
+    Ok((Test::Within(values), end))
+}
+
+fn outside_at<'a>(alloc: Global, rest: &'a [u8]) -> Result<(Test, &'a [u8]), ParseError>
+    ensures reads { (k : List ℕ) (n : ℕ) → length rest.now < n → Gives (λ x. label_tree k x.0) (λ x. x.1.now) result (outside_test n k rest.now) }
+    ensures shorter { IfOk result (λ x. length x.1.now < length rest.now) }
+{
+    let after = keyword_of(b"not", rest)?;
+    let behind = keyword_of(b"in", past_blanks(after))?;
+    let (values, end) = set_at(alloc, past_blanks(behind))?;
+    Ok((Test::Outside(values), end))
+}
+
+fn contains_at<'a>(alloc: Global, rest: &'a [u8]) -> Result<(Test, &'a [u8]), ParseError>
+    ensures reads { (k : List ℕ) → Gives (λ x. label_tree k x.0) (λ x. x.1.now) result (contains_test k rest.now) }
+    ensures shorter { IfOk result (λ x. length x.1.now < length rest.now) }
+{
+    let after = keyword_of(b"contains", rest)?;
+    let (value, end) = string_of(alloc, past_blanks(after))?;
+    Ok((Test::Contains(value), end))
+}
+
+fn starts_at<'a>(alloc: Global, rest: &'a [u8]) -> Result<(Test, &'a [u8]), ParseError>
+    ensures reads { (k : List ℕ) → Gives (λ x. label_tree k x.0) (λ x. x.1.now) result (starts_test k rest.now) }
+    ensures shorter { IfOk result (λ x. length x.1.now < length rest.now) }
+{
+    let after = keyword_of(b"starts", rest)?;
+    let behind = keyword_of(b"with", past_blanks(after))?;
+    let (value, end) = string_of(alloc, past_blanks(behind))?;
+    Ok((Test::Starts(value), end))
+}
+
+fn ends_at<'a>(alloc: Global, rest: &'a [u8]) -> Result<(Test, &'a [u8]), ParseError>
+    ensures reads { (k : List ℕ) → Gives (λ x. label_tree k x.0) (λ x. x.1.now) result (ends_test k rest.now) }
+    ensures shorter { IfOk result (λ x. length x.1.now < length rest.now) }
+{
     let after = keyword_of(b"ends", rest)?;
     let behind = keyword_of(b"with", past_blanks(after))?;
     let (value, end) = string_of(alloc, past_blanks(behind))?;
-    Ok((Node::Label(key, Test::Ends(value)), end))
+    Ok((Test::Ends(value), end))
 }

@@ -1,275 +1,232 @@
-//! Tables of texts, typed by hand from the language's public grammar.
+//! Rows are typed by hand from the language's public grammar.
 use crate::{Labels, Selector, SelectorFault};
-use fx_base::{Counter, Text};
+use fx_base::{Counter, Memory, Text};
 use std::alloc::{AllocError, Global};
 use std::test::Fail;
 
 /// Texts, and their canonical texts.
-const TEXTS: [(&[u8], &[u8]); 27] = [
-    (b"", b"all()"),
-    (b" \t", b"all()"),
-    (b"all ( )", b"all()"),
-    (b"global()", b"global()"),
-    (b"has( b )", b"has(b)"),
-    (b"a=='x'", b"a == \"x\""),
-    (b"a != 'x'", b"a != \"x\""),
-    (b"a in{\"x\"}", b"a in {\"x\"}"),
-    (b"a in { }", b"a in {}"),
-    (b"a in {'c','a', 'c','b'}", b"a in {\"a\", \"b\", \"c\"}"),
-    (
-        b"a  not\tin {'b','ab','a'}",
-        b"a not in {\"a\", \"ab\", \"b\"}",
-    ),
-    (b"a contains 'x'", b"a contains \"x\""),
-    (b"a starts with 'x'", b"a starts with \"x\""),
-    (b"a ends  with ''", b"a ends with \"\""),
-    (b"all == \"x\"", b"all == \"x\""),
-    (b"not not in {\"a\"}", b"not not in {\"a\"}"),
-    (b"in in {}", b"in in {}"),
-    (b"a == 'it\"s'", b"a == 'it\"s'"),
-    (b"a == \"it's\"", b"a == \"it's\""),
-    (b"a == '\x80\xff'", b"a == \"\x80\xff\""),
-    (b"!!a == \"x\"", b"!!a == \"x\""),
-    (b"!(!a == \"x\")", b"!!a == \"x\""),
-    (b"(((a == \"x\")))", b"a == \"x\""),
-    (b"has(a)||has(b)&&has(c)", b"(has(a) || (has(b) && has(c)))"),
-    (
-        b"(has(a)||has(b))&&has(c)",
-        b"((has(a) || has(b)) && has(c))",
-    ),
-    (
-        b"has(a) && has(b) && has(c)",
-        b"(has(a) && has(b) && has(c))",
-    ),
-    (
-        b"a == 'x' && has(b) || !c in {\"z\",'y'}",
-        b"((a == \"x\" && has(b)) || !c in {\"y\", \"z\"})",
-    ),
-];
+const TEXTS: &str = " => all()
+ \t => all()
+all ( ) => all()
+global() => global()
+has( b ) => has(b)
+a=='x' => a == \"x\"
+a != 'x' => a != \"x\"
+a in{\"x\"} => a in {\"x\"}
+a in { } => a in {}
+a in {'c','a', 'c','b'} => a in {\"a\", \"b\", \"c\"}
+a  not\tin {'b','ab','a'} => a not in {\"a\", \"ab\", \"b\"}
+a contains 'x' => a contains \"x\"
+a starts with 'x' => a starts with \"x\"
+a ends  with '' => a ends with \"\"
+all == \"x\" => all == \"x\"
+not not in {\"a\"} => not not in {\"a\"}
+in in {} => in in {}
+a == 'it\"s' => a == 'it\"s'
+a == \"it's\" => a == \"it's\"
+a == 'é' => a == \"é\"
+!!a == \"x\" => !!a == \"x\"
+!(!a == \"x\") => !!a == \"x\"
+(((a == \"x\"))) => a == \"x\"
+has(a)||has(b)&&has(c) => (has(a) || (has(b) && has(c)))
+(has(a)||has(b))&&has(c) => ((has(a) || has(b)) && has(c))
+has(a) && has(b) && has(c) => (has(a) && has(b) && has(c))
+a == 'x' && has(b) || !c in {\"z\",'y'} => ((a == \"x\" && has(b)) || !c in {\"y\", \"z\"})";
 
 /// Texts with a byte after which no selector goes on, or that end too early, and its place.
-const UNEXPECTED: [(&[u8], u32); 17] = [
-    (b"a ==", 4),
-    (b"a b", 2),
-    (b"foo(", 3),
-    (b"ainx", 4),
-    (b"a inx", 4),
-    (b"a notin {'x'}", 5),
-    (b"a in {\"x\",}", 10),
-    (b"a in {,}", 6),
-    (b"a == \"x\" & b", 10),
-    (b"a == \"x\ty\"", 7),
-    (b"a == \"x\x7f\"", 7),
-    (b"a == 'x\"", 8),
-    (b"has(a) has(b)", 7),
-    (b"has()", 4),
-    (b"(has(a)", 7),
-    (b"has(a))", 6),
-    (b"!", 1),
-];
+const UNEXPECTED: &str = "a == => 4
+a b => 2
+foo( => 3
+ainx => 4
+a inx => 4
+a notin {'x'} => 5
+a in {\"x\",} => 10
+a in {,} => 6
+a == \"x\" & b => 10
+a == \"x\ty\" => 7
+a == \"x\x7f\" => 7
+a == 'x\" => 8
+has(a) has(b) => 7
+has() => 4
+(has(a) => 7
+has(a)) => 6
+! => 1";
+
+/// How a text begins, a byte, how often it follows, how the text ends, and its fault.
+struct Limit(&'static str, u8, usize, &'static str, Option<SelectorFault>);
 
 const DEEP: Option<SelectorFault> = Some(SelectorFault::TooDeep { at: 64 });
 
-/// A front, a byte, how often it stands behind the front, what follows, and the fault.
-const LIMITS: [(&[u8], u8, usize, &[u8], Option<SelectorFault>); 13] = [
-    (b"", b'!', 64, b"all()", None),
-    (b"", b'!', 65, b"all()", DEEP),
-    (b"", b'(', 64, b"!all()", DEEP),
-    (b"!", b'(', 64, b"all()", DEEP),
-    (
-        b"",
-        b'(',
-        64,
-        b"all(",
-        Some(SelectorFault::Unexpected { at: 68 }),
-    ),
-    (b"has(", b'a', 512, b")", None),
-    (
-        b"has(",
-        b'a',
-        513,
-        b")",
-        Some(SelectorFault::KeyTooLong { at: 516 }),
-    ),
-    (b"", b'a', 512, b" == 'x'", None),
-    (
-        b"",
-        b'a',
-        513,
-        b" == 'x'",
-        Some(SelectorFault::KeyTooLong { at: 512 }),
-    ),
-    (
-        b"",
-        b'a',
-        513,
-        b"(",
-        Some(SelectorFault::KeyTooLong { at: 512 }),
-    ),
-    (b"", b' ', 65_536, b"", None),
-    (b"", b' ', 65_537, b"", Some(SelectorFault::TooLong)),
-    (b"?", b' ', 65_536, b"", Some(SelectorFault::TooLong)),
+const NO_CALL: Option<SelectorFault> = Some(SelectorFault::Unexpected { at: 68 });
+
+const LONG_ASKED: Option<SelectorFault> = Some(SelectorFault::KeyTooLong { at: 516 });
+
+const LONG_KEY: Option<SelectorFault> = Some(SelectorFault::KeyTooLong { at: 512 });
+
+const LONG: Option<SelectorFault> = Some(SelectorFault::TooLong);
+
+const LIMITS: [Limit; 13] = [
+    Limit("", b'!', 64, "all()", None),
+    Limit("", b'!', 65, "all()", DEEP),
+    Limit("", b'(', 64, "!all()", DEEP),
+    Limit("!", b'(', 64, "all()", DEEP),
+    Limit("", b'(', 64, "all(", NO_CALL),
+    Limit("has(", b'a', 512, ")", None),
+    Limit("has(", b'a', 513, ")", LONG_ASKED),
+    Limit("", b'a', 512, " == 'x'", None),
+    Limit("", b'a', 513, " == 'x'", LONG_KEY),
+    Limit("", b'a', 513, "(", LONG_KEY),
+    Limit("", b' ', 65_536, "", None),
+    Limit("", b' ', 65_537, "", LONG),
+    Limit("?", b' ', 65_536, "", LONG),
 ];
 
 /// Selectors, and whether they hold where `a` is `xyz` and no `b` is there.
-const TRUTH: [(&[u8], bool); 25] = [
-    (b"all()", true),
-    (b"global()", true),
-    (b"!all()", false),
-    (b"has(a)", true),
-    (b"has(b)", false),
-    (b"a == 'xyz'", true),
-    (b"a == 'xy'", false),
-    (b"b == ''", false),
-    (b"a != 'xyz'", false),
-    (b"b != 'xyz'", true),
-    (b"a in {'q', 'xyz'}", true),
-    (b"b in {'xyz'}", false),
-    (b"a not in {'xyz'}", false),
-    (b"b not in {'xyz'}", true),
-    (b"a contains 'y'", true),
-    (b"a contains 'xz'", false),
-    (b"a contains ''", true),
-    (b"a starts with 'xy'", true),
-    (b"a starts with 'y'", false),
-    (b"a ends with 'yz'", true),
-    (b"a ends with 'y'", false),
-    (b"has(b) && has(b) || has(a)", true),
-    (b"has(b) && (has(b) || has(a))", false),
-    (b"!b == 'x'", true),
-    (b"!b != 'x'", false),
-];
+const TRUTH: &str = "all() => true
+global() => true
+!all() => false
+has(a) => true
+has(b) => false
+a == 'xyz' => true
+a == 'xy' => false
+b == '' => false
+a != 'xyz' => false
+b != 'xyz' => true
+a in {'q', 'xyz'} => true
+b in {'xyz'} => false
+a not in {'xyz'} => false
+b not in {'xyz'} => true
+a contains 'y' => true
+a contains 'xz' => false
+a contains '' => true
+a starts with 'xy' => true
+a starts with 'y' => false
+a ends with 'yz' => true
+a ends with 'y' => false
+has(b) && has(b) || has(a) => true
+has(b) && (has(b) || has(a)) => false
+!b == 'x' => true
+!b != 'x' => false";
 
-/// A text with one byte many times in its midst.
-fn stretched(
-    alloc: Global,
-    front: &[u8],
-    byte: u8,
-    count: usize,
-    back: &[u8],
-) -> Result<Vec<u8>, AllocError> {
-    let mut text = Vec::from_slice(alloc, front)?;
-    for _ in 0..count {
-        text.push(byte)?;
-    }
-    text.extend_from_slice(back)?;
-    Ok(text)
+/// What stands before and behind a row's arrow.
+fn halves(row: &str) -> (&str, &str) {
+    row.split_once(" => ").unwrap_or((row, ""))
 }
 
-/// Whether the text has this canonical text, which reads as the same selector.
-fn is_canonical(alloc: Global, text: &[u8], wanted: &[u8]) -> Result<bool, SelectorFault> {
-    let selector = Selector::parse(alloc, text)?;
-    let again = Selector::parse(alloc, wanted)?;
+// ---- reading
+
+fn canonical(alloc: Global, text: &str) -> Result<Text, SelectorFault> {
+    let selector = Selector::parse(alloc, text.as_bytes())?;
     match selector.canonical(alloc) {
-        Ok(canonical) => Ok(canonical.bytes() == wanted && again == selector),
+        Ok(canonical) => Ok(canonical),
         Err(_) => Err(SelectorFault::Memory),
     }
 }
 
 #[test]
-fn texts_with_their_canonical_texts(rt: HostRuntime) -> Result<(), Fail> {
-    let a = rt.alloc();
-    for (text, wanted) in &TEXTS {
-        assert!(rt; is_canonical(a, text, wanted)?, "{text:?}");
+fn texts_have_their_canonical_texts(rt: HostRuntime) -> Result<(), Fail> {
+    for row in TEXTS.lines() {
+        let (text, want) = halves(row);
+        let found = canonical(rt.alloc(), text)?;
+        assert_eq!(rt; found.bytes(), want.as_bytes(), "{row}");
     }
     Ok(())
 }
 
+fn place(alloc: Global, text: &str) -> Result<String, AllocError> {
+    match Selector::parse(alloc, text.as_bytes()) {
+        Err(SelectorFault::Unexpected { at }) => format!(in alloc; "{at}"),
+        _ => Ok(String::new(alloc)),
+    }
+}
+
 #[test]
-fn faults_with_their_places(rt: HostRuntime) -> Result<(), Fail> {
-    let a = rt.alloc();
-    for (text, at) in &UNEXPECTED {
-        assert_eq!(rt;
-            Selector::parse(a, text).err(),
-            Some(SelectorFault::Unexpected { at: *at })
-        );
+fn faults_have_their_places(rt: HostRuntime) -> Result<(), Fail> {
+    for row in UNEXPECTED.lines() {
+        let (text, want) = halves(row);
+        let found = place(rt.alloc(), text)?;
+        assert_eq!(rt; found.as_str(), want, "{row}");
     }
     Ok(())
+}
+
+fn text_at(alloc: Global, limit: &Limit) -> Result<Vec<u8>, AllocError> {
+    let mut text = Vec::from_slice(alloc, limit.0.as_bytes())?;
+    for _ in 0..limit.2 {
+        text.push(limit.1)?;
+    }
+    text.extend_from_slice(limit.3.as_bytes())?;
+    Ok(text)
 }
 
 #[test]
 fn limits(rt: HostRuntime) -> Result<(), Fail> {
-    let a = rt.alloc();
-    for (front, byte, count, back, fault) in &LIMITS {
-        let text = stretched(a, front, *byte, *count, back)?;
-        assert_eq!(rt; Selector::parse(a, &text).err(), *fault);
+    for (row, limit) in LIMITS.iter().enumerate() {
+        let text = text_at(rt.alloc(), limit)?;
+        assert_eq!(rt;
+            Selector::parse(rt.alloc(), &text).err(),
+            limit.4,
+            "row {row}"
+        );
     }
     Ok(())
+}
+
+// ---- truth
+
+fn labels(alloc: Global) -> Result<Labels, Fail> {
+    let mut given = Labels::new(alloc);
+    given.put(b"a", b"xyz")?;
+    let mut labels = Labels::new(alloc);
+    labels.put(b"a", b"old")?;
+    labels.put_all(&given)?;
+    Ok(labels.clone()?)
 }
 
 #[test]
 fn truth(rt: HostRuntime) -> Result<(), Fail> {
-    let a = rt.alloc();
-    let mut labels = Labels::new(a);
-    labels.put(b"a", b"old")?;
-    labels.put(b"a", b"xyz")?;
-    assert_eq!(rt; labels.get(b"a"), Some(b"xyz".as_slice()));
-    assert_eq!(rt; labels.get(b"b"), None);
-    assert!(rt; labels.clone()? == labels);
+    let labels = labels(rt.alloc())?;
     let mut ticks = Counter::new();
-    for (text, wanted) in &TRUTH {
+    for row in TRUTH.lines() {
+        let (text, want) = halves(row);
+        let selector = Selector::parse(rt.alloc(), text.as_bytes())?;
         assert_eq!(rt;
-            Selector::parse(a, text)?.matches(&labels, &mut ticks),
-            *wanted
+            selector.matches(&labels, &mut ticks),
+            want == "true",
+            "{row}"
         );
     }
-    assert_eq!(rt; ticks.count(), 25);
     Ok(())
 }
 
+// ---- selectors that are built
+
+fn is_spelled(alloc: Global, selector: &Selector, text: &str) -> Result<bool, Memory> {
+    Ok(selector.canonical(alloc)?.bytes() == text.as_bytes())
+}
+
 #[test]
-fn built_selectors(rt: HostRuntime) -> Result<(), Fail> {
-    let a = rt.alloc();
-    let selector = Selector::parse(a, b"all() && global() || !k not in {'v'}")?;
-    let namespace = selector.rewrite_namespace(a)?;
-    assert_eq!(rt;
-        namespace.canonical(a)?.bytes(),
-        b"((has(projectcalico.org/namespace) && !has(projectcalico.org/namespace)) || !pcns.k not in {\"v\"})".as_slice()
-    );
-    let account = Selector::parse(a, b"k == 'v'")?.rewrite_service_account(a)?;
-    assert_eq!(rt;
-        account.canonical(a)?.bytes(),
-        b"pcsa.k == \"v\"".as_slice()
-    );
-    let everyone = Selector::parse(a, b"")?.rewrite_service_account(a)?;
-    assert_eq!(rt;
-        everyone.canonical(a)?.bytes(),
-        b"has(projectcalico.org/serviceaccount)".as_slice()
-    );
-    assert_eq!(rt;
-        Selector::and(a, Vec::new(a))?.canonical(a)?.bytes(),
-        b"all()".as_slice()
-    );
+fn namespaces_and_accounts(rt: HostRuntime) -> Result<(), Fail> {
+    let alloc = rt.alloc();
+    let selector = Selector::parse(alloc, b"all() && !k in {'v'}")?.clone()?;
+    let namespace = selector.rewrite_namespace(alloc)?;
+    let text = "(has(projectcalico.org/namespace) && !pcns.k in {\"v\"})";
+    assert!(rt; is_spelled(alloc, &namespace, text)?);
+    let account = selector.rewrite_service_account(alloc)?;
+    let text = "(has(projectcalico.org/serviceaccount) && !pcsa.k in {\"v\"})";
+    assert!(rt; is_spelled(alloc, &account, text)?);
     Ok(())
 }
 
 #[test]
 fn parts_and_their_and(rt: HostRuntime) -> Result<(), Fail> {
-    let a = rt.alloc();
-    let values = vec![in a;
-        Text::new(a, b"y")?,
-        Text::new(a, b"x")?,
-        Text::new(a, b"y")?,
-    ]?;
-    let equal = Selector::equal(a, b"k", b"v")?;
-    assert_eq!(rt; equal.canonical(a)?.bytes(), b"k == \"v\"".as_slice());
-    let within = Selector::one_of(a, b"k", &values, false)?;
-    assert_eq!(rt;
-        within.canonical(a)?.bytes(),
-        b"k in {\"x\", \"y\"}".as_slice()
-    );
-    let outside = Selector::one_of(a, b"k", &values, true)?;
-    assert_eq!(rt;
-        outside.canonical(a)?.bytes(),
-        b"k not in {\"x\", \"y\"}".as_slice()
-    );
-    let absent = Selector::has_key(a, b"k", true)?;
-    let one = Selector::and(a, vec![in a; Selector::has_key(a, b"k", false)?]?)?;
-    assert_eq!(rt; one.canonical(a)?.bytes(), b"has(k)".as_slice());
-    let two = Selector::and(a, vec![in a; equal, absent]?)?;
-    assert_eq!(rt;
-        two.canonical(a)?.bytes(),
-        b"(k == \"v\" && !has(k))".as_slice()
-    );
+    let alloc = rt.alloc();
+    let values = vec![in alloc; Text::new(alloc, b"y")?, Text::new(alloc, b"x")?]?;
+    let equal = Selector::equal(alloc, b"k", b"v")?;
+    let outside = Selector::one_of(alloc, b"k", &values, true)?;
+    let absent = Selector::has_key(alloc, b"k", true)?;
+    let all = Selector::and(alloc, vec![in alloc; equal, outside, absent]?)?;
+    let text = "(k == \"v\" && k not in {\"x\", \"y\"} && !has(k))";
+    assert!(rt; is_spelled(alloc, &all, text)?);
     Ok(())
 }

@@ -1,4 +1,4 @@
-//! The tokens, each read from the front of a text.
+//! The tokens, each read where a text begins.
 ghost use Rattle.std.specs.Prelude.{◌≡◌, ◌<◌, ◌≤◌, ◌+◌, length, IfOk, IsTrue, ◌↔◌, true};
 ghost use Rattle.fx_selector.specs.Phrase.{is_blank, is_key, is_quote, is_text};
 ghost use Rattle.fx_selector.specs.Reading.{skip, mark, word, closed, run, begins_with};

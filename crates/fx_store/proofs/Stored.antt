@@ -17,8 +17,9 @@ use Rattle.fx_model.specs.declared.resources.Update.TheVariants.{Put, Delete}
 use Rattle.fx_model.specs.Resources.{after, after_put, after_delete}
 use Rattle.fx_model.specs.Formed.{is_formed}
 use Rattle.fx_model.specs.Claims.{claims_of, claims_at, all_claims, clash}
-use Rattle.fx_model.proofs.ClaimsCounted.{times-at, times-put}
-use Rattle.fx_model.proofs.ClaimsApart.{none_claimed}
+use Rattle.fx_laws.proofs.ClaimsCounted.{times-at, times-put}
+use Rattle.fx_laws.proofs.Clashing.{clash-put}
+use Rattle.fx_laws.proofs.ClaimsApart.{none_claimed}
 
 module _ (dg : Digest) (R : Resources) (k : Key) (r : Registry) where
   -- what other keys claim
@@ -32,18 +33,24 @@ module _ (dg : Digest) (R : Resources) (k : Key) (r : Registry) where
     without : HoldsClaims r (all_claims dg R) → HoldsClaims r (old ++ rest)
     without h = subst (λ l. HoldsClaims r (l ++ rest)) (sym own) (keeps_parts h)
 
-    -- what is found of the first clash is found of the update's
-    pub clash_of_put : (P : Option Clash → Type 0) (u : Update) (x : Item) → u ≡ Put k x → new ≡ claims_of dg R.node k x → HoldsClaims r (all_claims dg R) → ((kept : List Claim) → HoldsClaims r (old ++ kept) → P (first_clash kept new)) → P (clash dg R u)
-    clash_of_put P u x is wanted h found =
-        subst P (ap (first_clash rest) wanted ∙ ap (clash dg R) (sym is)) (found rest (without h))
+    -- the first clash of what is put, among what other keys claim
+    clash_among : (x : Item) → new ≡ claims_of dg R.node k x → is_formed (Put k x) ≡ true → first_clash rest new ≡ clash dg R (Put k x)
+    clash_among x wanted formed = ap (first_clash rest) wanted ∙ sym (clash-put dg R k x formed)
+
+    -- what is found of it is found of the update's
+    pub clash_of_put : (P : Option Clash → Type 0) (x : Item) → new ≡ claims_of dg R.node k x → is_formed (Put k x) ≡ true → HoldsClaims r (all_claims dg R) → ((kept : List Claim) → HoldsClaims r (old ++ kept) → P (first_clash kept new)) → P (clash dg R (Put k x))
+    clash_of_put P x wanted formed h found = subst P (clash_among x wanted formed) (found rest (without h))
 
     module _ (s : Registry) (swapped : (kept : List Claim) → HoldsClaims r (old ++ kept) → first_clash kept new ≡ None → HoldsClaims s (kept ++ new)) (h : HoldsClaims r (all_claims dg R)) (u : Update) where
       pub kept_after_put : (x : Item) → u ≡ Put k x → new ≡ claims_of dg R.node k x → is_formed u ≡ true → clash dg R u ≡ None → HoldsClaims s (all_claims dg (after R u))
       kept_after_put x is wanted formed free =
           subst (λ v. HoldsClaims s (all_claims dg (after R v))) (sym is)
-          (put_in x (ap is_formed (sym is) ∙ formed)
-          (subst (λ l. HoldsClaims s (rest ++ l)) wanted (swapped rest (without h) (ap (first_clash rest) wanted ∙ ap (clash dg R) (sym is) ∙ free))))
+          (put_in x is_put
+          (subst (λ l. HoldsClaims s (rest ++ l)) wanted (swapped rest (without h) (clash_among x wanted is_put ∙ ap (clash dg R) (sym is) ∙ free))))
         where
+          is_put : is_formed (Put k x) ≡ true
+          is_put = ap is_formed (sym is) ∙ formed
+
           put_in : (x : Item) → is_formed (Put k x) ≡ true → HoldsClaims s (rest ++ claims_of dg R.node k x) → HoldsClaims s (all_claims dg (after_put R k x))
           put_in x formed g =
               HoldsClaims-same s (rest ++ claims_of dg R.node k x) (all_claims dg (after_put R k x)) g

@@ -7,7 +7,7 @@ ghost use Rattle.fx_model.specs.Claims.{item_text, profile_claims, interface_cla
 
 use fx_base::{KernelName, Memory, Seq, Text};
 use fx_model::{Endpoint, Item, ItemKey, Key, Resources};
-use fx_names::{DigestFunction, Claim, DigestRule, Namer, Prefix};
+use fx_names::{Claim, DigestFunction, DigestRule, Namer, Prefix};
 use std::alloc::Global;
 
 /// What a resource at a key claims on this node.

@@ -1,9 +1,8 @@
 //! The resources, and the registry of the names that they claim.
-ghost use Rattle.std.specs.Prelude.{◌≡◌, false, true, None, OnOk, option_map};
-ghost use Rattle.std.specs.FinMap as map;
+ghost use Rattle.std.specs.Prelude.{◌≡◌, true, None, OnOk, option_map};
 ghost use Rattle.fx_names.specs.Digests.{Digest};
 ghost use Rattle.fx_names.specs.Holding.{HoldsClaims};
-ghost use Rattle.fx_model.specs.Resources.{after};
+ghost use Rattle.fx_model.specs.Resources.{empty_resources, after};
 ghost use Rattle.fx_model.specs.Formed.{is_formed};
 ghost use Rattle.fx_model.specs.Claims.{all_claims, clash};
 ghost use Rattle.fx_store.specs.Keeping.{KeepsClaims};
@@ -14,7 +13,7 @@ use crate::checking::check_claims;
 use crate::claims::{claims_at, claims_of};
 use crate::fault::CheckFault;
 use fx_base::{Memory, Text};
-use fx_model::{Endpoint, Key, Profile, Resources, Update};
+use fx_model::{Endpoint, Item, Key, Profile, Resources, Update};
 use fx_names::{DigestFunction, DigestRule, Namer, Registry};
 use std::alloc::Global;
 
@@ -36,8 +35,8 @@ pub enum Found<'a> {
 impl Store {
     /// No resources yet, and not in sync.
     pub fn new(alloc: Global, node: Text) -> Store
-        ensures resources { result.resources ≡ record { node = node; in_sync = false; endpoints = map.empty; profiles = map.empty } }
-        ensures keeps { (dg : Digest) → KeepsClaims dg result }
+        ensures resources { result.resources ≡ empty_resources node }
+        ensures claims { (dg : Digest) → KeepsClaims dg result }
     {
         Store {
             alloc,
@@ -67,12 +66,27 @@ impl Store {
         update: &Update,
         namer: &Namer<R, F>,
     ) -> Result<(), CheckFault>
-        requires { KeepsClaims R.digest_of self.now }
+        requires claims { KeepsClaims R.digest_of self.now }
+        requires formed { is_formed update.now ≡ true }
         ensures { Tells result (clash R.digest_of self.now.resources update.now) }
     {
-        let Update::Put { key, item } = update else {
-            return Ok(());
-        };
+        match update {
+            Update::InSync => Ok(()),
+            Update::Put { key, item } => self.check_put(key, item, namer),
+            Update::Delete { .. } => Ok(()),
+        }
+    }
+
+    fn check_put<R: DigestRule, F: DigestFunction<R> + Drop>(
+        &self,
+        key: &Key,
+        item: &Item,
+        namer: &Namer<R, F>,
+    ) -> Result<(), CheckFault>
+        requires claims { KeepsClaims R.digest_of self.now }
+        requires formed { is_formed (Update.Put key.now item.now) ≡ true }
+        ensures { Tells result (clash R.digest_of self.now.resources (Update.Put key.now item.now)) }
+    {
         let old = claims_at(self.alloc, &self.resources, key, namer)?;
         let new = claims_of(self.alloc, &self.resources.node, key, item, namer)?;
         check_claims(self.alloc, &self.registry, &old, &new)?;
@@ -85,11 +99,11 @@ impl Store {
         update: Update,
         namer: &Namer<R, F>,
     ) -> Result<(), Memory>
-        requires keeps { KeepsClaims R.digest_of self.old }
+        requires claims { KeepsClaims R.digest_of self.old }
         requires free { clash R.digest_of self.old.resources update ≡ None }
         requires formed { is_formed update ≡ true }
         ensures made { OnOk result (self.new.resources ≡ after self.old.resources update) }
-        ensures keeps { OnOk result (KeepsClaims R.digest_of self.new) }
+        ensures claims { OnOk result (KeepsClaims R.digest_of self.new) }
     {
         self.swap_claims(&update, namer)?;
         self.resources.apply(update)?;
@@ -102,11 +116,11 @@ impl Store {
         update: &Update,
         namer: &Namer<R, F>,
     ) -> Result<(), Memory>
-        requires keeps { KeepsClaims R.digest_of self.old }
+        requires claims { KeepsClaims R.digest_of self.old }
         requires free { clash R.digest_of self.old.resources update.now ≡ None }
         requires formed { is_formed update.now ≡ true }
-        ensures kept { self.new.resources ≡ self.old.resources }
-        ensures keeps { OnOk result (HoldsClaims self.new.registry (all_claims R.digest_of (after self.old.resources update.now))) }
+        ensures resources { self.new.resources ≡ self.old.resources }
+        ensures claims { OnOk result (HoldsClaims self.new.registry (all_claims R.digest_of (after self.old.resources update.now))) }
     {
         match update {
             Update::InSync => {}

@@ -25,7 +25,7 @@ use Rattle.fx_tables.specs.Leads.{LeadsElsewhere, AllLeadElsewhere, NoneLeadsTo}
 use Rattle.fx_tables.specs.Names.{NamesElse, MatchesNameElse, AllNameElse, NoneNames}
 use Rattle.fx_tables.specs.Kept.{AreKept}
 use Rattle.fx_model.proofs.Orders.{exact_member}
-use Rattle.fx_model.proofs.Leading.{ranked-empty, closed-empty, ranked-write, closed-write, shaped-write}
+use Rattle.fx_model.proofs.ChainWrites.{ranked-empty, closed-empty, ranked-write, closed-write, shaped-write}
 
 no_rules : {A : Type 0} (rules : List ChainRule) → None ≡ Some rules → A
 no_rules rules e = cc

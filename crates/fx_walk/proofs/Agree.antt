@@ -10,12 +10,15 @@ use Rattle.fx_model.specs.Machine.{holds, Reasons, Trace, nothing_noted, last_re
 use Rattle.fx_model.specs.Walk.{Ended, Accepted, Dropped, Left, Through, verdict_of, noted_in, over_chain}
 use Rattle.fx_model.specs.Policy.{Outcome}
 use Rattle.fx_model.specs.ViewPolicy.{TablesAgree, IsPolicyAnswer, PolicyIsKept}
-use Rattle.fx_model.proofs.Leading.{ranked-tables}
-use Rattle.fx_model.proofs.ViewClosed.{view_of-closed}
+use Rattle.fx_walk.specs.Serving.{IsServedApart}
+use Rattle.fx_walk.specs.PacketPaths.{WalkIsRun, PacketHasOnePath, first_walk}
+use Rattle.fx_laws.proofs.Leading.{ranked-tables}
+use Rattle.fx_laws.proofs.ViewClosed.{view_of-closed}
 use Rattle.fx_walk.proofs.Walks.{ended-run, one-end}
 use Rattle.fx_walk.proofs.Seen.{seen_by, traced_reasons}
 use Rattle.fx_walk.proofs.Families.{tables_render}
 use Rattle.fx_walk.proofs.FirstPackets.{machine_agrees}
+use Rattle.fx_walk.proofs.Servable.{served_apart}
 use Rattle.fx_walk.proofs.Wanted.{view_is_policy, on_workloads, formed_rules}
 
 pub run_has_one_end : RunHasOneEnd
@@ -23,13 +26,29 @@ run_has_one_end tables a v w e f i j x y =
     let q = one-end {S = Reasons} last_reason (holds tables.sets a) tables.chains x.1 y.1 in
     (q.0, ap (λ (s : Reasons). s.egress) q.1, ap (λ (s : Reasons). s.ingress) q.1)
 
+pub walk_is_run : WalkIsRun
+walk_is_run tables a before ranked =
+    let start : Trace = record { hops = before; reasons = nothing_noted } in
+    let e : Ended Trace = first_walk tables a before in
+    ((noted_in e).reasons.side, ended-run hops_and_reasons (holds tables.sets a) tables.chains ranked start)
+
+pub one_path : PacketHasOnePath
+one_path tables a before after other v w e f i j x y =
+    let q = one-end {S = Trace} hops_and_reasons (holds tables.sets a) tables.chains x.1 y.1 in (
+      ap (λ (t : Trace). t.hops) q.1,
+      q.0,
+      ap (λ (t : Trace). t.reasons.egress) q.1,
+      ap (λ (t : Trace). t.reasons.ingress) q.1,
+    )
+
 pub tables_agree : TablesAgree
 tables_agree v a closed on formed new = machine_agrees a v (tables_of v).chains (tables_render v) formed new on (ranked-tables v closed)
 
 pub policy_is_kept : PolicyIsKept
 policy_is_kept dg R a servable new =
-    subst (λ (x : Outcome). Decides (tables_of (view_of dg R)) a x.verdict x.egress x.ingress) (view_is_policy dg R a servable)
-    (tables_agree (view_of dg R) a (view_of-closed dg R) (on_workloads dg R a servable) (formed_rules dg R servable) new)
+    let apart : IsServedApart dg R = served_apart dg R servable in
+    subst (λ (x : Outcome). Decides (tables_of (view_of dg R)) a x.verdict x.egress x.ingress) (view_is_policy dg R a apart)
+    (tables_agree (view_of dg R) a (view_of-closed dg R) (on_workloads dg R a apart) (formed_rules dg R apart) new)
 
 module _ {S T : Type 0} (f : S → T) where
   verdict-seen : (e : Ended S) → verdict_of (seen_by f e) ≡ verdict_of e

@@ -12,26 +12,26 @@ use Rattle.fx_model.specs.Tables.{ChainName, Sets, forward}
 use Rattle.fx_model.specs.Rendering.{plain, set_mark, clear_mark, is_set, is_clear, all_blocks, this_block, positive_block, negative_block, joined, block_rules, block_match}
 use Rattle.fx_model.specs.Machine.{holds, hold_all, marked, Reasons, with_tag, last_reason}
 use Rattle.fx_model.specs.Walk.{Onward, Ended, over_rules}
-use Rattle.fx_walk.specs.Endings.{Keeps}
+use Rattle.fx_walk.specs.Endings.{KeepsBits}
 use Rattle.fx_walk.proofs.Walks.{walk_hit, walk_miss}
 use Rattle.fx_walk.proofs.Marks.{set_same, set_other, clear_same, clear_other, is_one, is_not_one, is_zero, is_not_zero}
 
-pub keeps_same : (m : ℕ) → Keeps m m
+pub keeps_same : (m : ℕ) → KeepsBits m m
 keeps_same m = record { accept = refl; pass = refl }
 
-pub keeps_on : (m n k : ℕ) → Keeps m n → Keeps n k → Keeps m k
+pub keeps_on : (m n k : ℕ) → KeepsBits m n → KeepsBits n k → KeepsBits m k
 keeps_on m n k f g = record { accept = g.accept ∙ f.accept; pass = g.pass ∙ f.pass }
 
-set_this_keeps : (m : ℕ) → Keeps m (marked m this_block this_block)
+set_this_keeps : (m : ℕ) → KeepsBits m (marked m this_block this_block)
 set_this_keeps m = record { accept = set_other m 19 16 (lit< tt) (lit< tt) (omega arith); pass = set_other m 19 17 (lit< tt) (lit< tt) (omega arith) }
 
-clear_this_keeps : (m : ℕ) → Keeps m (marked m 0 this_block)
+clear_this_keeps : (m : ℕ) → KeepsBits m (marked m 0 this_block)
 clear_this_keeps m = record { accept = clear_other m 19 16 (lit< tt) (lit< tt) (omega arith); pass = clear_other m 19 17 (lit< tt) (lit< tt) (omega arith) }
 
-set_all_keeps : (m : ℕ) → Keeps m (marked m all_blocks all_blocks)
+set_all_keeps : (m : ℕ) → KeepsBits m (marked m all_blocks all_blocks)
 set_all_keeps m = record { accept = set_other m 18 16 (lit< tt) (lit< tt) (omega arith); pass = set_other m 18 17 (lit< tt) (lit< tt) (omega arith) }
 
-clear_all_keeps : (m : ℕ) → Keeps m (marked m 0 all_blocks)
+clear_all_keeps : (m : ℕ) → KeepsBits m (marked m 0 all_blocks)
 clear_all_keeps m = record { accept = clear_other m 18 16 (lit< tt) (lit< tt) (omega arith); pass = clear_other m 18 17 (lit< tt) (lit< tt) (omega arith) }
 
 cond_both : (b : Bool) (x : ℕ) → cond b x x ≡ x
@@ -73,7 +73,7 @@ module _ (sets : Sets) (a : Packet) (call : ChainName → Onward Reasons) (c : C
 
   -- these rules go on to the rules behind them, keep the all-blocks bit if `ok`, and clear it otherwise
   abbrev pub DoesBlock : List ChainRule → Bool → Type 0
-  DoesBlock rs ok = (rest : List ChainRule) (p m : ℕ) (s : Reasons) → (q : ℕ) × (n : ℕ) × (walk p (rs ++ rest) m s ≡ walk q rest n s) × Keeps m n × (bit_at n 18 ≡ cond ok (bit_at m 18) 0)
+  DoesBlock rs ok = (rest : List ChainRule) (p m : ℕ) (s : Reasons) → (q : ℕ) × (n : ℕ) × (walk p (rs ++ rest) m s ≡ walk q rest n s) × KeepsBits m n × (bit_at n 18 ≡ cond ok (bit_at m 18) 0)
 
   no_block : DoesBlock [] true
   no_block rest p m s = (p, m, refl, keeps_same m, refl)
@@ -81,21 +81,21 @@ module _ (sets : Sets) (a : Packet) (call : ChainName → Onward Reasons) (c : C
   two_blocks : (rs ts : List ChainRule) (b c : Bool) → DoesBlock rs b → DoesBlock ts c → DoesBlock (rs ++ ts) (b && c)
   two_blocks rs ts b c f g rest p m s = both (f (ts ++ rest) p m s)
     where
-      both : (q : ℕ) × (n : ℕ) × (walk p (rs ++ (ts ++ rest)) m s ≡ walk q (ts ++ rest) n s) × Keeps m n × (bit_at n 18 ≡ cond b (bit_at m 18) 0) → (q : ℕ) × (n : ℕ) × (walk p ((rs ++ ts) ++ rest) m s ≡ walk q rest n s) × Keeps m n × (bit_at n 18 ≡ cond (b && c) (bit_at m 18) 0)
+      both : (q : ℕ) × (n : ℕ) × (walk p (rs ++ (ts ++ rest)) m s ≡ walk q (ts ++ rest) n s) × KeepsBits m n × (bit_at n 18 ≡ cond b (bit_at m 18) 0) → (q : ℕ) × (n : ℕ) × (walk p ((rs ++ ts) ++ rest) m s ≡ walk q rest n s) × KeepsBits m n × (bit_at n 18 ≡ cond (b && c) (bit_at m 18) 0)
       both x =
           let y = g rest x.0 x.1 s in
           (y.0, y.1, ap (λ l. walk p l m s) (append_assoc rs ts rest) ∙ x.2 ∙ y.2, keeps_on m x.1 y.1 x.3 y.3, y.4 ∙ ap (λ t. cond c t 0) x.4 ∙ cond_and b c (bit_at m 18))
 
   module _ (X : Type 0) (f : X → List Match) (test : X → Bool) (fits : (m : ℕ) (x : X) → hold_all (holds sets a) m (f x) ≡ test x) where
     -- an alternative that matches sets the this-block bit
-    any_set : (xs : List X) (rest : List ChainRule) (p m : ℕ) (s : Reasons) → (q : ℕ) × (n : ℕ) × (walk p (map (λ y. plain y (set_mark this_block)) (map f xs) ++ rest) m s ≡ walk q rest n s) × Keeps m n × (bit_at n 18 ≡ bit_at m 18) × (bit_at n 19 ≡ cond (list_any test xs) 1 (bit_at m 19))
+    any_set : (xs : List X) (rest : List ChainRule) (p m : ℕ) (s : Reasons) → (q : ℕ) × (n : ℕ) × (walk p (map (λ y. plain y (set_mark this_block)) (map f xs) ++ rest) m s ≡ walk q rest n s) × KeepsBits m n × (bit_at n 18 ≡ bit_at m 18) × (bit_at n 19 ≡ cond (list_any test xs) 1 (bit_at m 19))
     any_set [] rest p m s = (p, m, refl, keeps_same m, refl, refl)
     any_set (x ∷ xs) rest p m s = by_test (test x) refl (λ q n. any_set xs rest q n s)
       where
         after : List ChainRule
         after = map (λ y. plain y (set_mark this_block)) (map f xs) ++ rest
 
-        by_test : (b : Bool) → test x ≡ b → ((q n : ℕ) → (q' : ℕ) × (n' : ℕ) × (walk q (map (λ y. plain y (set_mark this_block)) (map f xs) ++ rest) n s ≡ walk q' rest n' s) × Keeps n n' × (bit_at n' 18 ≡ bit_at n 18) × (bit_at n' 19 ≡ cond (list_any test xs) 1 (bit_at n 19))) → (q : ℕ) × (n : ℕ) × (walk p (map (λ y. plain y (set_mark this_block)) (map f (x ∷ xs)) ++ rest) m s ≡ walk q rest n s) × Keeps m n × (bit_at n 18 ≡ bit_at m 18) × (bit_at n 19 ≡ cond (test x || list_any test xs) 1 (bit_at m 19))
+        by_test : (b : Bool) → test x ≡ b → ((q n : ℕ) → (q' : ℕ) × (n' : ℕ) × (walk q (map (λ y. plain y (set_mark this_block)) (map f xs) ++ rest) n s ≡ walk q' rest n' s) × KeepsBits n n' × (bit_at n' 18 ≡ bit_at n 18) × (bit_at n' 19 ≡ cond (list_any test xs) 1 (bit_at n 19))) → (q : ℕ) × (n : ℕ) × (walk p (map (λ y. plain y (set_mark this_block)) (map f (x ∷ xs)) ++ rest) m s ≡ walk q rest n s) × KeepsBits m n × (bit_at n 18 ≡ bit_at m 18) × (bit_at n 19 ≡ cond (test x || list_any test xs) 1 (bit_at m 19))
         by_test true h ih =
             let n1 = marked m this_block this_block in
             let y = ih (suc p) n1 in (
@@ -131,7 +131,7 @@ module _ (sets : Sets) (a : Packet) (call : ChainName → Onward Reasons) (c : C
         begun : walk p (positive_block (map f xs) ++ rest) m s ≡ walk (suc p) (alternatives ++ (z ∷ rest)) m1 s
         begun = plain_hit p [] 0 this_block ((alternatives ++ (z ∷ [])) ++ rest) m s refl ∙ ap (λ l. walk (suc p) l m1 s) (append_assoc alternatives (z ∷ []) rest)
 
-        by_any : (b : Bool) → list_any test xs ≡ b → (q : ℕ) × (n : ℕ) × (walk (suc p) (alternatives ++ (z ∷ rest)) m1 s ≡ walk q (z ∷ rest) n s) × Keeps m1 n × (bit_at n 18 ≡ bit_at m1 18) × (bit_at n 19 ≡ cond (list_any test xs) 1 (bit_at m1 19)) → (q : ℕ) × (n : ℕ) × (walk p (positive_block (map f xs) ++ rest) m s ≡ walk q rest n s) × Keeps m n × (bit_at n 18 ≡ cond (list_any test xs) (bit_at m 18) 0)
+        by_any : (b : Bool) → list_any test xs ≡ b → (q : ℕ) × (n : ℕ) × (walk (suc p) (alternatives ++ (z ∷ rest)) m1 s ≡ walk q (z ∷ rest) n s) × KeepsBits m1 n × (bit_at n 18 ≡ bit_at m1 18) × (bit_at n 19 ≡ cond (list_any test xs) 1 (bit_at m1 19)) → (q : ℕ) × (n : ℕ) × (walk p (positive_block (map f xs) ++ rest) m s ≡ walk q rest n s) × KeepsBits m n × (bit_at n 18 ≡ cond (list_any test xs) (bit_at m 18) 0)
         by_any true h y =
             let one : bit_at y.1 19 ≡ 1 = y.5 ∙ ap (λ t. cond t 1 (bit_at m1 19)) h in (
               suc y.0,
@@ -156,7 +156,7 @@ module _ (sets : Sets) (a : Packet) (call : ChainName → Onward Reasons) (c : C
         after : List ChainRule
         after = negative_block (map f xs) ++ rest
 
-        by_test : (b : Bool) → test x ≡ b → ((q n : ℕ) → (q' : ℕ) × (n' : ℕ) × (walk q (negative_block (map f xs) ++ rest) n s ≡ walk q' rest n' s) × Keeps n n' × (bit_at n' 18 ≡ cond (not (list_any test xs)) (bit_at n 18) 0)) → (q : ℕ) × (n : ℕ) × (walk p (negative_block (map f (x ∷ xs)) ++ rest) m s ≡ walk q rest n s) × Keeps m n × (bit_at n 18 ≡ cond (not (test x || list_any test xs)) (bit_at m 18) 0)
+        by_test : (b : Bool) → test x ≡ b → ((q n : ℕ) → (q' : ℕ) × (n' : ℕ) × (walk q (negative_block (map f xs) ++ rest) n s ≡ walk q' rest n' s) × KeepsBits n n' × (bit_at n' 18 ≡ cond (not (list_any test xs)) (bit_at n 18) 0)) → (q : ℕ) × (n : ℕ) × (walk p (negative_block (map f (x ∷ xs)) ++ rest) m s ≡ walk q rest n s) × KeepsBits m n × (bit_at n 18 ≡ cond (not (test x || list_any test xs)) (bit_at m 18) 0)
         by_test true h ih =
             let n1 = marked m 0 all_blocks in
             let y = ih (suc p) n1 in (
@@ -196,14 +196,14 @@ module _ (sets : Sets) (a : Packet) (call : ChainName → Onward Reasons) (c : C
       empty (x ∷ l) h e = cc
 
   -- the blocks of a rule lead to its main rule, whose match on them says what they asked
-  pub before_main : (bs : List (List ChainRule)) (ok : Bool) → Part bs ok → (rest : List ChainRule) (p m : ℕ) (s : Reasons) → (q : ℕ) × (n : ℕ) × (walk p (block_rules bs ++ rest) m s ≡ walk q rest n s) × Keeps m n × (hold_all (holds sets a) n (block_match bs) ≡ ok)
+  pub before_main : (bs : List (List ChainRule)) (ok : Bool) → Part bs ok → (rest : List ChainRule) (p m : ℕ) (s : Reasons) → (q : ℕ) × (n : ℕ) × (walk p (block_rules bs ++ rest) m s ≡ walk q rest n s) × KeepsBits m n × (hold_all (holds sets a) n (block_match bs) ≡ ok)
   before_main [] ok h rest p m s = (p, m, refl, keeps_same m, sym (h.1 refl))
   before_main (b ∷ bs) ok h rest p m s = by_ok ok refl (h.0 rest (suc p) (marked m all_blocks all_blocks) s)
     where
       m1 : ℕ
       m1 = marked m all_blocks all_blocks
 
-      by_ok : (t : Bool) → ok ≡ t → (q : ℕ) × (n : ℕ) × (walk (suc p) (joined (b ∷ bs) ++ rest) m1 s ≡ walk q rest n s) × Keeps m1 n × (bit_at n 18 ≡ cond ok (bit_at m1 18) 0) → (q : ℕ) × (n : ℕ) × (walk p (block_rules (b ∷ bs) ++ rest) m s ≡ walk q rest n s) × Keeps m n × (hold_all (holds sets a) n (block_match (b ∷ bs)) ≡ ok)
+      by_ok : (t : Bool) → ok ≡ t → (q : ℕ) × (n : ℕ) × (walk (suc p) (joined (b ∷ bs) ++ rest) m1 s ≡ walk q rest n s) × KeepsBits m1 n × (bit_at n 18 ≡ cond ok (bit_at m1 18) 0) → (q : ℕ) × (n : ℕ) × (walk p (block_rules (b ∷ bs) ++ rest) m s ≡ walk q rest n s) × KeepsBits m n × (hold_all (holds sets a) n (block_match (b ∷ bs)) ≡ ok)
       by_ok true e y = (
         y.0,
         y.1,

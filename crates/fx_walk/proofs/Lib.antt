@@ -14,4 +14,5 @@ pub mod Wanted
 pub mod Agree
 pub mod Whole
 mod KnownPaths
+mod Interfaces
 pub mod Servable

@@ -24,10 +24,10 @@ use Rattle.fx_model.specs.Formed.{implies, has_port_protocol, has_icmp_protocol,
 use Rattle.fx_model.specs.Tables.{ChainName, Sets, forward}
 use Rattle.fx_model.specs.Rendering.{negative_block, plain, tagged, set_mark, is_set, accept_mark, pass_mark, one_net, net_blocks, not_net_blocks, net_match, not_net_match, proto_match, icmp_match, PortChoice, port_choices, choice_alternative, port_blocks, in_set_match, listed_match, not_in_set_match, not_listed_match, set_match, blocks_of, block_rules, block_match, nets_match, sets_match, ports_match, main_matches, main_rules, is_void, rendered_rule, rendered_rules}
 use Rattle.fx_model.specs.Machine.{holds, hold_all, marked, Reasons, with_reason, last_reason}
-use Rattle.fx_model.specs.Walk.{Onward, Ended, Dropped, Left, Through}
+use Rattle.fx_model.specs.Walk.{Onward, Ended, Dropped, Left}
 use Rattle.fx_model.specs.Policy.{Answer, Silent, Passed, Allowed, Denied, answer_of, first_answer}
 use Rattle.fx_model.specs.ViewPolicy.{view_side_matches, view_rule_matches, met_view_rules}
-use Rattle.fx_walk.specs.Endings.{Keeps, EndsAs, IsClearFor, AllClearFor}
+use Rattle.fx_walk.specs.Endings.{KeepsBits, EndsAs, IsClearFor, AllClearFor}
 use Rattle.fx_walk.proofs.Walks.{walk_hit, walk-end}
 use Rattle.fx_walk.proofs.Marks.{set_same, set_other, is_one, is_not_one}
 use Rattle.fx_walk.proofs.Blocks.{keeps_same, keeps_on, only, walk, noted_as, miss, Part, part_none, part_one, part_join, positive_does, negative_does, before_main}
@@ -36,19 +36,19 @@ use Rattle.fx_walk.proofs.Criteria.{met, met-append, proto_truth, void_truth, on
 pub to_ends : (e f : Ended Reasons) (m : ℕ) (s : Reasons) (ans : Answer) → e ≡ f → EndsAs f m s ans → EndsAs e m s ans
 to_ends e f m s ans q h = subst (λ x. EndsAs x m s ans) (sym q) h
 
-ends_from : (e : Ended Reasons) (m n : ℕ) (s : Reasons) (ans : Answer) → Keeps m n → EndsAs e n s ans → EndsAs e m s ans
+ends_from : (e : Ended Reasons) (m n : ℕ) (s : Reasons) (ans : Answer) → KeepsBits m n → EndsAs e n s ans → EndsAs e m s ans
 ends_from e m n s Silent k h = (h.0, h.1, keeps_on m n h.0 k h.2)
 ends_from e m n s (Allowed why) k h = h
 ends_from e m n s (Denied why) k h = h
 ends_from e m n s Passed k h = h
 
-clear_kept : (x : Action) (m n : ℕ) → Keeps m n → IsClearFor x m → IsClearFor x n
+clear_kept : (x : Action) (m n : ℕ) → KeepsBits m n → IsClearFor x m → IsClearFor x n
 clear_kept action.Allow m n k h = tt
 clear_kept action.Deny m n k h = tt
 clear_kept action.Log m n k h = tt
 clear_kept action.Pass m n k h = k.pass ∙ h
 
-all_clear_kept : (rs : List ViewRule) (m n : ℕ) → Keeps m n → AllClearFor rs m → AllClearFor rs n
+all_clear_kept : (rs : List ViewRule) (m n : ℕ) → KeepsBits m n → AllClearFor rs m → AllClearFor rs n
 all_clear_kept [] m n k h = tt
 all_clear_kept (r ∷ rs) m n k h = (clear_kept r.action m n k h.0, all_clear_kept rs m n k h.1)
 
@@ -249,13 +249,13 @@ module _ (sets : Sets) (a : Packet) (call : ChainName → Onward Reasons) (c : C
   -- ---- the main rule
 
   -- a rule that marks and tells its reason
-  told_hit : (p : ℕ) (ms : List Match) (v k : ℕ) (why : Reason) (rs : List ChainRule) (m : ℕ) (s : Reasons) → hold_all (holds sets a) m ms ≡ true → goes p (tagged ms (target.Mark v k) why ∷ rs) m s ≡ goes (suc p) rs (marked m v k) (with_reason s.side why s)
-  told_hit p ms v k why rs m s h =
+  tagged_hit : (p : ℕ) (ms : List Match) (v k : ℕ) (why : Reason) (rs : List ChainRule) (m : ℕ) (s : Reasons) → hold_all (holds sets a) m ms ≡ true → goes p (tagged ms (target.Mark v k) why ∷ rs) m s ≡ goes (suc p) rs (marked m v k) (with_reason s.side why s)
+  tagged_hit p ms v k why rs m s h =
       walk_hit last_reason (holds sets a) call c p (tagged ms (target.Mark v k) why) rs m s h ∙ ap (λ t. goes (suc p) rs (marked m v k) t) (noted_as sets a call c inner p (tagged ms (target.Mark v k) why) s)
 
   -- a rule that tells its reason and drops
-  pub told_drop : (p : ℕ) (ms : List Match) (why : Reason) (rs : List ChainRule) (m : ℕ) (s : Reasons) → hold_all (holds sets a) m ms ≡ true → goes p (tagged ms target.Drop why ∷ rs) m s ≡ Dropped (with_reason s.side why s)
-  told_drop p ms why rs m s h =
+  pub tagged_drop : (p : ℕ) (ms : List Match) (why : Reason) (rs : List ChainRule) (m : ℕ) (s : Reasons) → hold_all (holds sets a) m ms ≡ true → goes p (tagged ms target.Drop why ∷ rs) m s ≡ Dropped (with_reason s.side why s)
+  tagged_drop p ms why rs m s h =
       walk_hit last_reason (holds sets a) call c p (tagged ms target.Drop why) rs m s h ∙ ap Dropped (noted_as sets a call c inner p (tagged ms target.Drop why) s)
 
   -- RETURN, where a bit is set
@@ -275,7 +275,7 @@ module _ (sets : Sets) (a : Packet) (call : ChainName → Onward Reasons) (c : C
 
   -- what rules say at the end of a walk that goes on behind them
   abbrev After : List ChainRule → ℕ → Reasons → Answer → Type 0
-  After rest m s ans = (q n : ℕ) → Keeps m n → EndsAs (goes q rest n s) n s ans
+  After rest m s ans = (q n : ℕ) → KeepsBits m n → EndsAs (goes q rest n s) n s ans
 
   abbrev log_rule : List Match → ChainRule
   log_rule ms = record { matches = ms; target = target.Log; tag = tag.Log }
@@ -285,11 +285,11 @@ module _ (sets : Sets) (a : Packet) (call : ChainName → Onward Reasons) (c : C
   main_step action.Allow ms why true rest p m s ans h z clear after =
       let n = marked m accept_mark accept_mark in
       let one : bit_at n 16 ≡ 1 = set_same m 16 (lit< tt) in
-      (n, told_hit p ms accept_mark accept_mark why (plain (is_set accept_mark ∷ []) target.Return ∷ rest) m s h ∙ return_hit (suc p) rest n (with_reason s.side why s) one, one)
+      (n, tagged_hit p ms accept_mark accept_mark why (plain (is_set accept_mark ∷ []) target.Return ∷ rest) m s h ∙ return_hit (suc p) rest n (with_reason s.side why s) one, one)
   main_step action.Allow ms why false rest p m s ans h z clear after =
       to_ends _ _ m s ans (miss sets a call c inner p (tagged ms (set_mark accept_mark) why) (plain (is_set accept_mark ∷ []) target.Return ∷ rest) m s h ∙ return_miss (suc p) rest m s z)
       (after (suc (suc p)) m (keeps_same m))
-  main_step action.Deny ms why true rest p m s ans h z clear after = told_drop p ms why rest m s h
+  main_step action.Deny ms why true rest p m s ans h z clear after = tagged_drop p ms why rest m s h
   main_step action.Deny ms why false rest p m s ans h z clear after =
       to_ends _ _ m s ans (miss sets a call c inner p (tagged ms target.Drop why) rest m s h) (after (suc p) m (keeps_same m))
   main_step action.Log ms why true rest p m s ans h z clear after =
@@ -302,7 +302,7 @@ module _ (sets : Sets) (a : Packet) (call : ChainName → Onward Reasons) (c : C
       let one : bit_at n 17 ≡ 1 = set_same m 17 (lit< tt) in (
         n,
         why,
-        told_hit p ms pass_mark pass_mark why (plain (is_set pass_mark ∷ []) target.Return ∷ rest) m s h ∙ bit_hit (suc p) 17 rest n (with_reason s.side why s) one,
+        tagged_hit p ms pass_mark pass_mark why (plain (is_set pass_mark ∷ []) target.Return ∷ rest) m s h ∙ bit_hit (suc p) 17 rest n (with_reason s.side why s) one,
         set_other m 17 16 (lit< tt) (lit< tt) (omega arith) ∙ z,
         one,
       )
@@ -320,7 +320,7 @@ module _ (sets : Sets) (a : Packet) (call : ChainName → Onward Reasons) (c : C
       main : List ChainRule
       main = main_rules r.action (main_matches r) why ++ rest
 
-      behind_blocks : r.never ≡ false → is_void r.protocol r.not_protocol ≡ false → (q : ℕ) × (n : ℕ) × (goes p (block_rules (blocks_of r) ++ main) m s ≡ goes q main n s) × Keeps m n × (hold_all (holds sets a) n (block_match (blocks_of r)) ≡ asked sets a r) → EndsAs (goes p ((block_rules (blocks_of r) ++ main_rules r.action (main_matches r) why) ++ rest) m s) m s (answer (view_rule_matches sets r a))
+      behind_blocks : r.never ≡ false → is_void r.protocol r.not_protocol ≡ false → (q : ℕ) × (n : ℕ) × (goes p (block_rules (blocks_of r) ++ main) m s ≡ goes q main n s) × KeepsBits m n × (hold_all (holds sets a) n (block_match (blocks_of r)) ≡ asked sets a r) → EndsAs (goes p ((block_rules (blocks_of r) ++ main_rules r.action (main_matches r) why) ++ rest) m s) m s (answer (view_rule_matches sets r a))
       behind_blocks never void y =
           let says : met sets a y.1 (main_matches r) ≡ view_rule_matches sets r a = main_truth sets a r y.1 formed void y.4 ∙ sym (ap (λ t. not t && criteria sets a r) never) in
           to_ends _ _ m s (answer (view_rule_matches sets r a)) (ap (λ l. goes p l m s) (append_assoc (block_rules (blocks_of r)) (main_rules r.action (main_matches r) why) rest) ∙ y.2)

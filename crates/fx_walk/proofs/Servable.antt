@@ -1,13 +1,12 @@
--- Formed resources with at most one local endpoint, whose claims don't clash, can be served.
-use Rattle.std.proofs.Common.{◌≡◌, ℕ, Bool, true, List, [], ◌∷◌, Some}
-use Rattle.std.specs.Prelude.{◌&&◌, nat_le, length}
+-- Of resources that can be served, each served endpoint has its own interface and each of their profiles its own key.
+use Rattle.std.proofs.Common.{◌≡◌, ℕ, Bool, true, List, [], ◌∷◌, Some, sym, ap, ◌∙◌}
 use Rattle.std.specs.List.{list_all, AllByRecursion}
 use Rattle.std.specs.Cmp.Lexicographic.{nat_list_cmp_total}
 use Rattle.std.specs.FinMap as maps
 use Rattle.fx_base.specs.Same.{both_pass}
 use Rattle.fx_base.proofs.Found.{of_entries}
 use Rattle.fx_base.proofs.KeyCases.{bytes_exact}
-use Rattle.fx_model.proofs.ClaimsOfKeys.{keys_apart}
+use Rattle.fx_laws.proofs.ClaimsOfKeys.{keys_apart}
 use Rattle.fx_model.proofs.Orders.{item_total, exact_item}
 use Rattle.fx_model.specs.declared.ids.ItemKey.{ItemKey}
 use Rattle.fx_model.specs.declared.resources.Endpoint.{Endpoint}
@@ -15,33 +14,38 @@ use Rattle.fx_model.specs.declared.resources.Profile.{Profile}
 use Rattle.fx_model.specs.declared.resources.Resources.{Resources}
 use Rattle.fx_model.specs.Resources.{is_local}
 use Rattle.fx_model.specs.Policy.{is_workload}
-use Rattle.fx_model.specs.Formed.{is_formed_endpoint, is_formed_profile, are_formed}
-use Rattle.fx_names.specs.Digests.{Digest}
-use Rattle.fx_model.specs.Claims.{IsClashFree}
-use Rattle.fx_model.specs.ViewPolicy.{HasLoneLocal, IsServable}
+use Rattle.fx_model.specs.Formed.{implies, is_formed_endpoint_entry, is_formed_profile, are_formed, has_workload_interface, have_workload_interfaces}
+use Rattle.fx_walk.specs.Serving.{ServedEndpointsAreApart}
+use Rattle.fx_walk.proofs.Interfaces.{same_key, one_interface}
 
 each : {A : Type 0} (p : A → Bool) (xs : List A) → list_all p xs ≡ true → AllByRecursion (λ x. p x ≡ true) xs
 each p [] h = tt
 each p (x ∷ xs) h = let b = both_pass (p x) (list_all p xs) h in (b.0, each p xs b.1)
 
--- an endpoint is formed, and so are a profile's name and rules
-module _ (R : Resources) (formed : are_formed R ≡ true) where
-  parts : (list_all (λ x. is_formed_endpoint x.1) (maps.entries R.endpoints) ≡ true) × (list_all (λ x. is_formed_profile x.1) (maps.entries R.profiles) ≡ true)
-  parts = both_pass (list_all (λ x. is_formed_endpoint x.1) (maps.entries R.endpoints)) (list_all (λ x. is_formed_profile x.1) (maps.entries R.profiles)) formed
+-- what each entry of endpoints passes
+entry_passes : (p : ItemKey × Endpoint → Bool) (R : Resources) → list_all p (maps.entries R.endpoints) ≡ true → (k : ItemKey) (e : Endpoint) → maps.get R.endpoints k ≡ Some e → p (k, e) ≡ true
+entry_passes p R all k e at = of_entries item_total exact_item (λ x. p x ≡ true) R.endpoints k e (each p (maps.entries R.endpoints) all) at
 
-  on_workload : (k : ItemKey) (e : Endpoint) → maps.get R.endpoints k ≡ Some e → is_workload e.iface ≡ true
-  on_workload k e at =
-      let one : is_formed_endpoint e ≡ true = of_entries item_total exact_item (λ x. is_formed_endpoint x.1 ≡ true) R.endpoints k e (each (λ x. is_formed_endpoint x.1) (maps.entries R.endpoints) parts.0) at in
-      (both_pass (nat_le (length e.iface) 15) (is_workload e.iface) one).1
+module _ (R : Resources) (formed : are_formed R ≡ true) where
+  parts : (list_all is_formed_endpoint_entry (maps.entries R.endpoints) ≡ true) × (list_all (λ x. is_formed_profile x.1) (maps.entries R.profiles) ≡ true)
+  parts = both_pass (list_all is_formed_endpoint_entry (maps.entries R.endpoints)) (list_all (λ x. is_formed_profile x.1) (maps.entries R.profiles)) formed
 
   rules_formed : (name : List ℕ) (p : Profile) → maps.get R.profiles name ≡ Some p → is_formed_profile p ≡ true
   rules_formed name p at =
       of_entries nat_list_cmp_total bytes_exact (λ x. is_formed_profile x.1 ≡ true) R.profiles name p (each (λ x. is_formed_profile x.1) (maps.entries R.profiles) parts.1) at
 
-pub lone_local : (dg : Digest) (R : Resources) → are_formed R ≡ true → HasLoneLocal R → IsClashFree dg R → IsServable dg R
-lone_local dg R formed lone free = record {
-  rules = rules_formed R formed;
-  on_workloads = λ k e at s. on_workload R formed k e at;
-  apart = λ k l e f at there s t same. lone k l e f at there (both_pass R.in_sync (is_local R e) s).1 (both_pass R.in_sync (is_local R f) t).1;
-  keys_apart = keys_apart dg R free;
+-- a local endpoint's interface
+local_workload : (R : Resources) → have_workload_interfaces R ≡ true → (k : ItemKey) (e : Endpoint) → maps.get R.endpoints k ≡ Some e → is_local R e ≡ true → is_workload e.iface ≡ true
+local_workload R all k e at here =
+    ap (λ b. implies b (is_workload e.iface)) (sym here) ∙ entry_passes (λ x. has_workload_interface R.node x.1) R all k e at
+
+pub served_apart : ServedEndpointsAreApart
+served_apart dg R servable = record {
+  rules = rules_formed R servable.formed;
+  on_workloads = λ k e at s. local_workload R servable.on_workloads k e at (both_pass R.in_sync (is_local R e) s).1;
+  apart = λ k l e f at there s t same.
+      let entry = parts R servable.formed in
+      same_key k l e f (entry_passes is_formed_endpoint_entry R entry.0 k e at) (entry_passes is_formed_endpoint_entry R entry.0 l f there)
+      (one_interface dg R servable.clash_free k l e f at there (both_pass R.in_sync (is_local R e) s).1 (both_pass R.in_sync (is_local R f) t).1 same);
+  keys_apart = keys_apart dg R servable.clash_free;
 }

@@ -32,13 +32,13 @@ use Rattle.fx_model.specs.Rendering.{plain, tagged, is_set, is_clear, accept_mar
 use Rattle.fx_model.specs.Tables.{ChainName, Chains, Sets, forward, policy_chain, policy_rules, policy_jumps, policy_side, profile_chain, profile_rules, profile_jumps, profile_side, present_or_missing, tier_rules, tiers_side, endpoint_chain, endpoint_rules, end_of, root_of, dispatch_rules}
 use Rattle.fx_model.specs.Machine.{holds, hold_all, marked, iface_at, state_in, rules_in, Reasons, with_reason, last_reason}
 use Rattle.fx_model.specs.Walk.{Onward, Ended, Accepted, Dropped, Left, Through, onward, after_jump, after_goto, over_rules, over_chain}
-use Rattle.fx_model.specs.Policy.{MetRule, Answer, Silent, Passed, Allowed, Denied, answer_of, first_answer, Decision, after_tier, tiers_verdict, or_rest, profile_verdict, profiles_verdict, is_workload}
+use Rattle.fx_model.specs.Policy.{MetRule, Answer, Silent, Passed, Allowed, Denied, answer_of, first_answer, Decision, end_of_tier, after_policies, tiers_verdict, or_rest, profile_verdict, profiles_verdict, is_workload}
 use Rattle.fx_model.specs.ViewPolicy.{met_view_rules, view_rule_matches, rules_of_policy, view_tier, missing_or_there, listed_of, view_listed, view_endpoint_verdict, HasFormedRules}
 use Rattle.fx_walk.proofs.Walks.{walk_hit, walk-end}
 use Rattle.fx_walk.proofs.Marks.{clear_same, clear_other, is_zero, is_not_zero}
 use Rattle.fx_walk.proofs.Blocks.{only, noted_as, plain_hit, miss}
 use Rattle.fx_walk.specs.Endings.{EndsAs}
-use Rattle.fx_walk.proofs.Rules.{told_drop, return_hit, return_miss, formed_parts, each_formed, all_clear, profile_clear, rules_end}
+use Rattle.fx_walk.proofs.Rules.{tagged_drop, return_hit, return_miss, formed_parts, each_formed, all_clear, profile_clear, rules_end}
 use Rattle.fx_walk.proofs.Families.{found, Renders}
 
 -- rules of profiles don't pass
@@ -164,7 +164,7 @@ module _ (a : Packet) (v : View) (chains : Chains) (given : Renders v chains) (f
 
         by_missing : (b : Bool) → rules_in chains (profile_chain d key) ≡ present_or_missing b pr.name (rendered_rules (reason.Profile pr.name) 1 (profile_side d pr)) → ConcludesAs (back_after p rs (call (suc n) (profile_chain d key) m s)) s (profile_verdict (missing_or_there b pr.name (met_view_rules v.sets a (reason.Profile pr.name) 1 (profile_side d pr))) rest)
         by_missing true is =
-            ap (back_after p rs) (called n (profile_chain d key) (tagged [] target.Drop (reason.MissingProfile pr.name) ∷ []) m s is ∙ told_drop v.sets a (call n) (profile_chain d key) (profile_inner d key) 1 [] (reason.MissingProfile pr.name) [] m s refl)
+            ap (back_after p rs) (called n (profile_chain d key) (tagged [] target.Drop (reason.MissingProfile pr.name) ∷ []) m s is ∙ tagged_drop v.sets a (call n) (profile_chain d key) (profile_inner d key) 1 [] (reason.MissingProfile pr.name) [] m s refl)
         by_missing false is =
             after_profile p rs (call (suc n) (profile_chain d key) m s) m s (first_answer (met_view_rules v.sets a (reason.Profile pr.name) 1 (profile_side d pr))) rest (never_passed v.sets a (reason.Profile pr.name) 1 (profile_side d pr) there) z
             (subst (λ x. EndsAs x m s (first_answer (met_view_rules v.sets a (reason.Profile pr.name) 1 (profile_side d pr)))) (sym (called n (profile_chain d key) _ m s is))
@@ -178,7 +178,7 @@ module _ (a : Packet) (v : View) (chains : Chains) (given : Renders v chains) (f
 
     -- the profiles in their order, and the end
     profiles_end : (d : Direction) (keys : List (List ℕ)) → Concluding (profile_jumps d keys) (profiles_verdict (map (view_listed v d a) keys))
-    profiles_end d [] p m s z = told_drop v.sets a (call (suc n)) c inner p [] reason.NoProfileRule [] m s refl
+    profiles_end d [] p m s z = tagged_drop v.sets a (call (suc n)) c inner p [] reason.NoProfileRule [] m s refl
     profiles_end d (key ∷ keys) p m s z =
         concludes_from _ _ s _ (jump_hit p [] (profile_chain d key) (back ∷ profile_jumps d keys) m s refl)
         (one_profile (suc p) d key (profile_jumps d keys) m s (profiles_verdict (map (view_listed v d a) keys)) z (profiles_end d keys) (maps.get v.profiles key) refl (given.at_profile d key))
@@ -200,9 +200,9 @@ module _ (a : Packet) (v : View) (chains : Chains) (given : Renders v chains) (f
 
     -- after a policy's chain, in its tier
     after_policy : (d : Direction) (name : List ℕ) (keys : List (List ℕ)) (rest : List ChainRule) (p : ℕ) (e : Ended Reasons) (m : ℕ) (s : Reasons) (x : Decision) (ans more : Answer) → bit_at m 16 ≡ 0 → bit_at m 17 ≡ 0 → EndsAs e m s ans
-        → ((k : ℕ) → bit_at k 16 ≡ 0 → bit_at k 17 ≡ 0 → ConcludesAs (walk (suc p) (policy_jumps d keys ++ end_rule name ∷ rest) k s) s (after_tier name more x))
+        → ((k : ℕ) → bit_at k 16 ≡ 0 → bit_at k 17 ≡ 0 → ConcludesAs (walk (suc p) (policy_jumps d keys ++ end_rule name ∷ rest) k s) s (after_policies more (end_of_tier name) x))
         → Concluding rest x
-        → ConcludesAs (back_after p (policy_jumps d keys ++ end_rule name ∷ rest) e) s (after_tier name (or_answer ans more) x)
+        → ConcludesAs (back_after p (policy_jumps d keys ++ end_rule name ∷ rest) e) s (after_policies (or_answer ans more) (end_of_tier name) x)
     after_policy d name keys rest p e m s x Silent more z y h next after =
         concludes_from _ _ s _ (ap (back_after p (policy_jumps d keys ++ end_rule name ∷ rest)) h.1 ∙ return_miss v.sets a (call (suc n)) c inner p (policy_jumps d keys ++ end_rule name ∷ rest) h.0 s (h.2.accept ∙ z))
         (next h.0 (h.2.accept ∙ z) (h.2.pass ∙ y))
@@ -227,12 +227,12 @@ module _ (a : Packet) (v : View) (chains : Chains) (given : Renders v chains) (f
 
     -- the policies of a tier, and the tier's end
     policies_end : (d : Direction) (name : List ℕ) (keys : List (List ℕ)) (rest : List ChainRule) (p m : ℕ) (s : Reasons) (x : Decision) → bit_at m 16 ≡ 0 → bit_at m 17 ≡ 0 → Concluding rest x
-        → ConcludesAs (walk p (policy_jumps d keys ++ end_rule name ∷ rest) m s) s (after_tier name (first_answer (policies_met d keys)) x)
+        → ConcludesAs (walk p (policy_jumps d keys ++ end_rule name ∷ rest) m s) s (after_policies (first_answer (policies_met d keys)) (end_of_tier name) x)
     policies_end d name [] rest p m s x z y after =
-        told_drop v.sets a (call (suc n)) c inner p (is_clear pass_mark ∷ []) (reason.EndOfTier name) rest m s (only v.sets a m (is_clear pass_mark) true (is_zero v.sets a m 17 y))
+        tagged_drop v.sets a (call (suc n)) c inner p (is_clear pass_mark ∷ []) (reason.EndOfTier name) rest m s (only v.sets a m (is_clear pass_mark) true (is_zero v.sets a m 17 y))
     policies_end d name (key ∷ keys) rest p m s x z y after =
         concludes_from _ _ s _ (jump_hit p (is_clear pass_mark ∷ []) (policy_chain d key) (back ∷ (policy_jumps d keys ++ end_rule name ∷ rest)) m s (only v.sets a m (is_clear pass_mark) true (is_zero v.sets a m 17 y)))
-        (subst (λ ans. ConcludesAs (back_after (suc p) (policy_jumps d keys ++ end_rule name ∷ rest) (call (suc n) (policy_chain d key) m s)) s (after_tier name ans x)) (sym (first-append (rules_of_policy v.sets d a (maps.get v.policies key)) (policies_met d keys)))
+        (subst (λ ans. ConcludesAs (back_after (suc p) (policy_jumps d keys ++ end_rule name ∷ rest) (call (suc n) (policy_chain d key) m s)) s (after_policies ans (end_of_tier name) x)) (sym (first-append (rules_of_policy v.sets d a (maps.get v.policies key)) (policies_met d keys)))
         (after_policy d name keys rest (suc p) (call (suc n) (policy_chain d key) m s) m s x (first_answer (rules_of_policy v.sets d a (maps.get v.policies key))) (first_answer (policies_met d keys)) z y
         (policy_ends d key m s z y (maps.get v.policies key) refl (given.at_policy d key))
         (λ k zk yk. policies_end d name keys rest (suc (suc p)) k s x zk yk after)
@@ -296,7 +296,7 @@ module _ (a : Packet) (v : View) (chains : Chains) (given : Renders v chains) (f
   dispatched n d false m s = Dropped (with_reason s.side reason.UnknownInterface s)
 
   dispatch : (n : ℕ) (c : ChainName) (inner : bytes_eq c forward ≡ false) (d : Direction) (ifaces : List (List ℕ)) (p m : ℕ) (s : Reasons) → over_rules last_reason (holds v.sets a) (call n) c p (dispatch_rules d ifaces) m s ≡ dispatched n d (list_any (bytes_eq (iface_at (end_of d) a)) ifaces) m s
-  dispatch n c inner d [] p m s = told_drop v.sets a (call n) c inner p [] reason.UnknownInterface [] m s refl
+  dispatch n c inner d [] p m s = tagged_drop v.sets a (call n) c inner p [] reason.UnknownInterface [] m s refl
   dispatch n c inner d (x ∷ ifaces) p m s = by_test (bytes_eq (iface_at (end_of d) a) x) refl (dispatch n c inner d ifaces (suc p) m s)
     where
       r : ChainRule

@@ -86,7 +86,7 @@ walk-next note a call c i rules r m s low is =
 
 -- one rule more of a walk that is at place i
 pub walk-step : {S : Type 0} (note : Notes S) (a : Test) (call : ChainName → Onward S) (c : ChainName) (i : ℕ) (rules : List ChainRule) (r : ChainRule) (m : ℕ) (s : S) (whole x : Ended S) → whole ≡ over_rules note a call c (i + 1) (drop i rules) m s → i < length rules → r ≡ get_or rules i r → x ≡ over_rule note a call c (i + 1) r m s → whole ≡ onward x (over_rules note a call c (i + 1 + 1) (drop (i + 1) rules))
-walk-machine_step note a call c i rules r m s whole x w low is e =
+walk-step note a call c i rules r m s whole x w low is e =
     w ∙ walk-next note a call c i rules r m s low is ∙ ap (λ y. onward y (over_rules note a call c (i + 1 + 1) (drop (i + 1) rules))) (sym e)
 
 pub walk-over : {S : Type 0} (note : Notes S) (a : Test) (call : ChainName → Onward S) (c : ChainName) (i : ℕ) (rules : List ChainRule) (m : ℕ) (s : S) (whole : Ended S) → whole ≡ over_rules note a call c (i + 1) (drop i rules) m s → length rules ≤ i → Through m s ≡ whole

@@ -40,7 +40,8 @@ use Rattle.fx_model.specs.Tables.{profile_side}
 use Rattle.fx_names.specs.Digests.{Digest}
 use Rattle.fx_model.specs.Views.{view_of, view_side, view_rule, profile_key, is_active_profile, view_profile, profile_entry, view_endpoint, endpoint_entry, active_profiles}
 use Rattle.fx_model.specs.Policy.{some_port, some_port_given, side_matches, rule_matches, There, met_rules, there_or_missing, listed_profile, profiles_verdict, endpoint_verdict, with_iface, endpoint_at, verdict_at, is_workload, side_verdict, both_sides, packet_verdict}
-use Rattle.fx_model.specs.ViewPolicy.{some_view_port, some_view_port_given, view_side_matches, view_rule_matches, HasFormedRules, met_view_rules, listed_of, view_listed, view_endpoint_verdict, view_verdict_at, view_verdict, IsOnWorkloads, IsServable}
+use Rattle.fx_model.specs.ViewPolicy.{some_view_port, some_view_port_given, view_side_matches, view_rule_matches, HasFormedRules, met_view_rules, listed_of, view_listed, view_endpoint_verdict, view_verdict_at, view_verdict, IsOnWorkloads}
+use Rattle.fx_walk.specs.Serving.{IsServedApart}
 use Rattle.fx_walk.proofs.Lookups.{last_at, get-collected, first, second}
 
 -- keys are one
@@ -96,7 +97,7 @@ module _ (dg : Digest) (R : Resources) where
   profile_formed name (Some p) h Ingress = all_formed p.ingress ∙ (both_pass (list_all is_formed_profile_rule p.ingress) (list_all is_formed_profile_rule p.egress) (h p refl)).0
   profile_formed name (Some p) h Egress = all_formed p.egress ∙ (both_pass (list_all is_formed_profile_rule p.ingress) (list_all is_formed_profile_rule p.egress) (h p refl)).1
 
-  entries_formed : IsServable dg R → (names : List (List ℕ)) → AllByRecursion (λ e. HasFormedSides e.1) (map (profile_entry dg R) names)
+  entries_formed : IsServedApart dg R → (names : List (List ℕ)) → AllByRecursion (λ e. HasFormedSides e.1) (map (profile_entry dg R) names)
   entries_formed servable [] = tt
   entries_formed servable (name ∷ names) = (profile_formed name (maps.get R.profiles name) (servable.rules name), entries_formed servable names)
 
@@ -106,7 +107,7 @@ module _ (dg : Digest) (R : Resources) where
       none : {X : Type 0} {x : X} → None ≡ Some x → ⊥
       none h = cc
 
-  pub formed_rules : IsServable dg R → HasFormedRules (view_of dg R)
+  pub formed_rules : IsServedApart dg R → HasFormedRules (view_of dg R)
   formed_rules servable = record {
     policies = λ d key p e. nothing_there key p e;
     profiles = λ d key p e. at_extended (λ _ q. HasFormedSides q) maps.empty (map (profile_entry dg R) (active_profiles R)) (λ q x is. nothing_there q x is) (entries_formed servable (active_profiles R)) key p e d;
@@ -220,7 +221,7 @@ module _ (dg : Digest) (R : Resources) (a : Packet) where
   abbrev IsAlikeAt : Direction → List ℕ → List (ItemKey × Endpoint) → Type 0
   IsAlikeAt d iface xs = Within (names_of xs) → view_verdict_at (view_of dg R) d a (last (map (endpoint_entry dg) xs) iface None) ≡ verdict_at R d a (with_iface xs iface)
 
-  module _ (servable : IsServable dg R) where
+  module _ (servable : IsServedApart dg R) where
     not_itself : (k l : ItemKey) → k ≡ l → T (is_lt (cmp-value.it k l)) → ⊥
     not_itself k l e below = absurd (subst (λ r. T (is_lt r)) (ap (cmp-value.it k) (sym e) ∙ tied_itself item_total k) below)
 

@@ -17,14 +17,14 @@ use Rattle.fx_model.specs.Policy.{Answer, Silent, Passed, Allowed, Denied, first
 use Rattle.fx_model.specs.ViewPolicy.{met_view_rules}
 
 -- the accept bit and the pass bit stay
-pub record Keeps (m n : ℕ) : Type 0 where
+pub record KeepsBits (m n : ℕ) : Type 0 where
   pub accept : bit_at n 16 ≡ bit_at m 16
   pub pass : bit_at n 17 ≡ bit_at m 17
 
 -- A walk from the mark m ends as an answer wants it: it goes on where nothing is said, leaves with the accept bit set where a
 -- packet is allowed and with the pass bit alone where it is passed, and else drops it; the reason is that of the rule.
 abbrev pub EndsAs : Ended Reasons → ℕ → Reasons → Answer → Type 0
-EndsAs e m s Silent = (n : ℕ) × (e ≡ Through n s) × Keeps m n
+EndsAs e m s Silent = (n : ℕ) × (e ≡ Through n s) × KeepsBits m n
 EndsAs e m s (Allowed why) = (n : ℕ) × (e ≡ Left n (with_reason s.side why s)) × (bit_at n 16 ≡ 1)
 EndsAs e m s (Denied why) = e ≡ Dropped (with_reason s.side why s)
 EndsAs e m s Passed = (n : ℕ) × (w : Reason) × (e ≡ Left n (with_reason s.side w s)) × (bit_at n 16 ≡ 0) × (bit_at n 17 ≡ 1)

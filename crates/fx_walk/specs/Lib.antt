@@ -1,2 +1,4 @@
-pub mod Stops
+pub mod WalkEnds
 pub mod Endings
+pub mod Serving
+pub mod PacketPaths

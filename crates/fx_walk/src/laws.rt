@@ -1,19 +1,27 @@
 //! What holds of every run. Each law is a contract; no function does anything.
 ghost use Rattle.std.specs.Prelude.{◌≡◌, true};
 ghost use Rattle.std.specs.FinMap as map;
-ghost use Rattle.fx_model.specs.declared.resources.Resources.{Resources};
 ghost use Rattle.fx_model.specs.declared.view.View.{View};
-ghost use Rattle.fx_names.specs.Digests.{Digest};
-ghost use Rattle.fx_model.specs.Claims.{IsClashFree};
-ghost use Rattle.fx_model.specs.Formed.{are_formed};
 ghost use Rattle.fx_model.specs.Machine.{RunHasOneEnd};
 ghost use Rattle.fx_model.specs.Tables.{forward, tables_of};
-ghost use Rattle.fx_model.specs.ViewPolicy.{HasLoneLocal, IsServable, PolicyIsKept, TablesAgree};
+ghost use Rattle.fx_model.specs.ViewPolicy.{PolicyIsKept, TablesAgree};
 ghost use Rattle.fx_walk.specs.Endings.{RulesEndAsTheySay};
+ghost use Rattle.fx_walk.specs.PacketPaths.{PacketHasOnePath, WalkIsRun};
+ghost use Rattle.fx_walk.specs.Serving.{ServedEndpointsAreApart};
 
 /// A run has one end.
 pub fn run_has_one_end()
     ensures { RunHasOneEnd }
+{}
+
+/// The walk of the first chain gives the path, the verdict and the reasons of the run by single steps.
+pub fn walk_is_a_run()
+    ensures { WalkIsRun }
+{}
+
+/// A packet has one path.
+pub fn packet_has_one_path()
+    ensures { PacketHasOnePath }
 {}
 
 /// The rendered rules of a policy or a profile do with each packet what the rules say.
@@ -36,7 +44,7 @@ pub fn first_chain_is_there()
     ensures { (v : View) → map.contains_key (tables_of v).chains forward ≡ true }
 {}
 
-/// Resources with at most one local endpoint, whose claims don't clash, can be served.
-pub fn lone_local_is_servable()
-    ensures { (dg : Digest) (R : Resources) → are_formed R ≡ true → HasLoneLocal R → IsClashFree dg R → IsServable dg R }
+/// However many endpoints run here, those that are served are told apart by their interfaces.
+pub fn served_endpoints_are_apart()
+    ensures { ServedEndpointsAreApart }
 {}

@@ -1,13 +1,15 @@
 //! The way of one packet through the tables: its path, its verdict and the rules that decided.
 #![tactic(auto)]
 
+pub use decision::decide;
 pub use laws::{
-    first_chain_is_there, lone_local_is_servable, policy_is_kept, run_has_one_end, tables_agree,
+    first_chain_is_there, packet_has_one_path, policy_is_kept, rules_end_as_they_say,
+    run_has_one_end, served_endpoints_are_apart, tables_agree, walk_is_a_run,
 };
 pub use outcome::{Hop, Outcome};
 pub use path::trace;
-pub use walk::decide;
 
+mod decision;
 mod laws;
 mod matches;
 mod notes;

@@ -4,12 +4,12 @@ ghost use Rattle.std.specs.Option.{option_copied};
 ghost use Rattle.std.specs.Str.{bytes_eq};
 ghost use Rattle.fx_model.specs.Tables.{forward};
 ghost use Rattle.fx_model.specs.Walk.{noted_in, verdict_of};
-ghost use Rattle.fx_model.specs.Machine.{is_shown, last_reason, nothing_noted, side_at, with_reason, with_tag};
-ghost use Rattle.fx_walk.specs.Stops.{direction_of, ended_of, reasons_of};
+ghost use Rattle.fx_model.specs.Machine.{last_reason, nothing_noted, side_at, with_reason, with_tag};
+ghost use Rattle.fx_walk.specs.WalkEnds.{direction_of, ended_of, reasons_of};
 
 use crate::outcome::{Hop, Outcome};
 use fx_base::ChainName;
-use fx_model::{ChainRule, Reason, Tag, Target, Verdict};
+use fx_model::{ChainRule, Reason, Tag, Verdict};
 
 const FORWARD: &[u8; 12] = b"cali-FORWARD";
 
@@ -18,7 +18,7 @@ pub const DEEPEST: u8 = 5;
 
 /// A side of a packet's way: that of the endpoint which it comes from, or which it goes to.
 #[derive(Clone, Copy)]
-pub enum Side {
+pub enum Direction {
     Egress,
     Ingress,
 }
@@ -27,14 +27,36 @@ pub enum Side {
 #[derive(Clone, Copy)]
 pub struct Seen<'a> {
     pub mark: u32,
-    pub side: Option<Side>,
+    pub side: Option<Direction>,
     pub egress: Option<&'a Reason>,
     pub ingress: Option<&'a Reason>,
 }
 
+/// What is noted of the rules that match, beside the last reasons.
+pub trait Notes {
+    ghost use Rattle.std.specs.Prelude.{◌≡◌, ℕ, OnOk, OnErr};
+    ghost use Rattle.fx_model.specs.declared.chain.ChainRule.{ChainRule};
+    ghost use Rattle.fx_model.specs.Tables.{ChainName};
+    ghost use Rattle.fx_model.specs.Machine.{Reasons, last_reason};
+
+    type Fault;
+
+    /// What stands noted, with the last reasons.
+    ghost State: { Type 0 };
+
+    ghost note: { ChainName → ℕ → ChainRule → State → State };
+
+    ghost noted: { Self → Reasons → State };
+
+    fn note(&mut self, hop: &Hop, rule: &ChainRule) -> Result<(), Self::Fault>
+        ensures ok { OnOk result ((s : Reasons) → noted self.new (last_reason hop.now.chain hop.now.place rule.now s)
+            ≡ note hop.now.chain hop.now.place rule.now (noted self.old s)) }
+        ensures err { OnErr result ((s : Reasons) → noted self.new s ≡ noted self.old s) };
+}
+
 /// How the walk of a chain's rules ended: `Left` by RETURN, `Through` at their end.
 #[derive(Clone, Copy)]
-pub enum Stop<'a> {
+pub enum WalkEnd<'a> {
     Accepted(Seen<'a>),
     Dropped(Seen<'a>),
     Left(Seen<'a>),
@@ -54,16 +76,16 @@ pub fn nothing_seen<'a>() -> Seen<'a>
 }
 
 /// What a packet's run gives, where the first chain ended so: without a drop the packet is allowed.
-pub fn outcome_of<'a>(stop: Stop<'a>) -> Outcome<'a>
-    ensures verdict { result.verdict ≡ verdict_of (ended_of stop.entry) }
-    ensures egress { option_copied result.egress ≡ (noted_in (ended_of stop.entry)).egress }
-    ensures ingress { option_copied result.ingress ≡ (noted_in (ended_of stop.entry)).ingress }
+pub fn outcome_of<'a>(end: WalkEnd<'a>) -> Outcome<'a>
+    ensures verdict { result.verdict ≡ verdict_of (ended_of end.entry) }
+    ensures egress { option_copied result.egress ≡ (noted_in (ended_of end.entry)).egress }
+    ensures ingress { option_copied result.ingress ≡ (noted_in (ended_of end.entry)).ingress }
 {
-    let (verdict, seen) = match stop {
-        Stop::Dropped(s) => (Verdict::Deny, s),
-        Stop::Accepted(s) => (Verdict::Allow, s),
-        Stop::Left(s) => (Verdict::Allow, s),
-        Stop::Through(s) => (Verdict::Allow, s),
+    let (verdict, seen) = match end {
+        WalkEnd::Dropped(s) => (Verdict::Deny, s),
+        WalkEnd::Accepted(s) => (Verdict::Allow, s),
+        WalkEnd::Left(s) => (Verdict::Allow, s),
+        WalkEnd::Through(s) => (Verdict::Allow, s),
     };
     Outcome {
         verdict,
@@ -85,12 +107,12 @@ fn is_first(chain: ChainName) -> bool
     chain.bytes() == FORWARD.as_slice()
 }
 
-fn side_of(place: u64) -> Option<Side>
+fn direction_at(place: u64) -> Option<Direction>
     ensures { direction_of result ≡ side_at place }
 {
     match place {
-        2 => Some(Side::Egress),
-        3 => Some(Side::Ingress),
+        2 => Some(Direction::Egress),
+        3 => Some(Direction::Ingress),
         _ => None,
     }
 }
@@ -101,11 +123,11 @@ fn reasoned<'a>(why: &'a Reason, seen: Seen<'a>) -> Seen<'a>
 {
     match seen.side {
         None => seen,
-        Some(Side::Egress) => Seen {
+        Some(Direction::Egress) => Seen {
             egress: Some(why),
             ..seen
         },
-        Some(Side::Ingress) => Seen {
+        Some(Direction::Ingress) => Seen {
             ingress: Some(why),
             ..seen
         },
@@ -130,25 +152,10 @@ pub fn noted<'a>(hop: Hop, rule: &'a ChainRule, seen: Seen<'a>) -> Seen<'a>
 {
     if is_first(hop.chain) {
         Seen {
-            side: side_of(hop.place),
+            side: direction_at(hop.place),
             ..seen
         }
     } else {
         tagged(&rule.tag, seen)
     }
-}
-
-/// Whether a rule that matched is shown on the path.
-pub fn is_on_path(rule: &ChainRule) -> bool
-    ensures { result ≡ is_shown rule.now }
-{
-    let is_shown_target = match &rule.target {
-        Target::Accept | Target::Drop | Target::Jump(_) | Target::Goto(_) | Target::Log => true,
-        Target::Return | Target::Mark { .. } => false,
-    };
-    let is_tagged = match &rule.tag {
-        Tag::Plain => false,
-        Tag::Log | Tag::Why(_) => true,
-    };
-    is_shown_target || is_tagged
 }

@@ -8,7 +8,7 @@ ghost use Rattle.fx_model.specs.declared.chain.End.TheVariants.{Source};
 ghost use Rattle.fx_model.specs.declared.chain.Match.TheVariants as match;
 ghost use Rattle.fx_model.specs.Tables.{endpoint_chain, forward, root_of};
 
-use crate::{Hop, decide, trace};
+use crate::{Hop, Outcome, decide, trace};
 use fx_base::{ChainName, Ipv4, Memory, Proto, Seq, Text};
 use fx_model::{ChainRule, End, Match, Packet, Reason, State, Tag, Target, Verdict};
 use fx_tables::Tables;
@@ -190,55 +190,88 @@ fn is_path(path: &[Hop], wanted: &[(&str, u64)]) -> bool {
             && hop.place == want.1)
 }
 
+/// A packet's interface and state, and what becomes of it.
+struct Row {
+    iface: &'static str,
+    state: State,
+    verdict: Verdict,
+    egress: &'static str,
+    path: &'static [(&'static str, u64)],
+}
+
+const ROWS: [Row; 4] = [
+    Row {
+        iface: "cali1",
+        state: State::New,
+        verdict: Verdict::Allow,
+        egress: "profile",
+        path: &[
+            ("cali-FORWARD", 2),
+            ("cali-from-wl-dispatch", 1),
+            ("cali-fw-cali1", 2),
+            ("cali-fw-cali1", 3),
+        ],
+    },
+    Row {
+        iface: "cali1",
+        state: State::Related,
+        verdict: Verdict::Allow,
+        egress: "established",
+        path: &[
+            ("cali-FORWARD", 2),
+            ("cali-from-wl-dispatch", 1),
+            ("cali-fw-cali1", 1),
+        ],
+    },
+    Row {
+        iface: "cali9",
+        state: State::New,
+        verdict: Verdict::Deny,
+        egress: "unknown",
+        path: &[("cali-FORWARD", 2), ("cali-from-wl-dispatch", 2)],
+    },
+    Row {
+        iface: "eth0",
+        state: State::New,
+        verdict: Verdict::Allow,
+        egress: "none",
+        path: &[],
+    },
+];
+
+fn is_wanted(outcome: &Outcome, row: &Row) -> bool {
+    outcome.verdict == row.verdict
+        && reason_text(outcome.egress) == row.egress
+        && outcome.ingress.is_none()
+}
+
 #[test]
 fn decides_and_traces(rt: HostRuntime) -> Result<(), Fail> {
     let alloc = rt.alloc();
     let tables = tables(alloc)?;
-    let rows: [(&[u8], State, Verdict, &str, &[(&str, u64)]); 4] = [
-        (
-            b"cali1",
-            State::New,
-            Verdict::Allow,
-            "profile",
-            &[
-                ("cali-FORWARD", 2),
-                ("cali-from-wl-dispatch", 1),
-                ("cali-fw-cali1", 2),
-                ("cali-fw-cali1", 3),
-            ],
-        ),
-        (
-            b"cali1",
-            State::Related,
-            Verdict::Allow,
-            "established",
-            &[
-                ("cali-FORWARD", 2),
-                ("cali-from-wl-dispatch", 1),
-                ("cali-fw-cali1", 1),
-            ],
-        ),
-        (
-            b"cali9",
-            State::New,
-            Verdict::Deny,
-            "unknown",
-            &[("cali-FORWARD", 2), ("cali-from-wl-dispatch", 2)],
-        ),
-        (b"eth0", State::New, Verdict::Allow, "none", &[]),
-    ];
-    for (iface, state, verdict, egress, wanted) in rows {
-        let packet = packet(alloc, iface, state)?;
+    for row in &ROWS {
+        let packet = packet(alloc, row.iface.as_bytes(), row.state)?;
         let decided = decide(&tables, &packet);
-        assert_eq!(rt; decided.verdict, verdict);
-        assert_eq!(rt; reason_text(decided.egress), egress);
-        assert!(rt; decided.ingress.is_none());
+        assert!(rt;
+            is_wanted(&decided, row),
+            "decided at {} {:?}",
+            row.iface,
+            row.state
+        );
         let mut path = vec![in alloc]?;
         let traced = trace(&tables, &packet, &mut path)?;
-        assert_eq!(rt; traced.verdict, verdict);
-        assert_eq!(rt; reason_text(traced.egress), egress);
-        assert!(rt; traced.ingress.is_none());
-        assert!(rt; is_path(&path, wanted));
+        assert!(rt;
+            is_wanted(&traced, row),
+            "traced at {} {:?}",
+            row.iface,
+            row.state
+        );
+        assert!(rt;
+            is_path(&path, row.path),
+            "path at {} {:?}",
+            row.iface,
+            row.state
+        );
     }
     Ok(())
 }

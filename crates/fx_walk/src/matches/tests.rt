@@ -107,7 +107,7 @@ const WEB: PortRange = PortRange {
     high: 443,
 };
 
-/// Each row says what the match, with a `!` or without, says of a TCP packet and of one of ICMP.
+/// Each row, from 0, says what the match, with a `!` or without, says of a TCP packet and of one of ICMP.
 #[test]
 fn matches_hold_or_not(rt: HostRuntime) -> Result<(), Fail> {
     let alloc = rt.alloc();
@@ -142,10 +142,18 @@ fn matches_hold_or_not(rt: HostRuntime) -> Result<(), Fail> {
         (Asked::Set(End::Source, missing()), false, false, false),
         (Asked::Set(End::Source, missing()), true, true, true),
     ];
-    for (asked, not, for_tcp, for_icmp) in rows {
+    for (number, (asked, not, for_tcp, for_icmp)) in rows.into_iter().enumerate() {
         let matches = vec![in alloc; match_of(alloc, asked, not)?]?;
-        assert_eq!(rt; all_hold(&sets, &tcp, 0, matches.as_slice()), for_tcp);
-        assert_eq!(rt; all_hold(&sets, &icmp, 0, matches.as_slice()), for_icmp);
+        assert_eq!(rt;
+            all_hold(&sets, &tcp, 0, matches.as_slice()),
+            for_tcp,
+            "TCP in row {number}"
+        );
+        assert_eq!(rt;
+            all_hold(&sets, &icmp, 0, matches.as_slice()),
+            for_icmp,
+            "ICMP in row {number}"
+        );
     }
     Ok(())
 }

@@ -1,4 +1,4 @@
-use Rattle.std.proofs.Common.{◌≡◌, ◌++◌, length, List, ℕ, sym, ◌∙◌, ap, arith, append_assoc, true, false, is_some}
+use Rattle.std.proofs.Common.{None, ◌≡◌, ◌++◌, length, List, ℕ, sym, ◌∙◌, ap, arith, append_assoc, true, false, is_some}
 use Rattle.std.proofs.lemmas.Result.{err_from_is_err_and}
 use Rattle.fx_base.proofs.Compose.{Appends-more}
 use Rattle.fx_model.specs.declared.view.View.{View}
@@ -31,7 +31,7 @@ loop-count-preserved g c =
             ∙ ap (λ (l : List ℕ). i.output.0 ++ l) (sym (messages_step c.loop-count.sent w))
             ∙ i.output.2,
       );
-      count = omega (arith, one_fewer c.loop-count.sent w there, ap (λ (v : View). length (flush v w)) s.step, c.saturating_add-count.ensures, i.count);
+      count = omega (arith, one_fewer c.loop-count.sent w there, ap (λ (v : View). length (flush None v w).messages) s.step, c.saturating_add-count.ensures, i.count);
       fits = omega (arith, c.saturating_add-count.ensures);
       later = omega (arith, s.writes.later, i.later);
     }

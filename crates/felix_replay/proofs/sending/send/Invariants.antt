@@ -1,4 +1,4 @@
-use Rattle.std.proofs.Common.{◌≡◌, ◌+◌, ◌-◌, ◌^◌, ◌≤◌, ◌++◌, min, length, List, ℕ}
+use Rattle.std.proofs.Common.{◌≡◌, ◌+◌, ◌-◌, ◌^◌, ◌≤◌, ◌++◌, min, length, List, ℕ, None}
 use Rattle.std.specs.Io.KnownBytes.{Appends}
 use Rattle.fx_model.specs.Messages.{flush, differences}
 use Rattle.felix_replay.specs.Output.{messages_text, told_count}
@@ -8,7 +8,7 @@ use Rattle.felix_replay.proofs.sending.send.Given as goal
 abbrev pub invariant-loop-count : goal.invariant-loop-count
 invariant-loop-count g l = record {
   output : (piece : List ℕ) × Appends (g.K.Sink.state l.fn.sink).held (g.K.Sink.state l.sink).held piece × (piece ++ messages_text l.sent l.wanted ≡ messages_text l.fn.sent l.wanted);
-  count : min (l.count + length (flush l.sent l.wanted)) (2 ^ 64 - 1) ≡ told_count l.fn.sent l.wanted;
+  count : min (l.count + length (flush None l.sent l.wanted).messages) (2 ^ 64 - 1) ≡ told_count l.fn.sent l.wanted;
   fits : l.count ≤ 2 ^ 64 - 1;
   later : (g.K.Sink.state l.fn.sink).faults ≤ (g.K.Sink.state l.sink).faults;
 }

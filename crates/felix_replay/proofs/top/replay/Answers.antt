@@ -26,7 +26,7 @@ loop-engine-init g c =
       ended = c.requires.unended ∙ sym c.new-reader.ensures.2;
       source_later = omega arith;
       sink_later = omega arith;
-      kept = c.in_ok-engine.ensures.kept g.R.DigestRule.digest_of;
+      invariant = c.in_ok-engine.ensures.invariant g.R.DigestRule.digest_of;
       few = omega (arith, ap length empty, ap (λ (s : State). s.lines) (c.in_ok-engine.ensures.state g.R.DigestRule.digest_of));
     }
 
@@ -54,7 +54,7 @@ loop-engine-preserved g c =
       ended = c.in_ok-advance.ensures.ended;
       source_later = omega (arith, c.loop-engine.invariant.source_later, c.in_ok-advance.ensures.later);
       sink_later = omega (arith, c.loop-engine.invariant.sink_later, c.in_ok-answer.ensures.writes.later);
-      kept = c.in_ok-answer.ensures.kept;
+      invariant = c.in_ok-answer.ensures.invariant;
       few =
           let shrinks = next_shrinks _ _ (rest_of c.loop-engine.reader) found.0 line (rest_of c.advance.new.self) c.advance.new.self.ended found.1 is in
           omega (arith, shrinks, c.loop-engine.invariant.given, c.loop-engine.invariant.few, c.in_ok-advance.ensures.given, ap (λ (s : State). s.lines) c.in_ok-answer.ensures.state, step-lines (state_of g.R.DigestRule.digest_of c.loop-engine.engine) (answer_of (state_of g.R.DigestRule.digest_of c.loop-engine.engine) c.line.result.now));

@@ -4,7 +4,7 @@ use Rattle.fx_lines.specs.Reading.{HasRead}
 use Rattle.fx_lines.specs.Held.{rest_of}
 use Rattle.felix_replay.specs.Run.{state_after, written}
 use Rattle.felix_replay.specs.Output.{start, next, text}
-use Rattle.felix_replay.specs.Engine.{state_of, IsKept}
+use Rattle.felix_replay.specs.Engine.{state_of, HoldsInvariant}
 use Rattle.felix_replay.proofs.top.replay.Given as goal
 
 abbrev pub invariant-loop-engine : goal.invariant-loop-engine
@@ -17,7 +17,7 @@ invariant-loop-engine g l = record {
   ended : (g.S.Source.state l.source).ended ≡ l.reader.ended;
   source_later : (g.S.Source.state l.fn.source).faults ≤ (g.S.Source.state l.source).faults;
   sink_later : (g.K.Sink.state l.fn.sink).faults ≤ (g.K.Sink.state l.sink).faults;
-  kept : IsKept g.R.DigestRule.digest_of l.engine;
+  invariant : HoldsInvariant g.R.DigestRule.digest_of l.engine;
   few : l.engine.lines + length (rest_of l.reader) ≤ l.reader.taken;
 }
 

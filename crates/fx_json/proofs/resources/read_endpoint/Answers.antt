@@ -8,7 +8,6 @@ use Rattle.fx_json.proofs.resources.read_endpoint.Goals as goal
 pub returns : goal.returns
 unfolding endpoint_of
 returns c =
-    let own : c.in_ok-labels.labels ≡ own_labels c.args.given c.args.namespace.now c.in_ok-account.account c.in_ok-orchestrator.orchestrator = c.in_ok-labels.ensures in
-    let with_labels : LabelMap → Result Endpoint ReadFault = λ labels. Ok (record { node = c.in_ok-node.node; iface = c.in_ok-iface.iface; labels = labels; profiles = c.in_ok-profiles.profiles }) in
-    rw (c.in_ok-node.ensures, c.in_ok-orchestrator.ensures, c.in_ok-account.ensures, c.in_ok-iface.ensures, c.in_ok-items.ensures, c.in_ok-profiles.ensures, c.in_ok-items-2.ensures)
-    (ap with_labels (sym own))
+    let own : c.in_ok-labels.labels ≡ own_labels c.args.given c.args.namespace.now c.in_ok-workload.workload.account c.in_ok-workload.workload.orchestrator = c.in_ok-labels.ensures in
+    let with_labels : LabelMap → Result Endpoint ReadFault = λ labels. Ok (record { node = c.in_ok-workload.workload.node; iface = c.in_ok-workload.workload.iface; labels = labels; profiles = c.in_ok-profiles.profiles }) in
+    rw (c.in_ok-workload.ensures, c.in_ok-profiles.ensures) (ap with_labels (sym own))

@@ -4,9 +4,9 @@ use Rattle.serde_json.specs.View.{view}
 use Rattle.fx_json.specs.declared.refusal.Refusal.{Refusal}
 use Rattle.fx_json.specs.Refusals.{Refuses}
 use Rattle.fx_lines.specs.declared.commands.Command.{Command}
-use Rattle.fx_lines.specs.Formed.{is_formed_command}
+use Rattle.fx_lines.specs.Formed.{IsReadCommand}
 use Rattle.fx_lines.specs.Commands.{of_value}
-use Rattle.fx_lines.proofs.Kept.{of_value-formed}
+use Rattle.fx_lines.proofs.Kept.{of_value-read}
 use Rattle.fx_lines.proofs.Asking.{command_of-blank, command_of-value, command_of-none, kept}
 use Rattle.fx_lines.proofs.commands.read_command.Goals as goal
 
@@ -18,9 +18,9 @@ returns-in-Ok-clause-answer c =
     let P : Result Command Refusal → Type 0 = λ r. Refuses r c.command_in.result in
     subst P (sym (command_of-value c.args.line.now _ c.if-is_blank.ensures c.in-Ok.ensures.ok)) c.command_in.ensures
 
-pub returns-in-Ok-clause-formed : goal.returns-in-Ok-clause-formed
-returns-in-Ok-clause-formed c =
-    kept (λ (command : Command). is_formed_command command ≡ true) (of_value (Some (view c.in-Ok.value))) c.command_in.result c.command_in.ensures (of_value-formed (Some (view c.in-Ok.value)))
+pub returns-in-Ok-clause-read : goal.returns-in-Ok-clause-read
+returns-in-Ok-clause-read c =
+    kept IsReadCommand (of_value (Some (view c.in-Ok.value))) c.command_in.result c.command_in.ensures (of_value-read (Some (view c.in-Ok.value)))
 
 pub returns-else-is_memory-clause-answer : goal.returns-else-is_memory-clause-answer
 returns-else-is_memory-clause-answer c = inr (command_of-none c.args.line.now c.if-is_blank.ensures (c.in-Err.ensures.err (λ memory. false≢true (c.if-is_memory.ensures.1 memory))))

@@ -1,5 +1,5 @@
 use Rattle.std.specs.Prelude.{codes}
-use Rattle.fx_print.specs.MatchTexts.{not_sign, icmp_text}
+use Rattle.fx_model.specs.MatchTexts.{not_sign, icmp_text}
 use Rattle.fx_print.proofs.Parts.{four_parts}
 use Rattle.fx_print.proofs.matches.push_icmp.Goals as goal
 

@@ -1,5 +1,5 @@
 use Rattle.std.proofs.Common.{◌≡◌, ◌++◌, take}
-use Rattle.fx_print.specs.MatchTexts.{later_ranges}
+use Rattle.fx_model.specs.MatchTexts.{later_ranges}
 use Rattle.fx_print.proofs.matches.push_later_ranges.Given as goal
 
 abbrev pub invariant-loop-range : goal.invariant-loop-range

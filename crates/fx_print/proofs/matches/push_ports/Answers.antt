@@ -1,6 +1,6 @@
 use Rattle.std.proofs.Common.{◌++◌, ap, ◌∙◌}
 use Rattle.std.specs.Prelude.{codes}
-use Rattle.fx_print.specs.MatchTexts.{not_sign, ports_option, ranges_text}
+use Rattle.fx_model.specs.MatchTexts.{not_sign, ports_option, ranges_text}
 use Rattle.fx_print.proofs.Parts.{four_parts}
 use Rattle.fx_print.proofs.matches.push_ports.Goals as goal
 

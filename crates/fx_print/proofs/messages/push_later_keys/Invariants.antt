@@ -1,5 +1,5 @@
 use Rattle.std.proofs.Common.{◌≡◌, ◌++◌, codes, take}
-use Rattle.fx_print.specs.MessageTexts.{behind}
+use Rattle.fx_model.specs.MessageTexts.{behind}
 use Rattle.fx_print.proofs.messages.push_later_keys.Given as goal
 
 abbrev pub invariant-loop-key : goal.invariant-loop-key

@@ -1,7 +1,7 @@
 use Rattle.std.proofs.Common.{◌≡◌, ◌++◌}
 use Rattle.std.specs.List.{flat_map}
 use Rattle.std.specs.FinMap as maps
-use Rattle.fx_print.specs.TableTexts.{chain_lines}
+use Rattle.fx_model.specs.TableTexts.{chain_lines}
 use Rattle.fx_print.proofs.tables.push_chains.Given as goal
 
 abbrev pub invariant-loop-name : goal.invariant-loop-name

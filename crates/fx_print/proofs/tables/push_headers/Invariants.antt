@@ -1,5 +1,5 @@
 use Rattle.std.proofs.Common.{◌≡◌, ◌++◌, map}
-use Rattle.fx_print.specs.TableTexts.{header_line, header_lines}
+use Rattle.fx_model.specs.TableTexts.{header_line, header_lines}
 use Rattle.fx_print.proofs.tables.push_headers.Given as goal
 
 abbrev pub invariant-loop-name : goal.invariant-loop-name

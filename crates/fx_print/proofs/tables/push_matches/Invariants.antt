@@ -1,5 +1,5 @@
 use Rattle.std.proofs.Common.{◌≡◌, ◌++◌, take}
-use Rattle.fx_print.specs.TableTexts.{matches_text}
+use Rattle.fx_model.specs.TableTexts.{matches_text}
 use Rattle.fx_print.proofs.tables.push_matches.Given as goal
 
 abbrev pub invariant-loop-each : goal.invariant-loop-each

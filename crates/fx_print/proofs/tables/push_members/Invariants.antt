@@ -1,6 +1,6 @@
 use Rattle.std.proofs.Common.{◌≡◌, ◌++◌, map}
 use Rattle.fx_base.specs.Set as set
-use Rattle.fx_print.specs.TableTexts.{add_line}
+use Rattle.fx_model.specs.TableTexts.{add_line}
 use Rattle.fx_print.proofs.tables.push_members.Given as goal
 
 abbrev pub invariant-loop-member : goal.invariant-loop-member

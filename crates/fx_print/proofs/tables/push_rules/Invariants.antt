@@ -1,5 +1,5 @@
 use Rattle.std.proofs.Common.{◌≡◌, ◌++◌, map, take}
-use Rattle.fx_print.specs.TableTexts.{rule_line}
+use Rattle.fx_model.specs.TableTexts.{rule_line}
 use Rattle.fx_print.proofs.tables.push_rules.Given as goal
 
 abbrev pub invariant-loop-rule : goal.invariant-loop-rule

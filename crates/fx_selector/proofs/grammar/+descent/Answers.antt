@@ -80,29 +80,29 @@ or_at-more-preserved t c =
 pub or_at-returns-clause-reads : goal.or_at-returns-clause-reads
 or_at-returns-clause-reads t c = λ n h. ap (λ x. bind x (λ a rest. Got (together some a) rest)) (goes_done ((λ n. and_of (not_of c.args.limit n c.args.depth) n)) 124 (124 ∷ []) c.args.rest.now (map tree c.more.parts.items) c.more.after.now c.more.invariant.0 (sym c.begins.ensures ∙ c.more-test.false) n h) ∙ ap (λ x. Got x c.more.after.now) (sym c.some_of.ensures)
 
-pub not_at-returns-in_err-inner-2-clause-reads : goal.not_at-returns-in_err-inner-2-clause-reads
-not_at-returns-in_err-inner-2-clause-reads t c = λ n h.
-    let p = err_from_is_err_and c.from_residual-in_err-inner-2.result c.from_residual-in_err-inner-2.ensures.1 in
-    let g = not_group c.args.limit n c.args.depth c.args.rest.now c.if-depth-eq0-2.false (sym c.begins.ensures ∙ c.if-begins.false) (sym c.begins-2.ensures ∙ c.if-begins-2.true) in
-    rw (p.1, p.2) (fails_on c.in_err-inner-2.field-0.0 (or_of (not_of c.args.limit n (c.args.depth - 1)) n c.in_ok-after-2.after.now) (not_of c.args.limit n c.args.depth c.args.rest.now) (c.in_err-inner-2.ensures.reads n (omega (arith, c.in_ok-after-2.ensures.shorter)))
-    (λ why rest e. g ∙ (ap (λ x. bind x (λ _. λ y. bind (or_of (not_of c.args.limit n (c.args.depth - 1)) n y) (λ t. mapped (λ _. t) (mark (41 ∷ []))))) c.in_ok-after-2.ensures.reads
+pub group_at-returns-in_err-inner-clause-reads : goal.group_at-returns-in_err-inner-clause-reads
+group_at-returns-in_err-inner-clause-reads t c = λ n h.
+    let p = err_from_is_err_and c.from_residual-in_err-inner.result c.from_residual-in_err-inner.ensures.1 in
+    let g = not_group c.args.limit n c.args.depth c.args.rest.now c.if-depth-eq0.false c.requires.other c.requires.open in
+    rw (p.1, p.2) (fails_on c.in_err-inner.field-0.0 (or_of (not_of c.args.limit n (c.args.depth - 1)) n c.in_ok-after.after.now) (not_of c.args.limit n c.args.depth c.args.rest.now) (c.in_err-inner.ensures.reads n (omega (arith, c.in_ok-after.ensures.shorter)))
+    (λ why rest e. g ∙ (ap (λ x. bind x (λ _. λ y. bind (or_of (not_of c.args.limit n (c.args.depth - 1)) n y) (λ t. mapped (λ _. t) (mark (41 ∷ []))))) c.in_ok-after.ensures.reads
     ∙ ap (λ x. bind x (λ t. mapped (λ _. t) (mark (41 ∷ [])))) e)))
 
-pub not_at-returns-in_err-end-clause-reads : goal.not_at-returns-in_err-end-clause-reads
-not_at-returns-in_err-end-clause-reads t c = λ n h.
+pub group_at-returns-in_err-end-clause-reads : goal.group_at-returns-in_err-end-clause-reads
+group_at-returns-in_err-end-clause-reads t c = λ n h.
     let p = err_from_is_err_and c.from_residual-in_err-end.result c.from_residual-in_err-end.ensures.1 in
-    let g = not_group c.args.limit n c.args.depth c.args.rest.now c.if-depth-eq0-2.false (sym c.begins.ensures ∙ c.if-begins.false) (sym c.begins-2.ensures ∙ c.if-begins-2.true) in
-    rw (p.1, p.2) (fails_on c.in_err-end.field-0.0 (mark (41 ∷ []) c.in_ok-inner-2.behind.now) (not_of c.args.limit n c.args.depth c.args.rest.now) c.in_err-end.ensures.reads
-    (λ why rest e. g ∙ (ap (λ x. bind x (λ _. λ y. bind (or_of (not_of c.args.limit n (c.args.depth - 1)) n y) (λ t. mapped (λ _. t) (mark (41 ∷ []))))) c.in_ok-after-2.ensures.reads
-    ∙ (ap (λ x. bind x (λ t. mapped (λ _. t) (mark (41 ∷ [])))) (c.in_ok-inner-2.ensures.reads n (omega (arith, c.in_ok-after-2.ensures.shorter)))
-    ∙ ap (λ x. bind x (λ _ r. Got (tree c.in_ok-inner-2.inner) r)) e))))
+    let g = not_group c.args.limit n c.args.depth c.args.rest.now c.if-depth-eq0.false c.requires.other c.requires.open in
+    rw (p.1, p.2) (fails_on c.in_err-end.field-0.0 (mark (41 ∷ []) c.in_ok-inner.behind.now) (not_of c.args.limit n c.args.depth c.args.rest.now) c.in_err-end.ensures.reads
+    (λ why rest e. g ∙ (ap (λ x. bind x (λ _. λ y. bind (or_of (not_of c.args.limit n (c.args.depth - 1)) n y) (λ t. mapped (λ _. t) (mark (41 ∷ []))))) c.in_ok-after.ensures.reads
+    ∙ (ap (λ x. bind x (λ t. mapped (λ _. t) (mark (41 ∷ [])))) (c.in_ok-inner.ensures.reads n (omega (arith, c.in_ok-after.ensures.shorter)))
+    ∙ ap (λ x. bind x (λ _ r. Got (tree c.in_ok-inner.inner) r)) e))))
 
-pub not_at-returns-then-begins-2-clause-reads : goal.not_at-returns-then-begins-2-clause-reads
-not_at-returns-then-begins-2-clause-reads t c = λ n h.
-    let g = not_group c.args.limit n c.args.depth c.args.rest.now c.if-depth-eq0-2.false (sym c.begins.ensures ∙ c.if-begins.false) (sym c.begins-2.ensures ∙ c.if-begins-2.true) in
-    g ∙ (ap (λ x. bind x (λ _. λ y. bind (or_of (not_of c.args.limit n (c.args.depth - 1)) n y) (λ t. mapped (λ _. t) (mark (41 ∷ []))))) c.in_ok-after-2.ensures.reads
-    ∙ (ap (λ x. bind x (λ t. mapped (λ _. t) (mark (41 ∷ [])))) (c.in_ok-inner-2.ensures.reads n (omega (arith, c.in_ok-after-2.ensures.shorter)))
-    ∙ ap (λ x. bind x (λ _ r. Got (tree c.in_ok-inner-2.inner) r)) c.in_ok-end.ensures.reads))
+pub group_at-returns-clause-reads : goal.group_at-returns-clause-reads
+group_at-returns-clause-reads t c = λ n h.
+    let g = not_group c.args.limit n c.args.depth c.args.rest.now c.if-depth-eq0.false c.requires.other c.requires.open in
+    g ∙ (ap (λ x. bind x (λ _. λ y. bind (or_of (not_of c.args.limit n (c.args.depth - 1)) n y) (λ t. mapped (λ _. t) (mark (41 ∷ []))))) c.in_ok-after.ensures.reads
+    ∙ (ap (λ x. bind x (λ t. mapped (λ _. t) (mark (41 ∷ [])))) (c.in_ok-inner.ensures.reads n (omega (arith, c.in_ok-after.ensures.shorter)))
+    ∙ ap (λ x. bind x (λ _ r. Got (tree c.in_ok-inner.inner) r)) c.in_ok-end.ensures.reads))
 
 pub not_at-returns-clause-reads : goal.not_at-returns-clause-reads
 not_at-returns-clause-reads t c = λ n h. subst (Gives (λ x. tree x.0) (λ x. x.1.now) c.atom_at.result)

@@ -1,6 +1,6 @@
 use Rattle.std.proofs.Common.{◌≡◌, ◌≤◌, length}
 use Rattle.fx_selector.specs.Reading.{closed}
-use Rattle.fx_selector.proofs.Fronts.{with_all}
+use Rattle.fx_selector.proofs.Prefixes.{with_all}
 use Rattle.fx_selector.proofs.strings.closed_of.Given as goal
 
 abbrev pub invariant-loop-c : goal.invariant-loop-c

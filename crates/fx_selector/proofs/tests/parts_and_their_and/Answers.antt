@@ -11,5 +11,5 @@ equal-requires-clause-value g c = literal_string (118 ∷ []) refl
 
 pub one_of-requires-clause-values : goal.one_of-requires-clause-values
 one_of-requires-clause-values g c =
-    let known : AreStrings ((121 ∷ []) ∷ (120 ∷ []) ∷ (121 ∷ []) ∷ []) = (literal_string (121 ∷ []) refl, (literal_string (120 ∷ []) refl, (literal_string (121 ∷ []) refl, tt))) in
-    rw (c.deref.ensures.value, c.in_ok-values.ensures.items, c.in_ok-new.ensures, c.in_ok-new-2.ensures, c.in_ok-new-3.ensures) known
+    let known : AreStrings ((121 ∷ []) ∷ (120 ∷ []) ∷ []) = (literal_string (121 ∷ []) refl, (literal_string (120 ∷ []) refl, tt)) in
+    rw (c.deref.ensures.value, c.in_ok-values.ensures.items, c.in_ok-new.ensures, c.in_ok-new-2.ensures) known

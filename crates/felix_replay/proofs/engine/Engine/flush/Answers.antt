@@ -3,8 +3,8 @@ use Rattle.std.proofs.lemmas.Result.{err_from_is_err_and}
 use Rattle.fx_model.specs.declared.view.View.{View}
 use Rattle.fx_model.specs.Formed.{is_formed_view}
 use Rattle.fx_model.specs.Views.{view_of}
-use Rattle.fx_model.proofs.ViewClosed.{view_of-closed}
-use Rattle.fx_model.proofs.FormedLemmas.{is_formed_view-view_of}
+use Rattle.fx_laws.proofs.ViewClosed.{view_of-closed}
+use Rattle.fx_laws.proofs.FormedLemmas.{is_formed_view-view_of}
 use Rattle.felix_replay.specs.Output.{messages_text, told_count, flush_text}
 use Rattle.felix_replay.specs.Writing.{Writes}
 use Rattle.fx_print.specs.Texts.{flushed_line}
@@ -15,7 +15,7 @@ pub tables_of-requires-clause-closed : goal.tables_of-requires-clause-closed
 tables_of-requires-clause-closed g c = rw (c.in_ok-wanted.ensures ∙ ap (view_of g.R.DigestRule.digest_of) c.resources.ensures) (view_of-closed g.R.DigestRule.digest_of c.args.self.now.store.resources)
 
 pub tables_of-requires-clause-formed : goal.tables_of-requires-clause-formed
-tables_of-requires-clause-formed g c = ap is_formed_view (c.in_ok-wanted.ensures ∙ ap (view_of g.R.DigestRule.digest_of) c.resources.ensures) ∙ is_formed_view-view_of g.R.DigestRule.digest_of c.args.self.now.store.resources c.requires.kept.formed
+tables_of-requires-clause-formed g c = ap is_formed_view (c.in_ok-wanted.ensures ∙ ap (view_of g.R.DigestRule.digest_of) c.resources.ensures) ∙ is_formed_view-view_of g.R.DigestRule.digest_of c.args.self.now.store.resources c.requires.invariant.formed
 
 pub returns-in_err-count-clause-writes : goal.returns-in_err-count-clause-writes
 returns-in_err-count-clause-writes g c =

@@ -9,9 +9,9 @@ tables_of-requires-clause-closed c = rw c.new-sent.ensures empty_view-closed
 pub tables_of-requires-clause-formed : goal.tables_of-requires-clause-formed
 tables_of-requires-clause-formed c = ap is_formed_view c.new-sent.ensures ∙ empty_view-formed
 
-pub returns-clause-kept : goal.returns-clause-kept
-returns-clause-kept c dg = record {
+pub returns-clause-invariant : goal.returns-clause-invariant
+returns-clause-invariant c dg = record {
   formed = ap are_formed c.new.ensures.resources ∙ start-formed dg c.args.node;
-  claims = c.new.ensures.keeps dg;
+  claims = c.new.ensures.claims dg;
   sent = record { closed = rw c.new-sent.ensures empty_view-closed; rendered = c.in_ok-tables.ensures };
 }

@@ -1,8 +1,8 @@
 use Rattle.std.proofs.Common.{◌≡◌, sym, subst}
 use Rattle.std.specs.FinMap as map
 use Rattle.fx_base.specs.Set as set
-use Rattle.fx_active.specs.Inputs.{Inputs}
-use Rattle.fx_active.specs.Active.{IsActive}
+use Rattle.fx_active.specs.declared.inputs.Inputs.{Inputs}
+use Rattle.fx_active.specs.Node.{IsActive}
 use Rattle.fx_active.proofs.NodeLemmas.{none_active}
 use Rattle.fx_active.proofs.active.ActiveRules.new.Goals as goal
 

@@ -1,28 +1,27 @@
-use Rattle.std.proofs.Common.{is_some, subst, ap, sym, ◌∙◌}
+use Rattle.std.proofs.Common.{is_some, ap, sym, ◌∙◌}
 use Rattle.std.specs.FinMap as map
-use Rattle.fx_active.specs.Active.{IsActive, where_active, applies_to}
-use Rattle.fx_active.proofs.NodeLemmas.{policies_removed, pairs_removed}
+use Rattle.fx_active.specs.Active.{where_active, applies_to}
+use Rattle.fx_active.proofs.NodeLemmas.{at_entry, policies_removed, pairs_removed}
 use Rattle.fx_active.proofs.active.ActiveRules.remove_policy.Goals as goal
 
 pub withdraw_policy-requires-clause-policies : goal.withdraw_policy-requires-clause-policies
 withdraw_policy-requires-clause-policies g c =
-    let n = c.self.inside in
-    let was = subst (λ m. IsActive m (g.S.ActiveSink.policies c.args.sink.now) (g.S.ActiveSink.profiles c.args.sink.now) (g.S.ActiveSink.pairs c.args.sink.now)) (sym c.self.view_is) c.requires in
+    let n = c.self.inside.inputs in
+    let was = at_entry c.self.view_is c.requires in
     ap is_some (was.policies_are c.args.id.now ∙ ap (where_active n.endpoints n.matched) (sym c.get-before.ensures))
 
 pub withdraw_policy-requires-clause-pairs : goal.withdraw_policy-requires-clause-pairs
 withdraw_policy-requires-clause-pairs g c = λ i.
-    let n = c.self.inside in
-    let was = subst (λ m. IsActive m (g.S.ActiveSink.policies c.args.sink.now) (g.S.ActiveSink.profiles c.args.sink.now) (g.S.ActiveSink.pairs c.args.sink.now)) (sym c.self.view_is) c.requires in
+    let n = c.self.inside.inputs in
+    let was = at_entry c.self.view_is c.requires in
     was.pairs_are c.args.id.now i ∙ ap (λ o. applies_to n.endpoints n.matched o i) (sym c.get-before.ensures)
 
 pub returns-clause-active : goal.returns-clause-active
 returns-clause-active g c =
     let P = g.S.ActiveSink.policies c.args.sink.now in
-    let Q = g.S.ActiveSink.profiles c.args.sink.now in
     let S = g.S.ActiveSink.pairs c.args.sink.now in
-    let n = c.self.inside in
-    let was = subst (λ m. IsActive m P Q S) (sym c.self.view_is) c.requires in
+    let n = c.self.inside.inputs in
+    let was = at_entry c.self.view_is c.requires in
     let id = c.args.id.now in
     record {
       policies_are = policies_removed n.endpoints n.matched n.policies c.remove.new.self id c.remove.ensures P (g.S.ActiveSink.policies c.withdraw_policy.new.sink) was.policies_are c.in_ok-withdraw_policy.ensures.policies;

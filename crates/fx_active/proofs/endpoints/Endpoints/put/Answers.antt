@@ -31,14 +31,14 @@ invariant_of-self-2 g c =
     let counts = c.replace-listings.result in
     let are : AreCounts counts m = λ q. ap (λ n. count_at n q) c.replace-listings.ensures.value ∙ c.self.invariant q ∙ ap (λ n. times_listed (map.entries n) q) (sym c.replace-held.ensures.value) in
     let now : c.insert.new.self ≡ map.insert (map.remove m c.args.key.now) c.args.key.now c.args.names.now =
-    c.in_ok-insert.ensures.ok ∙ (λ j. map.insert (c.remove.ensures.removed j) (copies_item _ _ c.in_ok-own_key.ensures.cases j) ((c.from_vec-kept.ensures ∙ c.in_ok-from_clones.ensures.items_if_clones_equal (λ x y h. h)) j)) in
+    c.in_ok-insert.ensures.ok ∙ (λ j. map.insert (c.remove.ensures.removed j) (copies_item _ _ c.in_ok-own_key.ensures.cases j) ((c.from_vec-own_names.ensures ∙ c.in_ok-from_clones.ensures.items_if_clones_equal (λ x y h. h)) j)) in
     subst (λ n. AreCounts c.unlist.new.self n) (sym now) (counts_put m counts are c.args.key.now c.as_slice.result.now
     (c.as_slice.ensures ∙ c.unwrap_or-before.ensures ∙ (λ j. unwrap_or (c.remove.ensures.before j) (c.new-3.ensures j)))
     c.args.names.now c.list.new.self c.in_ok-list.ensures.counts c.unlist.new.self c.in_ok-unlist.ensures.counts)
 
 pub returns-clause-endpoints : goal.returns-clause-endpoints
 returns-clause-endpoints g c =
-    c.in_ok-insert.ensures.ok ∙ (λ j. map.insert (c.remove.ensures.removed j) (copies_item _ _ c.in_ok-own_key.ensures.cases j) ((c.from_vec-kept.ensures ∙ c.in_ok-from_clones.ensures.items_if_clones_equal (λ x y h. h)) j))
+    c.in_ok-insert.ensures.ok ∙ (λ j. map.insert (c.remove.ensures.removed j) (copies_item _ _ c.in_ok-own_key.ensures.cases j) ((c.from_vec-own_names.ensures ∙ c.in_ok-from_clones.ensures.items_if_clones_equal (λ x y h. h)) j))
     ∙ insert_removed item_total exact_item c.replace-held.result c.args.key.now c.args.names.now
     ∙ ap (λ n. map.insert n c.args.key.now c.args.names.now) (c.replace-held.ensures.value ∙ c.self.view_is)
 

@@ -16,12 +16,12 @@ invariant_of-self-2 c =
     let are : AreByText by_text by_id = λ t q. ap (λ n. has_key (map.get n t) q) c.replace-by_text.ensures.value ∙ c.self.invariant t q ∙ ap (λ n. has_text t (map.get n q)) (sym c.replace-by_id.ensures.value) in
     let none : map.get by_id c.args.id.now ≡ None = ap (λ n. map.get n c.args.id.now) (c.replace-by_id.ensures.value ∙ c.self.view_is ∙ c.remove.ensures) ∙ get_removed policy_total c.args.self.now c.args.id.now in
     subst (λ n. AreByText c.add_id.new.by_text n)
-    (sym (c.in_ok-insert.ensures.ok ∙ ap (λ k. map.insert by_id k c.args.kept) (copies_policy_id _ _ c.in_ok-own_id.ensures.cases)))
-    (by_text_added by_text by_id are c.args.id.now c.args.kept c.add_id.new.by_text none
+    (sym (c.in_ok-insert.ensures.ok ∙ ap (λ k. map.insert by_id k c.args.indexed) (copies_policy_id _ _ c.in_ok-own_id.ensures.cases)))
+    (by_text_added by_text by_id are c.args.id.now c.args.indexed c.add_id.new.by_text none
     (λ t q. c.in_ok-add_id.ensures t q ∙ ap (λ u. cond (pointwise nat_eq u t && same_id q c.args.id.now) true (has_key (map.get by_text t) q)) c.text.ensures))
 
 pub returns : goal.returns
 returns c =
     c.in_ok-insert.ensures.ok
-    ∙ (λ j. map.insert ((c.replace-by_id.ensures.value ∙ c.self.view_is ∙ c.remove.ensures) j) (copies_policy_id _ _ c.in_ok-own_id.ensures.cases j) c.args.kept)
-    ∙ insert_removed policy_total exact_policy c.args.self.now c.args.id.now c.args.kept
+    ∙ (λ j. map.insert ((c.replace-by_id.ensures.value ∙ c.self.view_is ∙ c.remove.ensures) j) (copies_policy_id _ _ c.in_ok-own_id.ensures.cases j) c.args.indexed)
+    ∙ insert_removed policy_total exact_policy c.args.self.now c.args.id.now c.args.indexed

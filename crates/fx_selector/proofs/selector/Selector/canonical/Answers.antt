@@ -7,5 +7,5 @@ use Rattle.fx_selector.proofs.selector.Selector.canonical.Goals as goal
 
 pub returns-clause-spells : goal.returns-clause-spells
 returns-clause-spells c =
-    let text = c.from_vec.ensures ∙ (c.in_ok-write_node.ensures ∙ ap (λ front. front ++ canonical_text (tree c.self.inside.node)) c.new-out.ensures.items) in
+    let text = c.from_vec.ensures ∙ (c.in_ok-write_node.ensures ∙ ap (λ prefix. prefix ++ canonical_text (tree c.self.inside.node)) c.new-out.ensures.items) in
     subst (λ t. Spells c.from_vec.result t) c.self.view_is (subst (λ x. Spells x (tree c.self.inside.node)) (sym text) (canonical_spells (tree c.self.inside.node) c.self.invariant.tree))

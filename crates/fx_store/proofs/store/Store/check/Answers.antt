@@ -1,17 +1,10 @@
-use Rattle.std.proofs.Common.{◌≡◌, None, ◌∙◌}
+use Rattle.std.proofs.Common.{ap, ◌∙◌}
 use Rattle.fx_model.specs.Claims.{clash}
-use Rattle.fx_store.specs.Checking.{IsCheckFault}
-use Rattle.fx_store.proofs.Checked.{told_on}
-use Rattle.fx_store.proofs.Stored.{clash_of_put}
+use Rattle.fx_laws.proofs.Clashing.{clash-delete}
 use Rattle.fx_store.proofs.store.Store.check.Goals as goal
 
-pub returns-in_err-check_claims : goal.returns-in_err-check_claims
-returns-in_err-check_claims g c =
-    told_on c.from_residual-in_err-check_claims.result c.in_err-check_claims.field-0.0 _ c.from_residual-in_err-check_claims.ensures.1
-    (clash_of_put g.R.DigestRule.digest_of c.args.self.now.resources c.in-Put.key c.args.self.now.registry c.deref.result.now c.deref-2.result.now (c.deref.ensures.value ∙ c.in_ok-old.ensures)
-    (IsCheckFault c.in_err-check_claims.field-0.0) c.args.update.now c.in-Put.item c.in-Put.is (c.deref-2.ensures.value ∙ c.in_ok-new.ensures) c.requires c.in_err-check_claims.ensures)
-
-pub returns : goal.returns
-returns g c =
-    clash_of_put g.R.DigestRule.digest_of c.args.self.now.resources c.in-Put.key c.args.self.now.registry c.deref.result.now c.deref-2.result.now (c.deref.ensures.value ∙ c.in_ok-old.ensures)
-    (λ o. o ≡ None) c.args.update.now c.in-Put.item c.in-Put.is (c.deref-2.ensures.value ∙ c.in_ok-new.ensures) c.requires c.in_ok-check_claims.ensures
+pub returns-in-Delete : goal.returns-in-Delete
+returns-in-Delete g c =
+    let dg = g.R.DigestRule.digest_of in
+    let R = c.args.self.now.resources in
+    ap (clash dg R) c.in-Delete.is ∙ clash-delete dg R c.in-Delete.key

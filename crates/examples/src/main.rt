@@ -1,0 +1,67 @@
+//! Runs each example in memory, by the code that `felix_main` runs, and tells whether its output is the stored one.
+//!
+//! An example is two files of `data/`: its lines, `NAME.jsonl`, and its output, `NAME.txt`.
+#![tactic(auto)]
+
+use felix_replay::{Status, felix_replay};
+use fx_base::{MemSink, Memory, SureSource, Text};
+use fx_names::{DigestFunction, Namer, Sha256Rule};
+use sha2::{Digest, Sha256};
+use std::alloc::Global;
+use std::rt::Files;
+use std::{fs, io};
+
+const EXAMPLES: [&str; 5] = ["first", "packets", "rules", "refusals", "delete"];
+
+const MOST_WRITTEN: u32 = 1_048_576;
+
+/// Answers by SHA-256.
+#[derive(Clone, Copy, Debug)]
+struct Sha256Digest;
+
+impl DigestFunction<Sha256Rule> for Sha256Digest {
+    fn digest(&self, text: &[u8]) -> [u8; 32] {
+        Sha256::digest(text)
+    }
+}
+
+fn main(rt: HostRuntime) -> io::Result<()> {
+    for name in EXAMPLES {
+        let answer = outcome(&rt, name)?;
+        println!(rt; "{name}: {answer}")?;
+    }
+    Ok(())
+}
+
+fn outcome<R: Files + AllocGlobal>(rt: &R, name: &str) -> io::Result<&'static str> {
+    let lines = example_file(rt, name, ".jsonl")?;
+    let stored = example_file(rt, name, ".txt")?;
+    let Ok((status, written)) = replayed(rt.alloc(), lines) else {
+        return Ok("there is no memory");
+    };
+    Ok(judged(status, written.as_slice() == stored.as_slice()))
+}
+
+fn example_file<R: Files + AllocGlobal>(rt: &R, name: &str, ending: &str) -> io::Result<Vec<u8>> {
+    let path = format!(in rt.alloc(); "{name}{ending}")?;
+    fs::read(rt, path.as_str())
+}
+
+// The status of a run on these lines, and what it wrote.
+fn replayed(alloc: Global, lines: Vec<u8>) -> Result<(Status, Vec<u8>), Memory> {
+    let words = vec![in alloc; Text::new(alloc, b"--node")?, Text::new(alloc, b"n1")?]?;
+    let mut source = SureSource::new(lines, 4096);
+    let mut sink = MemSink::new(alloc, MOST_WRITTEN, Vec::new(alloc))?;
+    let namer = Namer::new(Sha256Digest);
+    let status = felix_replay(alloc, &words, &mut source, &mut sink, namer);
+    Ok((status, sink.held().to_vec(alloc)?))
+}
+
+fn judged(status: Status, is_stored: bool) -> &'static str {
+    match status {
+        Status::Done if is_stored => "as stored, and each line is accepted",
+        Status::Refused if is_stored => "as stored, and some line is refused",
+        Status::Done | Status::Refused => "the output differs from the stored one",
+        _ => "the run ended early",
+    }
+}

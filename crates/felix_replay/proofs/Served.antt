@@ -1,0 +1,72 @@
+-- The resources stay such that they can be served, after any lines.
+use Rattle.std.proofs.Common.{◌≡◌, ℕ, List, [], ◌∷◌, Bool, true, false, Option, None, Some, Result, Ok, Err, refl, sym, subst, ◌+◌}
+use Rattle.std.specs.Prelude.{IfOk, if◌then◌else◌, codes}
+use Rattle.fx_model.specs.declared.resources.Update.{Update}
+use Rattle.fx_model.specs.Claims.{clash}
+use Rattle.fx_model.specs.ViewPolicy.{IsServable}
+use Rattle.fx_names.specs.Claims.{Clash}
+use Rattle.fx_names.specs.Digests.{Digest}
+use Rattle.fx_laws.proofs.ClaimsApart.{clash_free_after, clash_free_none}
+use Rattle.fx_laws.proofs.FormedLemmas.{are_formed-after, have_workload_interfaces-after}
+use Rattle.fx_json.specs.declared.refusal.Refusal.{Refusal}
+use Rattle.fx_json.specs.declared.refusal.Refusal.TheVariants.{Read}
+use Rattle.fx_json.specs.declared.fault.ReadFault.TheVariants.{Unsupported}
+use Rattle.fx_lines.specs.declared.commands.Command.{Command}
+use Rattle.fx_lines.specs.declared.commands.Command.TheVariants as command
+use Rattle.fx_lines.specs.Commands.{command_of}
+use Rattle.fx_lines.specs.Formed.{IsReadCommand}
+use Rattle.fx_lines.proofs.Kept.{command_of-read}
+use Rattle.felix_replay.specs.Run.{state_after}
+use Rattle.felix_replay.specs.Output.{State, start, is_second_local, unless_taken, checked, accepted, answer_of, after_answer, next}
+use Rattle.felix_replay.proofs.EmptyView.{start-formed, start-on_workloads}
+
+start-servable : (dg : Digest) (node : List ℕ) → IsServable dg (start dg node).resources
+start-servable dg node = record {
+  formed = start-formed dg node;
+  clash_free = clash_free_none dg (start dg node).resources refl refl;
+  on_workloads = start-on_workloads dg node;
+}
+
+untaken : (s : State) → IsServable s.digest s.resources → (u : Update) → IsReadCommand (command.Update u) → (o : Option Clash) → clash s.digest s.resources u ≡ o → IsServable s.digest (after_answer s (unless_taken o u)).resources
+untaken s was u read (Some c) is = was
+untaken s was u read None is = record {
+  formed = are_formed-after s.resources was.formed u read.formed;
+  clash_free = clash_free_after s.digest s.resources u read.formed was.clash_free is;
+  on_workloads = have_workload_interfaces-after s.resources was.on_workloads u (read.on_workloads s.resources.node);
+}
+
+updated : (s : State) → IsServable s.digest s.resources → (u : Update) → IsReadCommand (command.Update u) → (b : Bool) → is_second_local s.resources u ≡ b → IsServable s.digest (after_answer s (if b then Err (Read (Unsupported (codes "spec.node"))) else unless_taken (clash s.digest s.resources u) u)).resources
+updated s was u read true is = was
+updated s was u read false is = untaken s was u read (clash s.digest s.resources u) refl
+
+answered : (s : State) → IsServable s.digest s.resources → (said : Result Command Refusal) → IfOk said IsReadCommand → IsServable s.digest (after_answer s (checked s.digest s.resources said)).resources
+answered s was (Ok command.Blank) read = was
+answered s was (Ok command.Tables) read = was
+answered s was (Ok command.Flush) read = was
+answered s was (Ok (command.Update u)) read = updated s was u read (is_second_local s.resources u) refl
+answered s was (Ok (command.Packet a)) read = was
+answered s was (Err r) read = was
+
+-- the digest stays
+accepted-digest : (s : State) (c : Command) → (accepted s c).digest ≡ s.digest
+accepted-digest s command.Blank = refl
+accepted-digest s command.Tables = refl
+accepted-digest s command.Flush = refl
+accepted-digest s (command.Update u) = refl
+accepted-digest s (command.Packet a) = refl
+
+answer-digest : (s : State) (r : Result Command Refusal) → (after_answer s r).digest ≡ s.digest
+answer-digest s (Ok c) = accepted-digest (record s { lines = s.lines + 1 }) c
+answer-digest s (Err r) = refl
+
+next-servable : (s : State) → IsServable s.digest s.resources → (line : List ℕ) → IsServable (next s line).digest (next s line).resources
+next-servable s was line =
+    subst (λ dg. IsServable dg (next s line).resources) (sym (answer-digest s (answer_of s line))) (answered s was (command_of line) (command_of-read line))
+
+along : (s : State) (lines : List (List ℕ)) → IsServable s.digest s.resources → IsServable (state_after next s lines).digest (state_after next s lines).resources
+unfolding state_after
+along s [] was = was
+along s (line ∷ lines) was = along (next s line) lines (next-servable s was line)
+
+pub run_servable : (dg : Digest) (node : List ℕ) (lines : List (List ℕ)) → IsServable (state_after next (start dg node) lines).digest (state_after next (start dg node) lines).resources
+run_servable dg node lines = along (start dg node) lines (start-servable dg node)

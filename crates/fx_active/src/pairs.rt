@@ -1,0 +1,161 @@
+//! Walks over policies and endpoints that bring the sink's pairs up to date, and its policies with them.
+ghost use Rattle.std.specs.Prelude.{◌≡◌, OnOk, is_some, true, false, not, ◌&&◌, cond};
+ghost use Rattle.std.specs.Option.{option_copied};
+ghost use Rattle.std.specs.FinMap as map;
+ghost use Rattle.fx_base.specs.Set as set;
+ghost use Rattle.fx_model.specs.Pairs.{put};
+ghost use Rattle.fx_model.specs.declared.ids.ItemKey.{ItemKey};
+ghost use Rattle.fx_model.specs.declared.ids.PolicyId.{PolicyId};
+ghost use Rattle.fx_active.specs.Active.{applies_to};
+ghost use Rattle.fx_active.specs.Steps.{insert_or_remove, selects, is_typed, has_typed_text, holds_of, IsRowSet, IsUpdated};
+
+use crate::indexed_policy::IndexedPolicy;
+use crate::inputs::Inputs;
+use crate::policies::PolicyIndex;
+use crate::reach::{holds_somewhere, selects, selects_if_there};
+use fx_base::{Memory, Text};
+use fx_model::{ActiveSink, ItemKey, Policy, PolicyId, PolicyMap};
+
+/// A policy is active no more.
+pub fn deactivate<S: ActiveSink>(id: &PolicyId, was: bool, sink: &mut S) -> Result<(), Memory>
+    requires { is_some (map.get (S.policies sink.old) id.now) ≡ was }
+    ensures policies { OnOk result (S.policies sink.new ≡ map.remove (S.policies sink.old) id.now) }
+    ensures pairs { OnOk result (S.pairs sink.new ≡ S.pairs sink.old) }
+    ensures profiles { OnOk result (S.profiles sink.new ≡ S.profiles sink.old) }
+{
+    if was {
+        sink.policy_off(id)?;
+    }
+    Ok(())
+}
+
+/// Adds a pair that is to stand, or removes one that is not.
+#[tactic(auto, using(fx_model::proofs::PairAt::put_same_policy_pair))]
+fn set_pair<S: ActiveSink>(
+    id: &PolicyId,
+    item: &ItemKey,
+    stood: bool,
+    stands: bool,
+    sink: &mut S,
+) -> Result<(), Memory>
+    requires { set.contains (S.pairs sink.old) (id.now, item.now) ≡ stood }
+    ensures pairs { OnOk result (S.pairs sink.new ≡ put (S.pairs sink.old) (id.now, item.now) stands) }
+    ensures policies { OnOk result (S.policies sink.new ≡ S.policies sink.old) }
+    ensures profiles { OnOk result (S.profiles sink.new ≡ S.profiles sink.old) }
+{
+    if stands && !stood {
+        sink.pair_on(id, item)?;
+    }
+    if stood && !stands {
+        sink.pair_off(id, item)?;
+    }
+    Ok(())
+}
+
+/// Adds or removes a pair of a policy; with its first and its last pair the policy becomes active, or is no more.
+fn update_pair<S: ActiveSink>(
+    id: &PolicyId,
+    policy: &Policy,
+    item: &ItemKey,
+    added: bool,
+    others: bool,
+    sink: &mut S,
+) -> Result<(), Memory>
+    requires pair { set.contains (S.pairs sink.old) (id.now, item.now) ≡ not added }
+    requires policy { others ≡ false → is_some (map.get (S.policies sink.old) id.now) ≡ not added }
+    ensures policies { OnOk result (S.policies sink.new ≡ cond others (S.policies sink.old) (insert_or_remove (S.policies sink.old) id.now policy.now added)) }
+    ensures pairs { OnOk result (S.pairs sink.new ≡ put (S.pairs sink.old) (id.now, item.now) added) }
+    ensures profiles { OnOk result (S.profiles sink.new ≡ S.profiles sink.old) }
+{
+    if added && !others {
+        sink.policy_on(id, policy)?;
+    }
+    set_pair(id, item, !added, added, sink)?;
+    if !added && !others {
+        sink.policy_off(id)?;
+    }
+    Ok(())
+}
+
+/// Adds or removes the pairs of an endpoint and the policies of a selector.
+pub fn update_with_text<S: ActiveSink>(
+    policies: &PolicyIndex,
+    text: &Text,
+    item: &ItemKey,
+    added: bool,
+    others: bool,
+    sink: &mut S,
+) -> Result<(), Memory>
+    requires pairs { (id : PolicyId) → has_typed_text text.now (map.get policies.now id) ≡ true → set.contains (S.pairs sink.old) (id, item.now) ≡ not added }
+    requires policies { (id : PolicyId) → (has_typed_text text.now (map.get policies.now id) && not others) ≡ true → is_some (map.get (S.policies sink.old) id) ≡ not added }
+    ensures updated { OnOk result (IsUpdated policies.now (λ id. has_typed_text text.now (map.get policies.now id)) (λ id. others) item.now added (S.policies sink.old) (S.pairs sink.old) (S.policies sink.new) (S.pairs sink.new)) }
+    ensures profiles { OnOk result (S.profiles sink.new ≡ S.profiles sink.old) }
+{
+    if let Some(ids) = policies.with_text(text) {
+        update_ids(policies, ids, item, added, others, sink)?;
+    }
+    Ok(())
+}
+
+fn update_ids<S: ActiveSink>(
+    policies: &PolicyIndex,
+    ids: &PolicyMap<()>,
+    item: &ItemKey,
+    added: bool,
+    others: bool,
+    sink: &mut S,
+) -> Result<(), Memory>
+    requires pairs { (id : PolicyId) → (set.contains ids.now id && is_typed (map.get policies.now id)) ≡ true → set.contains (S.pairs sink.old) (id, item.now) ≡ not added }
+    requires policies { (id : PolicyId) → ((set.contains ids.now id && is_typed (map.get policies.now id)) && not others) ≡ true → is_some (map.get (S.policies sink.old) id) ≡ not added }
+    ensures updated { OnOk result (IsUpdated policies.now (λ id. set.contains ids.now id && is_typed (map.get policies.now id)) (λ id. others) item.now added (S.policies sink.old) (S.pairs sink.old) (S.policies sink.new) (S.pairs sink.new)) }
+    ensures profiles { OnOk result (S.profiles sink.new ≡ S.profiles sink.old) }
+{
+    for (id, _) in ids.iter() {
+        if let Some(policy) = policies.typed(id) {
+            update_pair(id, policy, item, added, others, sink)?;
+        }
+    }
+    Ok(())
+}
+
+/// Adds or removes the pairs of an endpoint. The endpoints of the inputs are those beside it.
+pub fn update_endpoint<S: ActiveSink>(
+    inputs: &Inputs,
+    item: &ItemKey,
+    added: bool,
+    sink: &mut S,
+) -> Result<(), Memory>
+    requires pairs { (id : PolicyId) → selects inputs.now.matched item.now (map.get inputs.now.policies id) ≡ true → set.contains (S.pairs sink.old) (id, item.now) ≡ not added }
+    requires policies { (id : PolicyId) → (selects inputs.now.matched item.now (map.get inputs.now.policies id) && not (holds_of inputs.now.endpoints inputs.now.matched (map.get inputs.now.policies id))) ≡ true → is_some (map.get (S.policies sink.old) id) ≡ not added }
+    ensures updated { OnOk result (IsUpdated inputs.now.policies (λ id. selects inputs.now.matched item.now (map.get inputs.now.policies id)) (λ id. holds_of inputs.now.endpoints inputs.now.matched (map.get inputs.now.policies id)) item.now added (S.policies sink.old) (S.pairs sink.old) (S.policies sink.new) (S.pairs sink.new)) }
+    ensures profiles { OnOk result (S.profiles sink.new ≡ S.profiles sink.old) }
+{
+    for (id, indexed) in inputs.policies.iter() {
+        if selects(&inputs.matched, indexed, item) {
+            let others = holds_somewhere(inputs, indexed.text());
+            update_pair(id, indexed.policy(), item, added, others, sink)?;
+        }
+    }
+    Ok(())
+}
+
+/// Makes the pairs of a policy those of what it is after a change, from those of what it was before; either may be absent.
+pub fn update_policy<S: ActiveSink>(
+    inputs: &Inputs,
+    id: &PolicyId,
+    before: Option<&IndexedPolicy>,
+    after: Option<&IndexedPolicy>,
+    sink: &mut S,
+) -> Result<(), Memory>
+    requires { (i : ItemKey) → set.contains (S.pairs sink.old) (id.now, i) ≡ applies_to inputs.now.endpoints inputs.now.matched (option_copied before) i }
+    ensures pairs { OnOk result (IsRowSet id.now (λ i. applies_to inputs.now.endpoints inputs.now.matched (option_copied after.entry) i) (S.pairs sink.old) (S.pairs sink.new)) }
+    ensures policies { OnOk result (S.policies sink.new ≡ S.policies sink.old) }
+    ensures profiles { OnOk result (S.profiles sink.new ≡ S.profiles sink.old) }
+{
+    for (key, _) in inputs.endpoints.iter() {
+        let stood = selects_if_there(&inputs.matched, before, key);
+        let stands = selects_if_there(&inputs.matched, after, key);
+        set_pair(id, key, stood, stands, sink)?;
+    }
+    Ok(())
+}

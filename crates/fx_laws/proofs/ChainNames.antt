@@ -1,0 +1,186 @@
+-- Each chain of the tables is a fixed one, or some resource claims it.
+use Rattle.std.proofs.Common.{◌≡◌, inl, inr, ◌<◌, ℕ, Bool, true, false, ◌||◌, cond, List, [], ◌∷◌, ◌++◌, length, map, Some, None, refl, sym, ap, ◌∙◌, subst, arith}
+use Rattle.std.specs.Prelude.{filter, codes, nat_lt, nat_le, if◌then◌else◌}
+use Rattle.std.proofs.lemmas.Bool.Decides.{nat_tests}
+use Rattle.std.specs.List.{AllByRecursion, flat_map, list_all}
+use Rattle.std.specs.Cmp.Lexicographic.{nat_list_cmp_total}
+use Rattle.std.specs.FinMap as maps
+use Rattle.fx_base.specs.Same.{both_pass}
+use Rattle.std.specs.Ordering.{nat_cmp}
+use Rattle.std.specs.Cmp.Lexicographic.{slice_cmp}
+use Rattle.fx_base.proofs.Entries.{entries-empty}
+use Rattle.fx_base.proofs.AtKey.{get_empty}
+use Rattle.fx_base.proofs.ExtendedKeys.{is_among, among_first, among_later, at_extended}
+use Rattle.fx_base.proofs.Found.{each, entries_found}
+use Rattle.fx_base.specs.declared.kernel_name.KernelName.TheVariants.{Chain}
+use Rattle.fx_names.specs.Digests.{Digest}
+use Rattle.fx_names.specs.Names.{prefix_text, chain_name_of, shortened}
+use Rattle.fx_names.specs.Claims.{times}
+use Rattle.fx_names.specs.declared.claim.Claim.{Claim}
+use Rattle.fx_names.specs.declared.prefix.Prefix.TheVariants.{ToEndpoint, FromEndpoint}
+use Rattle.fx_names.proofs.ClaimLists.{times-append, times-itself}
+use Rattle.fx_model.specs.declared.ids.ItemKey.{ItemKey}
+use Rattle.fx_model.specs.declared.ids.ItemKey.TheVariants as item_key
+use Rattle.fx_model.specs.declared.resources.Endpoint.{Endpoint}
+use Rattle.fx_model.specs.declared.resources.Profile.{Profile}
+use Rattle.fx_model.specs.declared.resources.Resources.{Resources}
+use Rattle.fx_model.specs.declared.view.ViewEndpoint.{ViewEndpoint}
+use Rattle.fx_model.specs.declared.view.ViewPolicy.{ViewPolicy}
+use Rattle.fx_model.specs.declared.view.ViewProfile.{ViewProfile}
+use Rattle.fx_model.specs.declared.chain.ChainRule.{ChainRule}
+use Rattle.fx_model.specs.Directions.{Ingress, Egress}
+use Rattle.fx_model.specs.Resources.{is_served, is_local, served_endpoints}
+use Rattle.fx_model.specs.Formed.{is_formed_namespace, is_formed_item_key, is_formed_endpoint, is_formed_endpoint_entry, are_formed}
+use Rattle.fx_model.specs.Claims.{item_text, profile_claims, interface_claims, endpoint_claims, all_claims}
+use Rattle.fx_model.specs.Views.{view_of, profile_entry, endpoint_entry, active_profiles, is_active_profile}
+use Rattle.fx_model.specs.Tables.{ChainName, profile_chain, endpoint_chain, policy_chains, profile_chains, endpoint_chains, dispatch_chains, chains_of, tables_of}
+use Rattle.fx_laws.specs.ChainNames.{IsFixedOrClaimed}
+use Rattle.fx_laws.proofs.ClaimsOfKeys.{ingress_claimed, egress_claimed}
+use Rattle.fx_laws.proofs.FormedLemmas.{parts, not_formed}
+
+abbrev Written : Type 0
+Written = ChainName × List ChainRule
+
+fixed-append : (P : Written → Type 0) (xs ys : List Written) → AllByRecursion P xs → AllByRecursion P ys → AllByRecursion P (xs ++ ys)
+fixed-append P [] ys h g = g
+fixed-append P (x ∷ xs) ys h g = (h.0, fixed-append P xs ys h.1 g)
+
+-- an interface's name stands behind a prefix as it is
+short_whole : (n : ℕ) (b : Bool) → nat_le n 15 ≡ true → (nat_lt n 20 || b) ≡ true
+short_whole n b h = grind (arith, nat_tests, h)
+
+module _ (dg : Digest) where
+  to_name : (e : Endpoint) → is_formed_endpoint e ≡ true → chain_name_of dg ToEndpoint e.iface ≡ endpoint_chain Ingress e.iface
+  to_name e h = ap (λ b. prefix_text ToEndpoint ++ (if b then e.iface else shortened dg 20 e.iface)) (short_whole (length e.iface) _ h)
+
+  from_name : (e : Endpoint) → is_formed_endpoint e ≡ true → chain_name_of dg FromEndpoint e.iface ≡ endpoint_chain Egress e.iface
+  from_name e h = ap (λ b. prefix_text FromEndpoint ++ (if b then e.iface else shortened dg 20 e.iface)) (short_whole (length e.iface) _ h)
+
+  module _ (R : Resources) where
+    abbrev Has : ChainName → Type 0
+    Has name = IsFixedOrClaimed dg R name
+
+    abbrev IsHeld : Written → Type 0
+    IsHeld w = Has w.0
+
+    -- ---- profiles
+
+    abbrev ProfileHeld : List ℕ → ViewProfile → Type 0
+    ProfileHeld key p = Has (profile_chain Ingress key) × Has (profile_chain Egress key)
+
+    names_held : (all names : List (List ℕ)) → ((n : List ℕ) → is_among n names ≡ true → is_active_profile R n ≡ true) → AllByRecursion (λ e. ProfileHeld e.0 e.1) (map (profile_entry dg R) names)
+    names_held all [] active = tt
+    names_held all (n ∷ names) active =
+        let here = active n (among_first n names) in (
+          (inr (codes "profile " ++ n, ingress_claimed dg R n here), inr (codes "profile " ++ n, egress_claimed dg R n here)),
+          names_held all names (λ m h. active m (among_later m n names h)),
+        )
+
+    no_profile : {A : Type 0} (p : ViewProfile) → None ≡ Some p → A
+    no_profile p is = cc
+
+    profile_held : (key : List ℕ) (p : ViewProfile) → maps.get (view_of dg R).profiles key ≡ Some p → ProfileHeld key p
+    profile_held = at_extended ProfileHeld maps.empty (map (profile_entry dg R) (active_profiles R))
+        (λ q x is. no_profile x (sym (get_empty q) ∙ is))
+        (names_held (active_profiles R) (active_profiles R) (λ n h. h))
+
+    profile_chains_held : (es : List (List ℕ × ViewProfile)) → AllByRecursion (λ e. ProfileHeld e.0 e.1) es → AllByRecursion IsHeld (flat_map profile_chains es)
+    profile_chains_held [] h = tt
+    profile_chains_held (e ∷ es) h = (h.0.0, (h.0.1, profile_chains_held es h.1))
+
+    -- ---- endpoints
+
+    abbrev EndpointHeld : List ℕ → ViewEndpoint → Type 0
+    EndpointHeld iface e = Has (endpoint_chain Ingress iface) × Has (endpoint_chain Egress iface)
+
+    abbrev endpoints_claim : List (ItemKey × Endpoint) → List Claim
+    endpoints_claim es = flat_map (λ x. endpoint_claims dg R.node x.0 x.1) es
+
+    abbrev to_claim : ItemKey × Endpoint → Claim
+    to_claim x = record { name = Chain (chain_name_of dg ToEndpoint x.1.iface); holder = codes "endpoint " ++ item_text x.0 }
+
+    abbrev from_claim : ItemKey × Endpoint → Claim
+    from_claim x = record { name = Chain (chain_name_of dg FromEndpoint x.1.iface); holder = codes "endpoint " ++ item_text x.0 }
+
+    module _ (x : ItemKey × Endpoint) (served : is_served R x.1 ≡ true) where
+      own : endpoint_claims dg R.node x.0 x.1 ≡ interface_claims dg x.0 x.1 ++ flat_map (profile_claims dg) x.1.profiles
+      own = ap (λ b. if b then interface_claims dg x.0 x.1 ++ flat_map (profile_claims dg) x.1.profiles else []) (both_pass R.in_sync (is_local R x.1) served).1
+
+      to_claimed : 0 < times (to_claim x) (endpoint_claims dg R.node x.0 x.1)
+      to_claimed =
+          subst (λ (cs : List Claim). 0 < times (to_claim x) cs) (sym own)
+          (omega (arith, times-itself (to_claim x) (from_claim x ∷ flat_map (profile_claims dg) x.1.profiles)))
+
+      from_claimed : 0 < times (from_claim x) (endpoint_claims dg R.node x.0 x.1)
+      from_claimed =
+          subst (λ (cs : List Claim). 0 < times (from_claim x) cs) (sym own)
+          (omega (arith, times-itself (from_claim x) (flat_map (profile_claims dg) x.1.profiles)))
+
+    formed_iface : (x : ItemKey × Endpoint) → is_formed_endpoint_entry x ≡ true → is_formed_endpoint x.1 ≡ true
+    formed_iface (item_key.Endpoint ns name, e) h = (both_pass (is_formed_namespace ns) (is_formed_endpoint e) h).1
+    formed_iface (item_key.NetSet ns name, e) h = not_formed (is_formed_item_key (item_key.NetSet ns name)) h
+
+    endpoint_held : (x : ItemKey × Endpoint) → is_formed_endpoint_entry x ≡ true → 0 < times (to_claim x) (all_claims dg R) → 0 < times (from_claim x) (all_claims dg R) → Has (endpoint_chain Ingress x.1.iface) × Has (endpoint_chain Egress x.1.iface)
+    endpoint_held x formed to from =
+        let short = formed_iface x formed in (
+          subst Has (to_name x.1 short) (inr (codes "endpoint " ++ item_text x.0, to)),
+          subst Has (from_name x.1 short) (inr (codes "endpoint " ++ item_text x.0, from)),
+        )
+
+    served_held : (es : List (ItemKey × Endpoint)) → list_all is_formed_endpoint_entry es ≡ true → ((c : Claim) → 0 < times c (endpoints_claim es) → 0 < times c (all_claims dg R)) → AllByRecursion (λ e. EndpointHeld e.0 e.1) (map (endpoint_entry dg) (filter (λ x. is_served R x.1) es))
+    served_held [] all more = tt
+    served_held (x ∷ es) all more =
+        let h = both_pass (is_formed_endpoint_entry x) (list_all is_formed_endpoint_entry es) all in
+        let left = filter (λ (y : ItemKey × Endpoint). is_served R y.1) es in
+        let first = endpoint_claims dg R.node x.0 x.1 in
+        let rest = served_held es h.1 (λ c p. more c (omega (arith, p, times-append c first (endpoints_claim es)))) in
+        elim (is_served R x.1) as (λ b. is_served R x.1 ≡ b → AllByRecursion (λ (e : List ℕ × ViewEndpoint). EndpointHeld e.0 e.1) (map (endpoint_entry dg) (cond b (x ∷ left) left))) [
+          | true ↦ λ served. (
+            endpoint_held x h.0
+                (more (to_claim x) (omega (arith, to_claimed x served, times-append (to_claim x) first (endpoints_claim es))))
+                (more (from_claim x) (omega (arith, from_claimed x served, times-append (from_claim x) first (endpoints_claim es)))),
+            rest,
+          )
+          | false ↦ λ served. rest
+        ] refl
+
+    no_endpoint : {A : Type 0} (e : ViewEndpoint) → None ≡ Some e → A
+    no_endpoint e is = cc
+
+    endpoints_held : are_formed R ≡ true → (iface : List ℕ) (e : ViewEndpoint) → maps.get (view_of dg R).endpoints iface ≡ Some e → EndpointHeld iface e
+    endpoints_held formed = at_extended EndpointHeld maps.empty (map (endpoint_entry dg) (served_endpoints R))
+        (λ q x is. no_endpoint x (sym (get_empty q) ∙ is))
+        (served_held (maps.entries R.endpoints) (parts R formed).0
+        (λ c p. omega (arith, p, times-append c (endpoints_claim (maps.entries R.endpoints)) (flat_map (λ (x : List ℕ × Profile). profile_claims dg x.0) (maps.entries R.profiles)))))
+
+    endpoint_chains_held : (es : List (List ℕ × ViewEndpoint)) → AllByRecursion (λ e. EndpointHeld e.0 e.1) es → AllByRecursion IsHeld (flat_map endpoint_chains es)
+    endpoint_chains_held [] h = tt
+    endpoint_chains_held (e ∷ es) h = (h.0.0, (h.0.1, endpoint_chains_held es h.1))
+
+    -- ---- all of them
+
+    -- there are no policies yet
+    policy_chains_held : AllByRecursion IsHeld (flat_map policy_chains (maps.entries (view_of dg R).policies))
+    policy_chains_held = subst (λ (es : List (List ℕ × ViewPolicy)). AllByRecursion IsHeld (flat_map policy_chains es)) (sym (entries-empty (slice_cmp nat_cmp))) tt
+
+    all_held : are_formed R ≡ true → AllByRecursion IsHeld (chains_of (view_of dg R))
+    all_held formed =
+        let v = view_of dg R in
+        let profiles = flat_map profile_chains (maps.entries v.profiles) in
+        let endpoints = flat_map endpoint_chains (maps.entries v.endpoints) in
+        fixed-append IsHeld (flat_map policy_chains (maps.entries v.policies)) (profiles ++ (endpoints ++ dispatch_chains v)) policy_chains_held
+        (fixed-append IsHeld profiles (endpoints ++ dispatch_chains v)
+        (profile_chains_held (maps.entries v.profiles)
+        (each (λ e. maps.get v.profiles e.0 ≡ Some e.1) (λ e. ProfileHeld e.0 e.1) (λ e is. profile_held e.0 e.1 is) (maps.entries v.profiles) (entries_found nat_list_cmp_total v.profiles)))
+        (fixed-append IsHeld endpoints (dispatch_chains v)
+        (endpoint_chains_held (maps.entries v.endpoints)
+        (each (λ e. maps.get v.endpoints e.0 ≡ Some e.1) (λ e. EndpointHeld e.0 e.1) (λ e is. endpoints_held formed e.0 e.1 is) (maps.entries v.endpoints) (entries_found nat_list_cmp_total v.endpoints)))
+        (inl refl, (inl refl, (inl refl, tt)))))
+
+no_chain : {A : Type 0} (rules : List ChainRule) → None ≡ Some rules → A
+no_chain rules is = cc
+
+pub chains_claimed : (dg : Digest) (R : Resources) (name : ChainName) (rules : List ChainRule) → are_formed R ≡ true → maps.get (tables_of (view_of dg R)).chains name ≡ Some rules → IsFixedOrClaimed dg R name
+chains_claimed dg R name rules formed is =
+    at_extended (λ (q : ChainName) (rs : List ChainRule). IsFixedOrClaimed dg R q) maps.empty (chains_of (view_of dg R))
+    (λ q x none. no_chain x (sym (get_empty q) ∙ none)) (all_held dg R formed) name rules is

@@ -1,0 +1,17 @@
+pub mod Removing
+pub mod Keys
+pub mod FormedLemmas
+pub mod Shaping
+pub mod Writable
+pub mod Leading
+pub mod ViewClosed
+pub mod Apart
+pub mod NextCases
+pub mod Nearer
+pub mod StepClosed
+pub mod Flushes
+pub mod ClaimsCounted
+pub mod Clashing
+pub mod ClaimsApart
+pub mod ClaimsOfKeys
+pub mod ChainNames

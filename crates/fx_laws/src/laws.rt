@@ -1,0 +1,85 @@
+//! What holds of all resources, of every view, of its tables and of the messages towards it. Each law is a contract; no
+//! function does anything.
+ghost use Rattle.std.specs.Prelude.{◌≡◌, ◌+◌, List, ℕ, true, Option, Some, None};
+ghost use Rattle.std.specs.List.{AllByRecursion};
+ghost use Rattle.std.specs.FinMap as map;
+ghost use Rattle.fx_model.specs.declared.resources.Resources.{Resources};
+ghost use Rattle.fx_model.specs.declared.resources.Update.{Update};
+ghost use Rattle.fx_model.specs.declared.view.View.{View};
+ghost use Rattle.fx_names.specs.Digests.{Digest};
+ghost use Rattle.fx_model.specs.Resources.{empty_resources, after};
+ghost use Rattle.fx_model.specs.Formed.{is_formed, are_formed, is_formed_view, puts_workload_interface, have_workload_interfaces, has_workload_interfaces};
+ghost use Rattle.fx_model.specs.Claims.{clash, IsClashFree};
+ghost use Rattle.fx_model.specs.Views.{view_of};
+ghost use Rattle.fx_model.specs.declared.chain.ChainRule.{ChainRule};
+ghost use Rattle.fx_model.specs.Tables.{ChainName, chains_of, tables_of};
+ghost use Rattle.fx_laws.specs.ChainNames.{IsFixedOrClaimed};
+ghost use Rattle.fx_model.specs.Closed.{IsClosedView, AreClosedTables};
+ghost use Rattle.fx_model.specs.Ranks.{IsRanked};
+ghost use Rattle.fx_model.specs.Writing.{CanBeWritten};
+ghost use Rattle.fx_model.specs.Messages.{Change, next_message, step_at, differences, flush, sent_views};
+
+/// The view of any resources names nothing that it lacks.
+pub fn wanted_view_is_closed()
+    ensures { (dg : Digest) (R : Resources) → IsClosedView (view_of dg R) }
+{}
+
+/// A closed view's tables name nothing that they lack, and no chain leads to one of its own rank or above.
+pub fn closed_view_has_closed_tables()
+    ensures closed { (v : View) → IsClosedView v → AreClosedTables (tables_of v) }
+    ensures ranked { (v : View) → IsClosedView v → IsRanked (tables_of v).chains }
+{}
+
+/// A closed view's chains can be written into empty tables in their order.
+pub fn closed_view_can_be_written()
+    ensures { (v : View) → IsClosedView v → CanBeWritten v.sets map.empty (chains_of v) }
+{}
+
+/// There is a message exactly while the sent view isn't the wanted one.
+pub fn messages_stop_at_the_wanted_view()
+    ensures reached { (sent wanted : View) → next_message sent wanted ≡ None → sent ≡ wanted }
+    ensures silent { (wanted : View) → next_message wanted wanted ≡ None }
+{}
+
+/// The next message settles one of the keys that differ, and unsettles none.
+pub fn message_leaves_one_difference_fewer()
+    ensures { (sent wanted : View) (next : Change) → next_message sent wanted ≡ Some next → differences (step_at next sent wanted) wanted + 1 ≡ differences sent wanted }
+{}
+
+/// On the way from a closed view to a closed view nothing is named that isn't there.
+pub fn message_keeps_the_sent_view_closed()
+    ensures { (sent wanted : View) (next : Change) → IsClosedView sent → IsClosedView wanted → next_message sent wanted ≡ Some next → IsClosedView (step_at next sent wanted) }
+{}
+
+/// A flush without a limit ends at the wanted view.
+pub fn flush_ends_at_the_wanted_view()
+    ensures { (sent wanted : View) → (flush None sent wanted).ends ≡ wanted }
+{}
+
+/// Each view on the way of a flush is closed, whatever its limit.
+pub fn flush_keeps_views_closed()
+    ensures { (limit : Option ℕ) (sent wanted : View) → IsClosedView sent → IsClosedView wanted → AllByRecursion IsClosedView (sent_views (flush limit sent wanted).messages sent wanted) }
+{}
+
+/// Formed updates leave formed resources, which have a formed view.
+pub fn formed_updates_keep_resources_formed()
+    ensures after { (R : Resources) → are_formed R ≡ true → (u : Update) → is_formed u ≡ true → are_formed (after R u) ≡ true }
+    ensures view { (dg : Digest) (R : Resources) → are_formed R ≡ true → is_formed_view (view_of dg R) ≡ true }
+{}
+
+/// While updates put local endpoints on interfaces of workloads alone, they stand there, and so do those of the view.
+pub fn workload_interfaces_stay()
+    ensures after { (R : Resources) → have_workload_interfaces R ≡ true → (u : Update) → puts_workload_interface R.node u ≡ true → have_workload_interfaces (after R u) ≡ true }
+    ensures view { (dg : Digest) (R : Resources) → have_workload_interfaces R ≡ true → has_workload_interfaces (view_of dg R) ≡ true }
+{}
+
+/// No two holders claim one name at the start, nor after an update that clashes with nothing.
+pub fn accepted_updates_keep_claims_apart()
+    ensures start { (dg : Digest) (node : List ℕ) → IsClashFree dg (empty_resources node) }
+    ensures after { (dg : Digest) (R : Resources) (u : Update) → is_formed u ≡ true → IsClashFree dg R → clash dg R u ≡ None → IsClashFree dg (after R u) }
+{}
+
+/// Each chain of the tables is one of the three that always stand, or some resource claims its name.
+pub fn chains_are_claimed()
+    ensures { (dg : Digest) (R : Resources) (name : ChainName) (rules : List ChainRule) → are_formed R ≡ true → map.get (tables_of (view_of dg R)).chains name ≡ Some rules → IsFixedOrClaimed dg R name }
+{}

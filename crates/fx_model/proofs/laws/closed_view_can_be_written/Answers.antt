@@ -1,5 +1,0 @@
-use Rattle.fx_model.proofs.Writable.{chains_can_be_written}
-use Rattle.fx_model.proofs.laws.closed_view_can_be_written.Goals as goal
-
-pub returns : goal.returns
-returns c = chains_can_be_written

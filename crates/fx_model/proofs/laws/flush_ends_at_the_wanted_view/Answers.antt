@@ -1,5 +1,0 @@
-use Rattle.fx_model.proofs.Flushes.{flush-ends}
-use Rattle.fx_model.proofs.laws.flush_ends_at_the_wanted_view.Goals as goal
-
-pub returns : goal.returns
-returns c = flush-ends

@@ -1,5 +1,0 @@
-use Rattle.fx_model.proofs.Flushes.{flush-closed}
-use Rattle.fx_model.proofs.laws.flush_keeps_views_closed.Goals as goal
-
-pub returns : goal.returns
-returns c = flush-closed

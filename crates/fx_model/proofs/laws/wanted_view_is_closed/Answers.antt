@@ -1,5 +1,0 @@
-use Rattle.fx_model.proofs.ViewClosed.{view_of-closed}
-use Rattle.fx_model.proofs.laws.wanted_view_is_closed.Goals as goal
-
-pub returns : goal.returns
-returns c = view_of-closed

@@ -1,7 +1,0 @@
-use Rattle.std.proofs.Common.{◌≡◌, ◌++◌}
-use Rattle.fx_base.specs.Set as set
-use Rattle.fx_print.specs.MessageTexts.{each_member}
-use Rattle.fx_print.proofs.messages.push_all.Given as goal
-
-abbrev pub invariant-loop-member : goal.invariant-loop-member
-invariant-loop-member l = l.line.items ++ each_member l.lead l.member-iterator ≡ l.fn.line.items ++ each_member l.lead (set.items l.members)

@@ -1,0 +1,8 @@
+//! Sinks that record what they are told, for tests.
+#![tactic(auto)]
+
+pub use records::{RecordActive, RecordMatches};
+
+mod records;
+#[cfg(test)]
+mod tests;

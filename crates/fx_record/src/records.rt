@@ -1,0 +1,104 @@
+//! Sinks that record what they are told, for tests: their fields are their relations.
+ghost use Rattle.std.specs.Prelude.{◌≡◌};
+ghost use Rattle.std.specs.FinMap as map;
+ghost use Rattle.fx_base.specs.Set as set;
+
+use fx_base::{Memory, Text, TextMap};
+use fx_model::{
+    ActiveSink, ItemKey, MatchSink, PairSet, Policy, PolicyId, PolicyMap, PolicyPairSet, Profile,
+};
+use std::alloc::Global;
+
+/// The pairs of a selector and an item.
+#[derive(Drop)]
+pub struct RecordMatches {
+    pub pairs: PairSet,
+}
+
+impl RecordMatches {
+    pub fn new(alloc: Global) -> Self
+        ensures { result.pairs ≡ set.empty }
+    {
+        RecordMatches {
+            pairs: PairSet::new(alloc),
+        }
+    }
+}
+
+impl MatchSink for RecordMatches {
+    ghost pairs = { λ a. a.pairs };
+
+    fn matched(&mut self, selector: &Text, item: &ItemKey) -> Result<(), Memory> {
+        self.pairs.insert((selector.clone()?, item.clone()?))?;
+        Ok(())
+    }
+
+    fn unmatched(&mut self, selector: &Text, item: &ItemKey) -> Result<(), Memory> {
+        self.pairs.remove(&(selector.clone()?, item.clone()?));
+        Ok(())
+    }
+}
+
+/// Active policies, listed profiles, and the pairs of a policy and an endpoint.
+#[derive(Drop)]
+pub struct RecordActive {
+    pub policies: PolicyMap<Policy>,
+    pub profiles: TextMap<Option<Profile>>,
+    pub pairs: PolicyPairSet,
+}
+
+impl RecordActive {
+    pub fn new(alloc: Global) -> Self
+        ensures policies { result.policies ≡ map.empty }
+        ensures profiles { result.profiles ≡ map.empty }
+        ensures pairs { result.pairs ≡ set.empty }
+    {
+        RecordActive {
+            policies: PolicyMap::new(alloc),
+            profiles: TextMap::new(alloc),
+            pairs: PolicyPairSet::new(alloc),
+        }
+    }
+}
+
+impl ActiveSink for RecordActive {
+    ghost policies = { λ a. a.policies };
+
+    ghost profiles = { λ a. a.profiles };
+
+    ghost pairs = { λ a. a.pairs };
+
+    fn policy_on(&mut self, id: &PolicyId, policy: &Policy) -> Result<(), Memory> {
+        self.policies.insert(id.clone()?, policy.clone()?)?;
+        Ok(())
+    }
+
+    fn policy_off(&mut self, id: &PolicyId) -> Result<(), Memory> {
+        self.policies.remove(id);
+        Ok(())
+    }
+
+    fn profile_on(&mut self, name: &Text, profile: Option<&Profile>) -> Result<(), Memory> {
+        let profile = match profile {
+            Some(profile) => Some(profile.clone()?),
+            None => None,
+        };
+        self.profiles.insert(name.clone()?, profile)?;
+        Ok(())
+    }
+
+    fn profile_off(&mut self, name: &Text) -> Result<(), Memory> {
+        self.profiles.remove(name);
+        Ok(())
+    }
+
+    fn pair_on(&mut self, id: &PolicyId, item: &ItemKey) -> Result<(), Memory> {
+        self.pairs.insert((id.clone()?, item.clone()?))?;
+        Ok(())
+    }
+
+    fn pair_off(&mut self, id: &PolicyId, item: &ItemKey) -> Result<(), Memory> {
+        self.pairs.remove(&(id.clone()?, item.clone()?));
+        Ok(())
+    }
+}

@@ -1,0 +1,94 @@
+//! The recording sinks, each call once.
+#![tactic(auto, using(fx_base::proofs::AtKey::reads))]
+
+use crate::{RecordActive, RecordMatches};
+use fx_base::{Memory, Seq, Text};
+use fx_model::{ActiveSink, ItemKey, MatchSink, Policy, PolicyId, Profile};
+use fx_selector::{Labels, Selector};
+use std::alloc::Global;
+use std::test::Fail;
+
+fn item(alloc: Global) -> Result<ItemKey, Memory> {
+    Ok(ItemKey::NetSet {
+        ns: None,
+        name: Text::new(alloc, b"n")?,
+    })
+}
+
+#[test]
+fn pairs_that_match_are_recorded(rt: HostRuntime) -> Result<(), Fail> {
+    let a = rt.alloc();
+    let text = Text::new(a, b"all()")?;
+    let key = item(a)?;
+    let pair = (text.clone()?, key.clone()?);
+    let mut sink = RecordMatches::new(a);
+    sink.matched(&text, &key)?;
+    assert!(rt; sink.pairs.contains(&pair));
+    sink.unmatched(&text, &key)?;
+    assert!(rt; !sink.pairs.contains(&pair));
+    Ok(())
+}
+
+#[test]
+fn active_policies_are_recorded(rt: HostRuntime) -> Result<(), Fail> {
+    let a = rt.alloc();
+    let id = PolicyId::Global {
+        name: Text::new(a, b"p")?,
+    };
+    let policy = Policy {
+        tier: Text::new(a, b"default")?,
+        order: None,
+        selector: Selector::parse(a, b"all()")?,
+        on_ingress: true,
+        on_egress: true,
+        ingress: Seq::new(a),
+        egress: Seq::new(a),
+    };
+    let mut sink = RecordActive::new(a);
+    sink.policy_on(&id, &policy)?;
+    assert!(rt; sink.policies.get(&id).is_some());
+    sink.policy_off(&id)?;
+    assert!(rt; sink.policies.get(&id).is_none());
+    Ok(())
+}
+
+#[test]
+fn listed_profiles_are_recorded(rt: HostRuntime) -> Result<(), Fail> {
+    let a = rt.alloc();
+    let name = Text::new(a, b"p")?;
+    let mut sink = RecordActive::new(a);
+    sink.profile_on(&name, None)?;
+    match sink.profiles.get(&name) {
+        Some(profile) => assert!(rt; profile.is_none()),
+        None => assert!(rt; false),
+    }
+    let profile = Profile {
+        labels: Labels::new(a),
+        ingress: Seq::new(a),
+        egress: Seq::new(a),
+    };
+    sink.profile_on(&name, Some(&profile))?;
+    match sink.profiles.get(&name) {
+        Some(profile) => assert!(rt; profile.is_some()),
+        None => assert!(rt; false),
+    }
+    sink.profile_off(&name)?;
+    assert!(rt; sink.profiles.get(&name).is_none());
+    Ok(())
+}
+
+#[test]
+fn pairs_of_policies_are_recorded(rt: HostRuntime) -> Result<(), Fail> {
+    let a = rt.alloc();
+    let id = PolicyId::Global {
+        name: Text::new(a, b"p")?,
+    };
+    let key = item(a)?;
+    let pair = (id.clone()?, key.clone()?);
+    let mut sink = RecordActive::new(a);
+    sink.pair_on(&id, &key)?;
+    assert!(rt; sink.pairs.contains(&pair));
+    sink.pair_off(&id, &key)?;
+    assert!(rt; !sink.pairs.contains(&pair));
+    Ok(())
+}

@@ -1,6 +1,0 @@
--- What was read before, and what is read on from there.
-use Rattle.std.proofs.Common.{ℕ, List, ◌++◌}
-use Rattle.fx_selector.specs.Reading.{Res, Got, bind}
-
-abbrev pub with_all : List ℕ → Res (List ℕ) → Res (List ℕ)
-with_all front x = bind x (λ v rest. Got (front ++ v) rest)
