@@ -1,4 +1,4 @@
 pub mod Orders
 pub mod ClaimLists
-pub mod Kept
+pub mod Holdings
 pub mod PlainText

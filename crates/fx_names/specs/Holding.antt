@@ -20,6 +20,6 @@ pub record HoldsClaims (r : Registry) (claims : List Claim) : Type 0 where
   pub each : (c : Claim) → uses_of (map.get r.names c.name) c ≡ times c claims
 
 -- the clash that an answer tells
-abbrev pub clash_told : {T : Type 0} → Result T Taken → Option Clash
-clash_told (Ok _) = None
-clash_told (Err taken) = Some (record { name = taken.name; holder = taken.holder.now })
+abbrev pub clash_of : {T : Type 0} → Result T Taken → Option Clash
+clash_of (Ok _) = None
+clash_of (Err taken) = Some (record { name = taken.name; holder = taken.holder.now })

@@ -25,7 +25,7 @@ room p = 28 - length (prefix_text p)
 abbrev pub digest_text : Digest → List ℕ → List ℕ
 digest_text dg text = encode_of url_safe_no_pad (dg text)
 
--- `_` and a front of the digest's text, n bytes in all
+-- `_` and a prefix of the digest's text, n bytes in all
 abbrev pub shortened : Digest → ℕ → List ℕ → List ℕ
 shortened dg n text = 95 ∷ take (n - 1) (digest_text dg text)
 

@@ -3,14 +3,15 @@ ghost use Rattle.std.specs.Prelude.{◌≡◌};
 ghost use Rattle.fx_names.specs.Digests.{plain_digest};
 ghost use Rattle.sha2.specs.Sha256.{sha256};
 
-/// A rule that gives each text 32 bytes.
+/// A rule by which each text has a digest of 32 bytes.
 pub trait DigestRule {
     ghost use Rattle.std.specs.Prelude.{ℕ, List};
 
     ghost digest_of: { List ℕ → List ℕ };
 }
 
-/// What answers by a rule.
+/// A function that answers each text with its digest by the rule. Names are made by what is proved of the rule alone, so
+/// any function that meets this contract makes the same names.
 pub trait DigestFunction<R: DigestRule> {
     fn digest(&self, text: &[u8]) -> [u8; 32]
         ensures { result ≡ R.digest_of text.now };
@@ -24,7 +25,7 @@ impl DigestRule for Sha256Rule {
     ghost digest_of = { sha256 };
 }
 
-/// The text's first 32 bytes, filled up with zero bytes. Texts with one front have one digest, so that clashes can be tried.
+/// The text's first 32 bytes, filled up with zero bytes. Texts with one prefix of 32 bytes have one digest, so that clashes can be tried.
 #[derive(Clone, Copy, Debug)]
 pub struct PlainRule;
 

@@ -27,7 +27,7 @@ impl<R: DigestRule, F: DigestFunction<R> + Drop> Namer<R, F> {
         }
     }
 
-    /// What stands behind a chain's prefix: the suffix where it fits, or `_` and a front of its digest's text.
+    /// What stands behind a chain's prefix: the suffix where it fits, or `_` and a prefix of its digest's text.
     pub fn key(&self, prefix: Prefix, suffix: &[u8]) -> NameKey
         ensures key { result ≡ key_of R.digest_of prefix suffix.now }
         ensures short { length result ≤ room prefix }

@@ -8,7 +8,7 @@ use Rattle.fx_names.specs.declared.registry.Registry.{Registry}
 use Rattle.fx_names.specs.Claims.{Clash, times, first_clash}
 use Rattle.fx_names.specs.Holding.{HoldsClaims}
 use Rattle.fx_names.proofs.ClaimLists.{times-append}
-use Rattle.fx_names.proofs.Kept.{HoldsClaims-same}
+use Rattle.fx_names.proofs.Holdings.{HoldsClaims-same}
 use Rattle.fx_model.specs.declared.ids.Key.{Key}
 use Rattle.fx_model.specs.declared.resources.Item.{Item}
 use Rattle.fx_model.specs.declared.resources.Resources.{Resources}

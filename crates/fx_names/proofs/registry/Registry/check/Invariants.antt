@@ -6,4 +6,4 @@ use Rattle.fx_names.proofs.registry.Registry.check.Given as goal
 
 -- the first clash is that of what is left with what is held then
 abbrev pub invariant-loop-i : goal.invariant-loop-i
-invariant-loop-i l = (kept : List Claim) → HoldsClaims l.self (l.old ++ kept) → first_clash kept l.new ≡ first_clash (kept ++ take l.i l.new) (drop l.i l.new)
+invariant-loop-i l = (others : List Claim) → HoldsClaims l.self (l.old ++ others) → first_clash others l.new ≡ first_clash (others ++ take l.i l.new) (drop l.i l.new)

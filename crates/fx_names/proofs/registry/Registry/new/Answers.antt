@@ -1,4 +1,4 @@
-use Rattle.fx_names.proofs.Kept.{HoldsClaims-empty}
+use Rattle.fx_names.proofs.Holdings.{HoldsClaims-empty}
 use Rattle.fx_names.proofs.registry.Registry.new.Goals as goal
 
 pub returns : goal.returns

@@ -1,17 +1,17 @@
 use Rattle.std.proofs.Common.{sym, ap, ◌∙◌, option_map}
 use Rattle.std.proofs.lemmas.Bool.{not-true, not-false}
-use Rattle.fx_names.proofs.Kept.{other_holder-free, other_holder-own, other_holder-gone, other_holder-there}
+use Rattle.fx_names.proofs.Holdings.{other_holder-free, other_holder-own, other_holder-gone, other_holder-there}
 use Rattle.fx_names.proofs.registry.Registry.other_holder.Goals.{else-ne-via-then-ne+else-outlasts, else-ne-via-else-ne}
 use Rattle.fx_names.proofs.registry.Registry.other_holder.Goals as goal
 
 pub returns-in_err-holding : goal.returns-in_err-holding
-returns-in_err-holding c = λ kept k. ap (option_map (λ text. text.now)) c.from_residual.ensures ∙ sym (other_holder-free _ c.args.claim.now _ kept k (sym c.in_err-holding.ensures))
+returns-in_err-holding c = λ others k. ap (option_map (λ text. text.now)) c.from_residual.ensures ∙ sym (other_holder-free _ c.args.claim.now _ others k (sym c.in_err-holding.ensures))
 
 pub returns-then-outlasts : goal.returns-then-outlasts
-returns-then-outlasts c = λ kept k. sym (other_holder-there _ c.args.claim.now _ kept k c.in_ok-holding.holding.now (sym c.in_ok-holding.ensures) (not-true _ (sym c.if-ne.ensures)) (sym c.if-outlasts.ensures))
+returns-then-outlasts c = λ others k. sym (other_holder-there _ c.args.claim.now _ others k c.in_ok-holding.holding.now (sym c.in_ok-holding.ensures) (not-true _ (sym c.if-ne.ensures)) (sym c.if-outlasts.ensures))
 
 pub returns-else-ne : goal.returns-else-ne
-returns-else-ne c = λ kept k. elim c.else-ne.branch [
-  | else-ne-via-then-ne+else-outlasts w ↦ sym (other_holder-gone _ c.args.claim.now _ kept k c.in_ok-holding.holding.now (sym c.in_ok-holding.ensures) (sym w.if-outlasts.ensures))
-  | else-ne-via-else-ne w ↦ sym (other_holder-own _ c.args.claim.now _ kept k c.in_ok-holding.holding.now (sym c.in_ok-holding.ensures) (not-false _ (sym w.if-ne.ensures)))
+returns-else-ne c = λ others k. elim c.else-ne.branch [
+  | else-ne-via-then-ne+else-outlasts w ↦ sym (other_holder-gone _ c.args.claim.now _ others k c.in_ok-holding.holding.now (sym c.in_ok-holding.ensures) (sym w.if-outlasts.ensures))
+  | else-ne-via-else-ne w ↦ sym (other_holder-own _ c.args.claim.now _ others k c.in_ok-holding.holding.now (sym c.in_ok-holding.ensures) (not-false _ (sym w.if-ne.ensures)))
 ]
