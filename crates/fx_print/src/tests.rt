@@ -22,7 +22,7 @@ fn reads(rt: &impl Abort, text: &Text, expected: &[u8]) {
     assert_eq!(rt; text.bytes(), expected);
 }
 
-fn read_in_turn(rt: &impl Abort, lines: &[Text], expected: &[&[u8]]) {
+fn read_in_order(rt: &impl Abort, lines: &[Text], expected: &[&[u8]]) {
     assert_eq!(rt; lines.len(), expected.len());
     for (line, words) in lines.iter().zip(expected) {
         assert_eq!(rt; line.bytes(), *words);
@@ -43,7 +43,7 @@ fn refuses(
     Ok(())
 }
 
-fn told(
+fn message_reads(
     rt: &impl Abort,
     alloc: Global,
     message: &Message<'_>,
@@ -144,7 +144,7 @@ fn sets_of_nets(rt: HostRuntime) -> Result<(), Fail> {
     let now = nets(alloc, 0xfffe_0102, 0x0a00_0002)?;
     let members = MemberList::all(&now);
     let expected = b"set-add cali40s:cm9sZSA9PSAiYiIAAAAAAAA hash:net 10.0.0.2/32 255.254.1.2/32\n";
-    told(
+    message_reads(
         &rt,
         alloc,
         &Message::SetAdd {
@@ -161,7 +161,7 @@ fn sets_of_nets(rt: HostRuntime) -> Result<(), Fail> {
         removes,
     };
     let expected = b"set-delta cali40s:cm9sZSA9PSAiYiIAAAAAAAA +255.254.1.2/32 -10.0.0.1/32\n";
-    told(&rt, alloc, &delta, expected)?;
+    message_reads(&rt, alloc, &delta, expected)?;
     Ok(())
 }
 
@@ -173,7 +173,7 @@ fn sets_of_ports(rt: HostRuntime) -> Result<(), Fail> {
     let members = MemberList::all(&held);
     let expected =
         b"set-add cali40n:dGNwLGh0dHAsYWxsKCkAAAA hash:ip,port 10.0.0.1,tcp:80 10.0.0.1,udp:53 10.0.0.1,50:0 10.0.0.1,sctp:9\n";
-    told(
+    message_reads(
         &rt,
         alloc,
         &Message::SetAdd {
@@ -225,7 +225,7 @@ fn policy_reads(
         egress: rules(alloc, 1)?,
     };
     let key = &NameKey::new(b"key");
-    told(
+    message_reads(
         rt,
         alloc,
         &Message::PolicyPut {
@@ -276,7 +276,7 @@ fn profile_reads(
         egress: rules(alloc, 12)?,
     };
     let key = &NameKey::new(b"key");
-    told(
+    message_reads(
         rt,
         alloc,
         &Message::ProfilePut {
@@ -327,7 +327,7 @@ fn endpoints(rt: HostRuntime) -> Result<(), Fail> {
     let iface = &text(alloc, b"cali1")?;
     let endpoint = &endpoint(alloc)?;
     let expected = b"endpoint cali1 a/w1 in t1(gnp/a,gnp/b);aa(gnp/d) out - profiles open,shut\n";
-    told(
+    message_reads(
         &rt,
         alloc,
         &Message::EndpointPut { iface, endpoint },
@@ -342,26 +342,26 @@ fn removals(rt: HostRuntime) -> Result<(), Fail> {
     let iface = &text(alloc, b"cali1")?;
     let key = &NameKey::new(b"gnp/g");
     let name = &SetName::new(SetKind::Nets, *b"cm9sZSA9PSAiYiIAAAAAAAA");
-    told(
+    message_reads(
         &rt,
         alloc,
         &Message::EndpointGone { iface },
         b"endpoint-remove cali1\n",
     )?;
-    told(
+    message_reads(
         &rt,
         alloc,
         &Message::ProfileGone { key },
         b"profile-remove gnp/g\n",
     )?;
-    told(
+    message_reads(
         &rt,
         alloc,
         &Message::PolicyGone { key },
         b"policy-remove gnp/g\n",
     )?;
     let expected = b"set-remove cali40s:cm9sZSA9PSAiYiIAAAAAAAA\n";
-    told(&rt, alloc, &Message::SetGone { name }, expected)?;
+    message_reads(&rt, alloc, &Message::SetGone { name }, expected)?;
     Ok(())
 }
 
@@ -528,7 +528,7 @@ fn matches_with_and_without_a_sign(rt: HostRuntime) -> Result<(), Fail> {
         b"-A c ! -p 58 ! -d 0.0.0.0/0 -m set ! --match-set cali40s:dGNwLGh0dHAsYWxsKCkAAAA src -m multiport ! --sports 1:9 -m icmp ! --icmp-type 8/0 -j DROP\n",
         b"COMMIT\n",
     ];
-    read_in_turn(&rt, lines.as_slice(), &expected);
+    read_in_order(&rt, lines.as_slice(), &expected);
     Ok(())
 }
 
@@ -556,7 +556,7 @@ fn tables(rt: HostRuntime) -> Result<(), Fail> {
         b"-A cali-tw-cali1 -m mark --mark 0x0/0x20000 -m mark --mark 0x10/0xff -j RETURN\n",
         b"COMMIT\n",
     ];
-    read_in_turn(&rt, lines.as_slice(), &expected);
+    read_in_order(&rt, lines.as_slice(), &expected);
     Ok(())
 }
 
@@ -578,7 +578,7 @@ fn packet(alloc: Global) -> Result<Packet, Memory> {
 fn tells(rt: &impl Abort, alloc: Global, why: Reason, expected: &[u8]) -> Result<(), Memory> {
     let packet = packet(alloc)?;
     let lines = packet_texts(alloc, &packet, &[], Some(&why), None, Verdict::Deny)?;
-    read_in_turn(
+    read_in_order(
         rt,
         lines.as_slice(),
         &[b"path -\n", expected, b"verdict deny\n"],
@@ -676,6 +676,6 @@ fn both_sides(rt: HostRuntime) -> Result<(), Fail> {
         b"ingress cali2 no-profile-rule\n",
         b"verdict allow\n",
     ];
-    read_in_turn(&rt, lines.as_slice(), &expected);
+    read_in_order(&rt, lines.as_slice(), &expected);
     Ok(())
 }

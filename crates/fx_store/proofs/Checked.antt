@@ -31,7 +31,7 @@ module _ (kept cs : List Claim) (i : ℕ) (c : Claim) (h : i < length cs) (e : c
     pub no_clash : first_clash (take i cs) (c ∷ []) ≡ None → first_clash (kept ++ take i cs) (drop i cs) ≡ first_clash (kept ++ take (i + 1) cs) (drop (i + 1) cs)
     no_clash seen = first_clash-more kept cs i c h e (later ∙ first_clash-head (take i cs) c [] seen)
 
--- a fault that is handed on tells what it told
-pub told_on : {T : Type 0} (r : Result T CheckFault) (e : CheckFault) (o : Option Clash) → IsErrAnd r (λ f. f ≡ e) → IsCheckFault e o → Tells r o
-told_on (Ok x) e o h g = absurd h
-told_on (Err f) e o h g = subst (λ w. IsCheckFault w o) (sym h) g
+-- a fault that is handed on says what it said
+pub fault_on : {T : Type 0} (r : Result T CheckFault) (e : CheckFault) (o : Option Clash) → IsErrAnd r (λ f. f ≡ e) → IsCheckFault e o → Tells r o
+fault_on (Ok x) e o h g = absurd h
+fault_on (Err f) e o h g = subst (λ w. IsCheckFault w o) (sym h) g

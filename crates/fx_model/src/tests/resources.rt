@@ -99,7 +99,7 @@ fn the_first_profile_that_has_a_label_wins(rt: HostRuntime) -> Result<(), Fail> 
     let labels = effective_labels(a, &resources, &item.labels, item.profiles.as_slice())?;
     let wanted: [(&[u8], &[u8]); 3] = [(b"a", b"1"), (b"b", b"3"), (b"c", b"4")];
     for (key, value) in &wanted {
-        assert_eq!(rt; labels.get(key), Some(*value));
+        assert_eq!(rt; labels.get(key), Some(*value), "{key:?}");
     }
     Ok(())
 }

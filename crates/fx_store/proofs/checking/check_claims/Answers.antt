@@ -3,20 +3,20 @@ use Rattle.fx_names.specs.Claims.{first_clash}
 use Rattle.fx_names.specs.Holding.{HoldsClaims}
 use Rattle.fx_names.proofs.ClaimLists.{longer}
 use Rattle.fx_store.specs.Checking.{IsCheckFault}
-use Rattle.fx_store.proofs.Checked.{clash_held, clash_seen, no_clash, told_on}
+use Rattle.fx_store.proofs.Checked.{clash_held, clash_seen, no_clash, fault_on}
 use Rattle.fx_store.proofs.checking.check_claims.Goals as goal
 
 pub returns-in_err-check_claim : goal.returns-in_err-check_claim
 returns-in_err-check_claim c = λ kept k.
     let fault = c.in_err-check_claim.field-0.0 in
-    told_on c.from_residual.result fault (first_clash kept c.args.new.now) c.from_residual.ensures.1
+    fault_on c.from_residual.result fault (first_clash kept c.args.new.now) c.from_residual.ensures.1
     (subst (IsCheckFault fault) (sym (c.loop-claim.invariant.left kept k))
     (clash_held kept c.args.new.now c.loop-claim.claim-index c.claim-item.result c.loop-claim-test.true c.claim-item.is fault (c.in_err-check_claim.ensures kept k)))
 
 pub returns-in_err-check_claim-2 : goal.returns-in_err-check_claim-2
 returns-in_err-check_claim-2 c = λ kept k.
     let fault = c.in_err-check_claim-2.field-0.0 in
-    told_on c.from_residual-in_err-check_claim-2.result fault (first_clash kept c.args.new.now) c.from_residual-in_err-check_claim-2.ensures.1
+    fault_on c.from_residual-in_err-check_claim-2.result fault (first_clash kept c.args.new.now) c.from_residual-in_err-check_claim-2.ensures.1
     (subst (IsCheckFault fault) (sym (c.loop-claim.invariant.left kept k))
     (clash_seen kept c.args.new.now c.loop-claim.claim-index c.claim-item.result c.loop-claim-test.true c.claim-item.is (c.in_ok-check_claim.ensures kept k) fault
     (c.in_err-check_claim-2.ensures (take c.loop-claim.claim-index c.args.new.now) c.loop-claim.invariant.seen)))
