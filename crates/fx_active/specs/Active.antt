@@ -1,6 +1,6 @@
 -- What the sink is to have. From Felix's documented calculation graph: a policy is active while it applies to some endpoint
 -- of the node, and a profile while some endpoint lists it, whether it is there or not.
-use Rattle.std.specs.Prelude.{◌≡◌, ℕ, Bool, true, false, cond, ◌&&◌, nat_eq, List, Option, Some, None}
+use Rattle.std.specs.Prelude.{◌≡◌, ℕ, Bool, false, cond, ◌&&◌, nat_eq, List, Option, Some, None}
 use Rattle.std.specs.Cmp.Lexicographic.{pointwise}
 use Rattle.std.specs.List.{list_any}
 use Rattle.std.specs.FinMap as map

@@ -59,7 +59,7 @@ beside matched pair b = cond b (set.insert matched pair) matched
 abbrev pub IsRowSet : PolicyId → (ItemKey → Bool) → PolicyPairs → PolicyPairs → Type 0
 IsRowSet id row s s' = (q : PolicyId) (i : ItemKey) → set.contains s' (q, i) ≡ cond (same_id q id) (row i) (set.contains s (q, i))
 
--- the pairs of an item and the policies that it concerns are added or removed, and so are those of these policies that have no others
+-- the pairs of an item and the policies that it concerns are added or removed, and so are those policies that have no others
 pub record IsUpdated (policies : Policies) (concerned others : PolicyId → Bool) (item : ItemKey) (added : Bool) (m : Policies) (s : PolicyPairs) (m' : Policies) (s' : PolicyPairs) : Type 0 where
   pub policies_now : (id : PolicyId) → map.get m' id ≡ cond (concerned id && not (others id)) (cond added (map.get policies id) None) (map.get m id)
   pub pairs_now : (id : PolicyId) (i : ItemKey) → set.contains s' (id, i) ≡ cond (concerned id && same_item i item) added (set.contains s (id, i))

@@ -45,7 +45,7 @@ fn endpoint_key(alloc: Global) -> Result<ItemKey, Memory> {
     })
 }
 
-fn example(alloc: Global) -> Result<Example, Memory> {
+fn given(alloc: Global) -> Result<Example, Memory> {
     let policy = policy(alloc)?;
     let text = policy.selector.canonical(alloc)?;
     let name = Text::new(alloc, b"kns.shop")?;
@@ -108,7 +108,7 @@ fn are_needed(sink: &RecordActive, example: &Example) -> (bool, bool) {
 
 #[test]
 fn what_an_endpoint_needs_is_active_while_it_is_there(rt: HostRuntime) -> Result<(), Fail> {
-    let example = example(rt.alloc())?;
+    let example = given(rt.alloc())?;
     let mut node = ActiveRules::new(rt.alloc());
     let mut sink = RecordActive::new(rt.alloc());
     put_all(&mut node, &example, &mut sink)?;

@@ -21,7 +21,7 @@ struct Example {
     labels: Labels,
 }
 
-fn example(alloc: Global) -> Result<Example, Memory> {
+fn given(alloc: Global) -> Result<Example, Memory> {
     let name = Text::new(alloc, b"web")?;
     let parent = Text::new(alloc, b"kns.shop")?;
     let listed = vec![in alloc; parent.clone()?]?;
@@ -75,7 +75,7 @@ fn stands(alloc: Global, sink: &RecordMatches, example: &Example) -> Result<bool
 #[test]
 fn an_item_matches_while_its_parent_has_the_label(rt: HostRuntime) -> Result<(), Fail> {
     let alloc = rt.alloc();
-    let example = example(alloc)?;
+    let example = given(alloc)?;
     let mut index = LabelIndex::new(alloc);
     let mut sink = RecordMatches::new(alloc);
     let mut ticks = Counter::new();
@@ -89,7 +89,7 @@ fn an_item_matches_while_its_parent_has_the_label(rt: HostRuntime) -> Result<(),
 #[test]
 fn what_was_put_is_removed(rt: HostRuntime) -> Result<(), Fail> {
     let alloc = rt.alloc();
-    let example = example(alloc)?;
+    let example = given(alloc)?;
     let mut index = LabelIndex::new(alloc);
     let mut sink = RecordMatches::new(alloc);
     let mut ticks = Counter::new();
