@@ -1,7 +1,7 @@
 //! What became of a packet as text.
 ghost use Rattle.std.specs.Prelude.{◌≡◌, ◌++◌, ◌∷◌, OnOk, IfOk, codes, decimal};
 ghost use Rattle.std.specs.Option.{option_copied};
-ghost use Rattle.fx_walk.specs.Stops.{hops_of};
+ghost use Rattle.fx_walk.specs.WalkEnds.{hops_of};
 ghost use Rattle.fx_model.specs.PolicyIdTexts.{policy_id_text};
 ghost use Rattle.fx_model.specs.PacketTexts.{hop_text, hops_text, path_line, reason_text, side_line, side_lines, verdict_line, packet_lines};
 

@@ -1,6 +1,6 @@
 use Rattle.std.proofs.Common.{◌≡◌, ◌++◌, take}
 use Rattle.fx_model.specs.PacketTexts.{hops_text}
-use Rattle.fx_walk.specs.Stops.{hops_of}
+use Rattle.fx_walk.specs.WalkEnds.{hops_of}
 use Rattle.fx_print.proofs.packets.push_hops.Given as goal
 
 abbrev pub invariant-loop-hop : goal.invariant-loop-hop
