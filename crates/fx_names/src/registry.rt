@@ -36,7 +36,8 @@ impl Registry {
     /// The first of the new claims that another holder claims: among those that are held once `old` is taken out, or
     /// among the new ones before it. It takes no memory, so each new claim is compared with those before it.
     pub fn check<'a>(&'a self, old: &[Claim], new: &'a [Claim]) -> Result<(), Taken<'a>>
-        ensures { (others : List Claim) → HoldsClaims self.now (old.now ++ others) → clash_of result ≡ first_clash others new.now }
+        ensures { (others : List Claim) → HoldsClaims self.now (old.now ++ others)
+            → clash_of result ≡ first_clash others new.now }
     {
         for (i, claim) in new.iter().enumerate() {
             if let Some(holder) = self.other_holder(old, claim) {
@@ -57,7 +58,8 @@ impl Registry {
 
     /// Takes the old claims out and puts the new ones in.
     pub fn swap(&mut self, old: &[Claim], new: &[Claim]) -> Result<(), Memory>
-        ensures { OnOk result ((others : List Claim) → HoldsClaims self.old (old.now ++ others) → first_clash others new.now ≡ None → HoldsClaims self.new (others ++ new.now)) }
+        ensures { OnOk result ((others : List Claim) → HoldsClaims self.old (old.now ++ others)
+            → first_clash others new.now ≡ None → HoldsClaims self.new (others ++ new.now)) }
     {
         self.give_back_all(old)?;
         self.take_all(new)?;
@@ -66,7 +68,8 @@ impl Registry {
 
     // Who else holds a claim's name once `old` is taken out.
     fn other_holder(&self, old: &[Claim], claim: &Claim) -> Option<&Text>
-        ensures { (others : List Claim) → HoldsClaims self.now (old.now ++ others) → option_map (λ text. text.now) result ≡ other_holder others claim.now }
+        ensures { (others : List Claim) → HoldsClaims self.now (old.now ++ others)
+            → option_map (λ text. text.now) result ≡ other_holder others claim.now }
     {
         let holding = self.names.get(&claim.name)?;
         if holding.holder != claim.holder && holding.outlasts(old, &claim.name) {
@@ -77,7 +80,8 @@ impl Registry {
     }
 
     fn give_back_all(&mut self, claims: &[Claim]) -> Result<(), Memory>
-        ensures { OnOk result ((others : List Claim) → HoldsClaims self.old (claims.now ++ others) → HoldsClaims self.new others) }
+        ensures { OnOk result ((others : List Claim) → HoldsClaims self.old (claims.now ++ others)
+            → HoldsClaims self.new others) }
     {
         for claim in claims {
             self.give_back(claim)?;
@@ -87,7 +91,8 @@ impl Registry {
 
     // A name whose last claim is given back is no longer held.
     fn give_back(&mut self, claim: &Claim) -> Result<(), Memory>
-        ensures { OnOk result ((others : List Claim) → HoldsClaims self.old (claim.now ∷ others) → HoldsClaims self.new others) }
+        ensures { OnOk result ((others : List Claim) → HoldsClaims self.old (claim.now ∷ others)
+            → HoldsClaims self.new others) }
     {
         let Some(mut holding) = self.names.remove(&claim.name) else {
             return Ok(());
@@ -100,7 +105,8 @@ impl Registry {
     }
 
     fn take_all(&mut self, claims: &[Claim]) -> Result<(), Memory>
-        ensures { OnOk result ((others : List Claim) → HoldsClaims self.old others → first_clash others claims.now ≡ None → HoldsClaims self.new (others ++ claims.now)) }
+        ensures { OnOk result ((others : List Claim) → HoldsClaims self.old others
+            → first_clash others claims.now ≡ None → HoldsClaims self.new (others ++ claims.now)) }
     {
         for claim in claims {
             self.take(claim)?;
@@ -109,7 +115,8 @@ impl Registry {
     }
 
     fn take(&mut self, claim: &Claim) -> Result<(), Memory>
-        ensures { OnOk result ((others : List Claim) → HoldsClaims self.old others → other_holder others claim.now ≡ None → HoldsClaims self.new (others ++ claim.now ∷ [])) }
+        ensures { OnOk result ((others : List Claim) → HoldsClaims self.old others
+            → other_holder others claim.now ≡ None → HoldsClaims self.new (others ++ claim.now ∷ [])) }
     {
         let mut holding = match self.names.remove(&claim.name) {
             Some(holding) => holding,
