@@ -1,4 +1,4 @@
--- The program's exit status for each end of a run, as its README lists them.
+-- The program's exit status for each end of a run, as docs/OUTPUT.md of this repository lists them.
 use Rattle.std.specs.Prelude.{ℕ}
 use Rattle.felix_replay.specs.declared.top.Status.{Status}
 use Rattle.felix_replay.specs.declared.top.Status.TheVariants.{Done, Refused, Usage, ReadFault, WriteFault, Memory, InputTooLong}

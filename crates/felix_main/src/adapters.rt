@@ -1,7 +1,7 @@
 //! A source over any reader and a sink over any writer. To the layers below, neither tells what the bytes are.
 ghost use Rattle.std.specs.Prelude.{◌≡◌, ◌<◌, ◌+◌, ◌^◌, ℕ, List, length, take, Option, None, false, IfOk, OnOk, OnErr};
 ghost use Rattle.std.specs.Io.KnownBytes.{Keeps, Consumes, Appends};
-ghost use Rattle.fx_base.specs.Streams.{HasCause, ReadsSome, ReadsNone, AppendsPrefix};
+ghost use Rattle.fx_base.specs.Streams.{CountsFaults, HasCause, ReadsSome, ReadsNone, AppendsPrefix};
 ghost use Rattle.felix_main.specs.Silent.{silent_source};
 ghost use Rattle.fx_base.proofs.Compose.{Appends-none, Appends-more, AppendsPrefix-none, AppendsPrefix-all, AppendsPrefix-after};
 
@@ -43,7 +43,10 @@ impl<R: Read + Drop> Source for ReadSource<R> {
         ensures err { OnErr result (ReadsNone
             (silent_source self.old.given self.old.ended self.old.faults)
             (silent_source self.new.given self.new.ended self.new.faults)) }
-        ensures cause { HasCause (self.old.faults) (self.new.faults) result }
+        ensures cause { HasCause self.old.faults self.new.faults result }
+
+        // Each read that fails is counted, and no other.
+        ensures counts { CountsFaults self.old.faults self.new.faults result }
 
         // What is given is what the reader gave.
         ensures from_reader { IfOk result (λ n.
@@ -88,7 +91,10 @@ impl<W: Write + Drop> Sink for WriteSink<W> {
     fn put(&mut self, bytes: &[u8]) -> Result<(), Failed>
         ensures ok { OnOk result (Appends None None bytes.now) }
         ensures err { OnErr result (AppendsPrefix None None bytes.now) }
-        ensures cause { HasCause (self.old.faults) (self.new.faults) result }
+        ensures cause { HasCause self.old.faults self.new.faults result }
+
+        // Each put that fails is counted, and no other.
+        ensures counts { CountsFaults self.old.faults self.new.faults result }
 
         // The writer takes them all, or a prefix of them.
         ensures written { OnOk result (Appends (W.contents self.old.writer) (W.contents self.new.writer) bytes.now) }

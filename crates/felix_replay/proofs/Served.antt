@@ -15,7 +15,7 @@ use Rattle.fx_lines.specs.declared.commands.Command.{Command}
 use Rattle.fx_lines.specs.declared.commands.Command.TheVariants as command
 use Rattle.fx_lines.specs.Commands.{command_of}
 use Rattle.fx_lines.specs.Formed.{IsReadCommand}
-use Rattle.fx_lines.proofs.Kept.{command_of-read}
+use Rattle.fx_lines.proofs.ReadForms.{command_of-read}
 use Rattle.felix_replay.specs.Run.{state_after}
 use Rattle.felix_replay.specs.Output.{State, start, is_second_local, unless_taken, checked, accepted, answer_of, after_answer, next}
 use Rattle.felix_replay.proofs.EmptyView.{start-formed, start-on_workloads}

@@ -1,5 +1,5 @@
--- The output of a replay: what each line writes, and what stands between two lines. The rules that it follows are told in the
--- repository's README.
+-- The output of a replay: what each line writes, and what stands between two lines. The rules that it follows stand in
+-- docs/INPUT.md and docs/OUTPUT.md of this repository.
 use Rattle.std.specs.Prelude.{ℕ, ◌+◌, ◌-◌, ◌^◌, min, List, [], ◌++◌, map, length, Bool, true, false, ◌&&◌, not, Option, Some, None, Result, Ok, Err, codes, if◌then◌else◌}
 use Rattle.std.specs.List.{concat, list_any}
 use Rattle.std.specs.FinMap as maps
@@ -108,11 +108,11 @@ abbrev pub messages_text : View → View → List ℕ
 messages_text sent wanted = concat (map message_line (flush None sent wanted).messages)
 
 -- how many there are, as far as 64 bits tell
-abbrev pub told_count : View → View → ℕ
-told_count sent wanted = min (length (flush None sent wanted).messages) (2 ^ 64 - 1)
+abbrev pub message_count : View → View → ℕ
+message_count sent wanted = min (length (flush None sent wanted).messages) (2 ^ 64 - 1)
 
 abbrev pub flush_text : View → View → List ℕ
-flush_text sent wanted = messages_text sent wanted ++ flushed_line (told_count sent wanted)
+flush_text sent wanted = messages_text sent wanted ++ flushed_line (message_count sent wanted)
 
 abbrev pub command_text : State → Command → List ℕ
 command_text s command.Blank = []

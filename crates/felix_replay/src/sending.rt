@@ -2,7 +2,7 @@
 ghost use Rattle.std.specs.Prelude.{◌≡◌, ◌≤◌, OnOk, IfOk, [], is_some};
 ghost use Rattle.std.specs.List.{concat};
 ghost use Rattle.fx_model.specs.Messages.{next_message, step};
-ghost use Rattle.felix_replay.specs.Output.{messages_text, told_count, first_text};
+ghost use Rattle.felix_replay.specs.Output.{messages_text, message_count, first_text};
 ghost use Rattle.felix_replay.specs.Writing.{Writes};
 
 use crate::run_fault::RunFault;
@@ -57,7 +57,7 @@ pub fn send<K: Sink>(
     wanted: &View,
     sink: &mut K,
 ) -> Result<u64, RunFault>
-    ensures count { IfOk result (λ count. count ≡ told_count sent.old wanted.now) }
+    ensures count { IfOk result (λ count. count ≡ message_count sent.old wanted.now) }
     ensures reached { OnOk result (sent.new ≡ wanted.now) }
     ensures writes { Writes (K.state sink.old) (K.state sink.new) (messages_text sent.old wanted.now) result }
 {

@@ -91,7 +91,7 @@ pub fn felix_replay<S: Source, K: Sink, R: DigestRule, F: DigestFunction<R> + Dr
         → AppendsPrefix (K.state sink.old).held (K.state sink.new).held usage_line }
 
     // Each other end has its cause.
-    ensures read_fault { result ≡ Status.ReadFault → SourceFailed (S.state source.old) (S.state source.new) }
+    ensures read_fault { result ≡ Status.ReadFault → HasFailedRead (S.state source.old) (S.state source.new) }
     ensures write_fault { result ≡ Status.WriteFault → SinkFailed (K.state sink.old) (K.state sink.new) }
     ensures too_long { result ≡ Status.InputTooLong → IsTooLong (S.state source.new) }
 

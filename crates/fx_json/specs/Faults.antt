@@ -1,4 +1,4 @@
--- The numbers and names of faults. The README of this repository is their public source.
+-- The numbers and names of faults. docs/INPUT.md of this repository is their public source.
 use Rattle.std.specs.Prelude.{◌≡◌, ◌⊎◌, ℕ, List, Bool, true, false, codes, Option, Some, None, Result, Ok, Err}
 use Rattle.fx_json.specs.declared.fault.ReadFault.{ReadFault}
 use Rattle.fx_json.specs.declared.fault.ReadFault.TheVariants.{UnknownKind, MissingField, BadField, Unsupported, PortsWithoutProtocol, IcmpWithoutProtocol, PassInProfile, Memory}

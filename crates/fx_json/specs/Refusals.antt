@@ -1,4 +1,4 @@
--- The numbers and names of refusals. The README of this repository is their public source.
+-- The numbers and names of refusals. docs/INPUT.md of this repository is their public source.
 use Rattle.std.specs.Prelude.{◌≡◌, ◌⊎◌, ℕ, List, Bool, false, codes, Result, Ok, Err}
 use Rattle.fx_json.specs.declared.fault.ReadFault.TheVariants.{Memory}
 use Rattle.fx_json.specs.declared.refusal.Refusal.{Refusal}

@@ -5,7 +5,7 @@ use std::alloc::Global;
 use std::test::Fail;
 
 // What is read of a resource, as `Debug` prints it.
-fn told(alloc: Global, answer: &Result<Update, ReadFault>) -> Result<String, Fail> {
+fn answered(alloc: Global, answer: &Result<Update, ReadFault>) -> Result<String, Fail> {
     match answer {
         Ok(update) => Ok(format!(in alloc; "{update:?}")?),
         Err(fault) => Ok(format!(in alloc; "{fault:?}")?),
@@ -44,7 +44,7 @@ fn resources_are_read(rt: HostRuntime) -> Result<(), Fail> {
     let alloc = rt.alloc();
     for (text, want) in [(PROFILE, READ_PROFILE), (ENDPOINT, READ_ENDPOINT)] {
         let value = Value::from_str(alloc, text)?;
-        let said = told(alloc, &read_resource(alloc, &value))?;
+        let said = answered(alloc, &read_resource(alloc, &value))?;
         assert_eq!(rt; said.as_str(), want);
     }
     Ok(())
@@ -54,7 +54,7 @@ fn resources_are_read(rt: HostRuntime) -> Result<(), Fail> {
 fn deletes_are_read(rt: HostRuntime) -> Result<(), Fail> {
     let alloc = rt.alloc();
     let value = Value::from_str(alloc, PROFILE)?;
-    let said = told(alloc, &read_delete(alloc, &value))?;
+    let said = answered(alloc, &read_delete(alloc, &value))?;
     assert_eq!(rt;
         said.as_str(),
         "Delete { key: Profile { name: Text { held: [112] } } }"
@@ -152,7 +152,7 @@ fn never(alloc: Global, members: &str) -> Result<bool, Fail> {
         "{{\"apiVersion\":\"projectcalico.org/v3\",\"kind\":\"Profile\",\"metadata\":{{\"name\":\"p\"}},\"spec\":{{\"egress\":[{{\"action\":\"Deny\",{members}}}]}}}}"
     )?;
     let value = Value::from_str(alloc, text.as_str())?;
-    Ok(told(alloc, &read_resource(alloc, &value))?.contains("never: true"))
+    Ok(answered(alloc, &read_resource(alloc, &value))?.contains("never: true"))
 }
 
 #[test]

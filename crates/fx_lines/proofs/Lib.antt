@@ -1,3 +1,3 @@
 pub mod Cuts
 pub mod Asking
-pub mod Kept
+pub mod ReadForms

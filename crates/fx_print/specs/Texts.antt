@@ -1,5 +1,5 @@
--- The lines of answers that aren't about packets, messages or tables, each with its newline. The README of this repository
--- is their public source.
+-- The lines of answers that aren't about packets, messages or tables, each with its newline. docs/OUTPUT.md of this
+-- repository is their public source.
 use Rattle.std.specs.Prelude.{ℕ, List, [], ◌++◌, Option, Some, None, codes, decimal}
 use Rattle.fx_base.specs.KernelName.{kernel_bytes}
 use Rattle.fx_json.specs.declared.refusal.Refusal.{Refusal}

@@ -2,7 +2,7 @@
 use crate::messages::message_text;
 use crate::packets::packet_texts;
 use crate::tables::tables_text;
-use crate::texts::{flushed_text, refusal_text, usage_text};
+use crate::texts::{flushed_text, refusal_text};
 use fx_base::{
     ChainMap, ChainName, Ipv4, KernelName, Memory, NameKey, Net, PortRange, Proto, Seq, SetKind,
     SetMap, SetName, Text,
@@ -97,11 +97,9 @@ fn refusals(rt: HostRuntime) -> Result<(), Fail> {
 }
 
 #[test]
-fn flushes_and_usage(rt: HostRuntime) -> Result<(), Fail> {
+fn flushes(rt: HostRuntime) -> Result<(), Fail> {
     let alloc = rt.alloc();
     reads(&rt, &flushed_text(alloc, 120)?, b"flushed 120\n");
-    let usage = b"usage: felix-replay --node NAME [--soak SEED --count N]\n";
-    reads(&rt, &usage_text(alloc)?, usage);
     Ok(())
 }
 

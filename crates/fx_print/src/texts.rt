@@ -1,7 +1,7 @@
 //! Numbers and plain answers as text.
 ghost use Rattle.std.specs.Prelude.{◌≡◌, ◌++◌, ◌∷◌, OnOk, IfOk, decimal};
 ghost use Rattle.fx_json.specs.Faults.{path_of};
-ghost use Rattle.fx_print.specs.Texts.{path_text, detail_of, refusal_line, flushed_line, usage_line};
+ghost use Rattle.fx_print.specs.Texts.{path_text, detail_of, refusal_line, flushed_line};
 
 use fx_base::{Memory, Text};
 use fx_json::{ReadFault, Refusal};
@@ -79,13 +79,4 @@ pub fn flushed_text(alloc: Global, count: u64) -> Result<Text, Memory>
     push_decimal(&mut bytes, count)?;
     bytes.extend_from_slice(b"\n")?;
     Ok(Text::from_vec(bytes))
-}
-
-pub fn usage_text(alloc: Global) -> Result<Text, Memory>
-    ensures { IfOk result (λ text. text ≡ usage_line) }
-{
-    Text::new(
-        alloc,
-        b"usage: felix-replay --node NAME [--soak SEED --count N]\n",
-    )
 }

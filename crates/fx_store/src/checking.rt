@@ -18,7 +18,7 @@ pub fn check_claims(
     old: &[Claim],
     new: &[Claim],
 ) -> Result<(), CheckFault>
-    ensures { (kept : List Claim) → HoldsClaims registry.now (old.now ++ kept) → Tells result (first_clash kept new.now) }
+    ensures { (others : List Claim) → HoldsClaims registry.now (old.now ++ others) → Tells result (first_clash others new.now) }
 {
     let mut seen = Registry::new(alloc);
     for claim in new {
@@ -35,8 +35,8 @@ fn check_claim<'a>(
     old: &[Claim],
     claim: &'a Claim,
 ) -> Result<(), CheckFault>
-    ensures { (kept : List Claim) → HoldsClaims registry.now (old.now ++ kept)
-        → Tells result (first_clash kept (claim.now ∷ [])) }
+    ensures { (others : List Claim) → HoldsClaims registry.now (old.now ++ others)
+        → Tells result (first_clash others (claim.now ∷ [])) }
 {
     match registry.check(old, from_ref(claim)) {
         Ok(()) => Ok(()),

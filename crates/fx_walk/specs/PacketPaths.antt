@@ -8,10 +8,14 @@ use Rattle.fx_model.specs.Ranks.{IsRanked}
 use Rattle.fx_model.specs.Machine.{Trace, Traces, holds, nothing_noted, hops_and_reasons}
 use Rattle.fx_model.specs.Walk.{Ended, verdict_of, noted_in, over_chain}
 
+-- chains have five ranks, and rules lead to lower ones, so no walk goes deeper
+abbrev pub deepest : ℕ
+deepest = 5
+
 -- the walk of the first chain, where its path is appended to `before`
 abbrev pub first_walk : Tables → Packet → List (ChainName × ℕ) → Ended Trace
 first_walk tables a before =
-    over_chain hops_and_reasons (holds tables.sets a) tables.chains 5 forward 0 (record { hops = before; reasons = nothing_noted })
+    over_chain hops_and_reasons (holds tables.sets a) tables.chains deepest forward 0 (record { hops = before; reasons = nothing_noted })
 
 -- where rules lead to lower ranks, the walk's path, verdict and reasons are those of the run
 abbrev pub WalkIsRun : Type 0

@@ -38,7 +38,7 @@ chain_walk note tables a depth = over_chain note (holds tables.sets a) tables.ch
 
 -- ---- a walk that broke off
 
--- what may have been noted of rules that matched behind `s`
+-- what may have been noted of some rules behind `s`
 pub data Follows (S : Type 0) (note : Notes S) : S → S → Type 0 where
   here : {s t : S} → s ≡ t → Follows S note s t
   behind : {s t u : S} (c : ChainName) (p : ℕ) (r : ChainRule) → Follows S note s t → u ≡ note c p r t → Follows S note s u

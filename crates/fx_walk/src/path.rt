@@ -50,7 +50,7 @@ fn is_on_path(rule: &ChainRule) -> bool
     is_shown_target || is_tagged
 }
 
-/// As `decide`, and appends the packet's path: the rules that matched and that lead somewhere, end the packet's way or
+/// As `decide`, and appends the packet's path: the rules that matched and that lead somewhere, end the packet's way, log or
 /// have a reason.
 pub fn trace<'a>(
     tables: &'a Tables,

@@ -2,22 +2,22 @@ use super::*;
 use fx_model::{Item, Key};
 use std::test::Fail;
 
-// What a line is told as.
-fn told(answer: &Result<Command, Refusal>) -> &'static str {
+// What a line is answered.
+fn answered(answer: &Result<Command, Refusal>) -> &'static str {
     match answer {
         Ok(Command::Blank) => "blank",
         Ok(Command::Tables) => "tables",
         Ok(Command::Flush) => "flush",
         Ok(Command::Packet(_)) => "a packet",
-        Ok(Command::Update(update)) => told_update(update),
+        Ok(Command::Update(update)) => answered_update(update),
         Err(Refusal::BadJson) => "bad json",
         Err(Refusal::BadLine) => "bad line",
         Err(Refusal::Taken { .. }) => "taken",
-        Err(Refusal::Read(fault)) => told_fault(fault),
+        Err(Refusal::Read(fault)) => answered_fault(fault),
     }
 }
 
-fn told_update(update: &Update) -> &'static str {
+fn answered_update(update: &Update) -> &'static str {
     match update {
         Update::InSync => "in sync",
         Update::Put { key: _, item } => match item {
@@ -31,7 +31,7 @@ fn told_update(update: &Update) -> &'static str {
     }
 }
 
-fn told_fault(fault: &ReadFault) -> &'static str {
+fn answered_fault(fault: &ReadFault) -> &'static str {
     match fault {
         ReadFault::UnknownKind => "unknown kind",
         ReadFault::MissingField { .. } => "missing field",
@@ -84,7 +84,7 @@ fn each_line_has_its_answer(rt: HostRuntime) -> Result<(), Fail> {
     for row in LINES.lines() {
         let (line, want) = row.split_once(" => ").unwrap_or((row, ""));
         let answer = read_command(rt.alloc(), line.as_bytes());
-        assert_eq!(rt; told(&answer), want, "{line}");
+        assert_eq!(rt; answered(&answer), want, "{line}");
     }
     Ok(())
 }
@@ -93,7 +93,7 @@ fn each_line_has_its_answer(rt: HostRuntime) -> Result<(), Fail> {
 fn blank_lines_say_nothing(rt: HostRuntime) -> Result<(), Fail> {
     for line in ["", " \t\r"] {
         let answer = read_command(rt.alloc(), line.as_bytes());
-        assert_eq!(rt; told(&answer), "blank");
+        assert_eq!(rt; answered(&answer), "blank");
     }
     Ok(())
 }
@@ -101,7 +101,7 @@ fn blank_lines_say_nothing(rt: HostRuntime) -> Result<(), Fail> {
 #[test]
 fn bytes_that_are_not_text_are_no_json(rt: HostRuntime) -> Result<(), Fail> {
     let answer = read_command(rt.alloc(), b"{\"tables\":\"\xff\"}");
-    assert_eq!(rt; told(&answer), "bad json");
+    assert_eq!(rt; answered(&answer), "bad json");
     Ok(())
 }
 
@@ -122,7 +122,7 @@ fn a_name_of_4_megabytes_is_refused(rt: HostRuntime) -> Result<(), Fail> {
     let name = vec![in alloc; b'a'; 4_194_304]?;
     let line = profile_line(alloc, &name)?;
     let answer = read_command(alloc, &line);
-    assert_eq!(rt; told(&answer), "bad field");
+    assert_eq!(rt; answered(&answer), "bad field");
     Ok(())
 }
 
@@ -139,7 +139,7 @@ fn nesting_has_a_limit(rt: HostRuntime) -> Result<(), Fail> {
     for (depth, want) in [(127, "bad line"), (128, "bad json"), (100_000, "bad json")] {
         let line = nested(rt.alloc(), depth)?;
         let answer = read_command(rt.alloc(), &line);
-        assert_eq!(rt; told(&answer), want, "{depth}");
+        assert_eq!(rt; answered(&answer), want, "{depth}");
     }
     Ok(())
 }

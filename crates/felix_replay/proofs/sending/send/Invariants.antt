@@ -1,14 +1,14 @@
 use Rattle.std.proofs.Common.{◌≡◌, ◌+◌, ◌-◌, ◌^◌, ◌≤◌, ◌++◌, min, length, List, ℕ, None}
 use Rattle.std.specs.Io.KnownBytes.{Appends}
 use Rattle.fx_model.specs.Messages.{flush, differences}
-use Rattle.felix_replay.specs.Output.{messages_text, told_count}
+use Rattle.felix_replay.specs.Output.{messages_text, message_count}
 use Rattle.felix_replay.proofs.sending.send.Given as goal
 
 -- what was written and what is left to write are all messages
 abbrev pub invariant-loop-count : goal.invariant-loop-count
 invariant-loop-count g l = record {
   output : (piece : List ℕ) × Appends (g.K.Sink.state l.fn.sink).held (g.K.Sink.state l.sink).held piece × (piece ++ messages_text l.sent l.wanted ≡ messages_text l.fn.sent l.wanted);
-  count : min (l.count + length (flush None l.sent l.wanted).messages) (2 ^ 64 - 1) ≡ told_count l.fn.sent l.wanted;
+  count : min (l.count + length (flush None l.sent l.wanted).messages) (2 ^ 64 - 1) ≡ message_count l.fn.sent l.wanted;
   fits : l.count ≤ 2 ^ 64 - 1;
   later : (g.K.Sink.state l.fn.sink).faults ≤ (g.K.Sink.state l.sink).faults;
 }

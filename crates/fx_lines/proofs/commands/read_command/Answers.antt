@@ -6,7 +6,7 @@ use Rattle.fx_json.specs.Refusals.{Refuses}
 use Rattle.fx_lines.specs.declared.commands.Command.{Command}
 use Rattle.fx_lines.specs.Formed.{IsReadCommand}
 use Rattle.fx_lines.specs.Commands.{of_value}
-use Rattle.fx_lines.proofs.Kept.{of_value-read}
+use Rattle.fx_lines.proofs.ReadForms.{of_value-read}
 use Rattle.fx_lines.proofs.Asking.{command_of-blank, command_of-value, command_of-none, kept}
 use Rattle.fx_lines.proofs.commands.read_command.Goals as goal
 

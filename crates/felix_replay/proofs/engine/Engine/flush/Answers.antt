@@ -9,7 +9,7 @@ use Rattle.felix_replay.specs.Engine.{state_of}
 use Rattle.felix_replay.proofs.SendingLemmas.{on_ok_always}
 use Rattle.fx_laws.proofs.ViewClosed.{view_of-closed}
 use Rattle.fx_laws.proofs.FormedLemmas.{is_formed_view-view_of}
-use Rattle.felix_replay.specs.Output.{messages_text, told_count, flush_text}
+use Rattle.felix_replay.specs.Output.{messages_text, message_count, flush_text}
 use Rattle.felix_replay.specs.Writing.{Writes}
 use Rattle.fx_print.specs.Texts.{flushed_line}
 use Rattle.felix_replay.proofs.Writings.{Writes-prefix, Writes-then}
@@ -27,7 +27,7 @@ returns-in_err-count-clause-writes g c =
     let s = c.in_err-count.ensures.writes in
     let sent = c.args.self.now.sent in
     let AsTold : View → Type 0 = λ w. Writes {T = Unit {0}} (g.K.Sink.state c.args.sink.now) (g.K.Sink.state c.send.new.sink) (flush_text sent w) (Err c.in_err-count.field-0.0) in
-    rw (p.1, p.2) (subst AsTold (c.in_ok-wanted.ensures ∙ ap (view_of g.R.DigestRule.digest_of) c.resources.ensures) (Writes-prefix (g.K.Sink.state c.args.sink.now) (g.K.Sink.state c.send.new.sink) (messages_text sent c.in_ok-wanted.wanted) (flushed_line (told_count sent c.in_ok-wanted.wanted)) _ s.prefix s.later s.cause))
+    rw (p.1, p.2) (subst AsTold (c.in_ok-wanted.ensures ∙ ap (view_of g.R.DigestRule.digest_of) c.resources.ensures) (Writes-prefix (g.K.Sink.state c.args.sink.now) (g.K.Sink.state c.send.new.sink) (messages_text sent c.in_ok-wanted.wanted) (flushed_line (message_count sent c.in_ok-wanted.wanted)) _ s.prefix s.later s.cause))
 
 pub returns-clause-writes : goal.returns-clause-writes
 returns-clause-writes g c =
@@ -35,7 +35,7 @@ returns-clause-writes g c =
     let sent = c.args.self.now.sent in
     let then = rw s.count at c.put_count.ensures.writes in
     let AsTold : View → Type 0 = λ w. Writes {T = Unit {0}} (g.K.Sink.state c.args.sink.now) (g.K.Sink.state c.put_count.new.sink) (flush_text sent w) c.put_count.result in
-    subst AsTold (c.in_ok-wanted.ensures ∙ ap (view_of g.R.DigestRule.digest_of) c.resources.ensures) (Writes-then (g.K.Sink.state c.args.sink.now) (g.K.Sink.state c.send.new.sink) (g.K.Sink.state c.put_count.new.sink) (messages_text sent c.in_ok-wanted.wanted) (flushed_line (told_count sent c.in_ok-wanted.wanted)) _ s.writes.whole s.writes.later then)
+    subst AsTold (c.in_ok-wanted.ensures ∙ ap (view_of g.R.DigestRule.digest_of) c.resources.ensures) (Writes-then (g.K.Sink.state c.args.sink.now) (g.K.Sink.state c.send.new.sink) (g.K.Sink.state c.put_count.new.sink) (messages_text sent c.in_ok-wanted.wanted) (flushed_line (message_count sent c.in_ok-wanted.wanted)) _ s.writes.whole s.writes.later then)
 
 pub returns-clause-state : goal.returns-clause-state
 returns-clause-state g c =
