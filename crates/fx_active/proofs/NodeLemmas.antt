@@ -65,13 +65,6 @@ hidden : {A : Type 0} (b : Bool) (x y z : A) → cond b x (cond b y z) ≡ cond 
 hidden true x y z = refl
 hidden false x y z = refl
 
-pub row_at : (id : PolicyId) (row : ItemKey → Bool) (S then : PolicyPairs) → IsRowSet id row S then → (i : ItemKey) → set.contains then (id, i) ≡ row i
-row_at id row S then is i = is id i ∙ ap (λ r. cond (is_eq r) (row i) (set.contains S (id, i))) (tied_itself policy_total id)
-
--- a row that is set twice
-pub row_again : (id : PolicyId) (row again : ItemKey → Bool) (S then now : PolicyPairs) → IsRowSet id row S then → IsRowSet id again then now → IsRowSet id again S now
-row_again id row again S then now is does q i = does q i ∙ ap (cond (same_id q id) (again i)) (is q i) ∙ hidden (same_id q id) (again i) (row i) (set.contains S (q, i))
-
 module _ (E : Endpoints) (M : Pairs) where
   where_either : (b : Bool) (o x : Option Policy) → cond b (where_active E M o) (where_active E M x) ≡ where_active E M (cond b o x)
   where_either true o x = refl

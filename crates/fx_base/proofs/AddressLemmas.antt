@@ -217,7 +217,7 @@ module _ (takes : Bool) (text : List ℕ) (v : ℕ × ℕ) where
         );
       }
 
--- ---- what `dotted` answers, where it read a byte at the prefix of n bytes
+-- ---- what `dotted` answers, where it read a byte at the beginning of n bytes
 module _ (takes : Bool) (high more : ℕ) (text : List ℕ) (n : ℕ) where
   byte_fits : 255 < 2 ^ 16
   byte_fits = lit< tt

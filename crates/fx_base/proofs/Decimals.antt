@@ -135,9 +135,6 @@ pub record Tried (low value least greatest : ℕ) : Type 0 where
   pub near : greatest + 1 ≤ 2 * least
   pub below : (i : ℕ) → i < more → (value + 1) * 10 ^ i ≤ low
 
-pub tried_first : (low value : ℕ) → 0 < value → Tried low value value value
-tried_first low value h = record { more = 0; is_least = omega arith; is_greatest = omega arith; pos = h; near = omega arith; below = λ i less. absurd (omega arith) }
-
 ten_times : (m k : ℕ) → m * 10 ^ suc k ≡ m * 10 ^ k * 10
 ten_times m k = ap (λ (n : ℕ). m * n) (ten k ∙ swap (10 ^ k)) ∙ sym (mul_assoc m (10 ^ k) 10)
   where

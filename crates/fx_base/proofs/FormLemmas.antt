@@ -38,11 +38,6 @@ module _ (low high : ℕ) (small : high < 2 ^ 16) where
 
 -- ---- an optional number behind a mark
 module _ (absent mark low high : ℕ) where
-  pub optional_absent : Means (IsOptional absent mark low high) [] absent
-  optional_absent = record {
-    is = inl (refl, refl);
-    only = λ other h. elim h [ inl none ↦ none.1 | inr some ↦ cc (some.1) ];
-  }
 
   pub optional_value : (rest : List ℕ) (x : ℕ) → Means (IsNumber low high) rest x → Means (IsOptional absent mark low high) (mark ∷ rest) x
   optional_value rest x m = record {

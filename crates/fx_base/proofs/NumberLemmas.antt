@@ -1,4 +1,4 @@
--- How a number is read from the prefix of a text.
+-- How a number is read from the beginning of a text.
 use Rattle.std.proofs.Common.{◌≡◌, ◌<◌, ◌≤◌, ◌+◌, ◌^◌, ℕ, List, [], ◌∷◌, ◌++◌, length, take, drop, get_or, Option, Some, None, Result, Ok, Err, IfOk, IfErr, IfSome, refl, sym, ap, subst, ◌∙◌, arith, inl, inr, append_assoc}
 use Rattle.std.specs.Fmt.{decimal}
 use Rattle.std.proofs.lemmas.Fmt.{decimal_nonempty, decimal_injective}
@@ -36,11 +36,6 @@ pub record IsReadPrefix (low high : ℕ) (text : List ℕ) (read : Option ℕ) (
 module _ (low high : ℕ) (text : List ℕ) where
   pub prefix_none : low ≤ high → IsReadPrefix low high text None 0
   prefix_none range = record { digits = refl; begins = (decimal low, (low, record { digits = refl; least = omega arith; most = range })); fits = tt }
-
-  pub prefix_more : (read : Option ℕ) (at value : ℕ) → at < length text → decimal value ≡ digits_of read ++ get_or text at 0 ∷ [] → Begins (IsNumber low high) (decimal value) → value ≤ high → IsReadPrefix low high text read at → IsReadPrefix low high text (Some value) (at + 1)
-  prefix_more read at value inside digits b most f =
-      let e : decimal value ≡ take (at + 1) text = digits ∙ ap (λ (l : List ℕ). l ++ get_or text at 0 ∷ []) f.digits ∙ sym (take_more text at 0 inside) in
-      record { digits = e; begins = subst (Begins (IsNumber low high)) e b; fits = most }
 
   pub prefix_stops : (read : Option ℕ) (at : ℕ) → at < length text → ¬ Begins (IsNumber low high) (digits_of read ++ get_or text at 0 ∷ []) → IsReadPrefix low high text read at → GoesTo (IsNumber low high) text at
   prefix_stops read at inside out f =

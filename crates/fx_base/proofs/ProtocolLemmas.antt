@@ -11,11 +11,6 @@ use Rattle.fx_base.specs.Forms.{Begins, Leaves, Reads}
 use Rattle.fx_base.specs.Same.{both_pass}
 use Rattle.fx_base.specs.Protocols.{IsNamed, IsNamedIn, farther}
 
--- one more byte that is shared
-pub shared_more : (text name : List ℕ) (at : ℕ) → at < length text → at < length name → str_to_ascii_lowercase (take at text) ≡ take at name → to_ascii_lowercase (get_or text at 0) ≡ get_or name at 0 → str_to_ascii_lowercase (take (at + 1) text) ≡ take (at + 1) name
-shared_more text name at a b same e =
-    ap str_to_ascii_lowercase (take_more text at 0 a) ∙ map-append to_ascii_lowercase (take at text) _ ∙ (λ i. same i ++ e i ∷ []) ∙ sym (take_more name at 0 b)
-
 -- a byte of a text that is the name
 same_letter : (text name : List ℕ) (n m : ℕ) (rest : List ℕ) → n < m → m ≤ length text → str_to_ascii_lowercase (take m text ++ rest) ≡ name → (n < length name) × (to_ascii_lowercase (get_or text n 0) ≡ get_or name n 0)
 same_letter text name n m rest less fits e =

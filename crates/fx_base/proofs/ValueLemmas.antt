@@ -86,7 +86,7 @@ module _ (absent mark low high : ℕ) (small : high < 2 ^ 16) where
   pub optional_computes : Computes (IsOptional absent mark low high) (optional_of absent mark low high)
   optional_computes = record { to = optional_to; from = optional_from }
 
--- ---- the digits at the prefix
+-- ---- the digits at the beginning
 is_no_digit : (c : ℕ) → ¬ IsInRange 48 57 c → is_digit c ≡ false
 is_no_digit c other = elim (leb_tells 48 c) [
   | inl low ↦ elim (leb_tells c 57) [ inl high ↦ absurd (other (low.1, high.1)) | inr past ↦ λ i. low.0 i && past.0 i ]

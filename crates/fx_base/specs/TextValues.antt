@@ -23,7 +23,7 @@ abbrev pub optional_of : ℕ → ℕ → ℕ → ℕ → List ℕ → Option ℕ
 optional_of absent mark low high [] = Some absent
 optional_of absent mark low high (c ∷ rest) = if c == mark then number_of low high rest else None
 
--- the digits at the prefix are the number
+-- the digits at the beginning are the number
 abbrev pub number_then_of : {A : Type 0} → ℕ → ℕ → (ℕ → List ℕ → Option A) → List ℕ → Option A
 number_then_of low high after text =
     let n = prefix_len is_digit text in

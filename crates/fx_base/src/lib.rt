@@ -3,19 +3,18 @@
 #![tactic(auto)]
 
 pub use bytes_map::BytesMap;
-pub use chain_map::ChainMap;
 pub use chain_name::ChainName;
 pub use counts::{CountSink, Counter, Ticker};
 pub use exact::{Exact, same};
+pub use fixed_map::{ChainMap, FixedMap, NameMap, SetMap};
+pub use fixed_name::FixedName;
 pub use kernel_name::KernelName;
 pub use memory::{BadText, Memory};
 pub use memory_sink::MemSink;
 pub use memory_source::{MemSource, SureSource};
 pub use name_key::NameKey;
-pub use name_map::NameMap;
 pub use net::{Ipv4, Net, NetText, PortRange, Proto};
 pub use seq::Seq;
-pub use set_map::SetMap;
 pub use set_name::{SetKind, SetName};
 pub use streams::{Failed, Sink, Source};
 pub use text::Text;
@@ -24,17 +23,17 @@ pub use uses::Uses;
 
 mod address_text;
 mod bytes_map;
-mod chain_map;
 mod chain_name;
 mod counts;
 mod exact;
 mod failing;
+mod fixed_map;
+mod fixed_name;
 mod kernel_name;
 mod memory;
 mod memory_sink;
 mod memory_source;
 mod name_key;
-mod name_map;
 mod net;
 mod net_bits;
 mod net_exact;
@@ -43,7 +42,6 @@ mod number;
 mod port_text;
 mod protocol_text;
 mod seq;
-mod set_map;
 mod set_name;
 mod streams;
 #[cfg(test)]

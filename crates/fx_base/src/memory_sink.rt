@@ -38,7 +38,7 @@ impl MemSink {
     }
 
     pub fn held(&self) -> &[u8]
-        ensures told { (⟦<MemSink as Sink>⟧.state self.now).held ≡ Some result.now }
+        ensures state { (⟦<MemSink as Sink>⟧.state self.now).held ≡ Some result.now }
         ensures bytes { result.now ≡ held_bytes self.now }
     {
         self.held.as_slice()

@@ -1,4 +1,4 @@
-//! Decimal numbers at the prefix of a text.
+//! Decimal numbers at the beginning of a text.
 ghost use Rattle.std.specs.Prelude.{◌≡◌, ◌↔◌, ◌≤◌, ◌<◌, ◌^◌, ◌∷◌, ◌++◌, [], IsTrue, IfOk, IfErr, IfSome, IfNone, take, length};
 ghost use Rattle.std.specs.Fmt.{decimal};
 ghost use Rattle.fx_base.specs.Forms.{Begins, GoesTo, IsIn, IsNumber, IsOptional, Reads, digits_of};

@@ -20,9 +20,6 @@ not_false : (b : Bool) → not b ≡ false → b ≡ true
 not_false true e = refl
 not_false false e = cc
 
-none_is : {X A : Type 0} (x : X) → None ≡ Some x → A
-none_is x e = cc
-
 module _ {X : Type 0} where
   -- an entry that is found is there
   pub found_there : (test : List ℕ × X → Bool) (m : Named X) (e : List ℕ × X) → find test (maps.entries m) ≡ Some e → maps.get m e.0 ≡ Some e.1

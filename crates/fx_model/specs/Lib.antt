@@ -18,7 +18,7 @@ pub mod Closed
 pub mod Writing
 pub mod Messages
 pub mod MemberLists
-pub mod Told
+pub mod Lent
 pub mod Ranks
 pub mod Machine
 pub mod Walk

@@ -3,7 +3,7 @@ ghost use Rattle.std.specs.Prelude.{◌≡◌, ◌&&◌, option_map, Some};
 ghost use Rattle.std.specs.Option.{option_copied, option_eq};
 ghost use Rattle.std.specs.FinMap as maps;
 ghost use Rattle.fx_model.specs.Messages.{first_absent, first_changed, first_other, next_gone, next_message, next_put, set_changed};
-ghost use Rattle.fx_model.specs.Told.{change_of};
+ghost use Rattle.fx_model.specs.Lent.{change_of};
 ghost use Rattle.fx_model.specs.contracts.member.MemberSetPartialEq.TheImpl as members_eq;
 ghost use Rattle.fx_model.specs.contracts.view.ViewPolicyPartialEq.TheImpl as policy_eq;
 ghost use Rattle.fx_model.specs.contracts.view.ViewProfilePartialEq.TheImpl as profile_eq;
@@ -13,7 +13,7 @@ use crate::member::MemberSet;
 use crate::member_list::MemberList;
 use crate::message::Message;
 use crate::view::{View, ViewEndpoint, ViewPolicy, ViewProfile};
-use fx_base::{Exact, NameKey, NameMap, SetMap, SetName, Text, TextMap};
+use fx_base::{Exact, FixedMap, FixedName, SetMap, Text, TextMap};
 
 /// The next message, if the views differ.
 pub fn next_message<'a>(sent: &'a View, wanted: &'a View) -> Option<Message<'a>>
@@ -29,7 +29,7 @@ pub fn next_message<'a>(sent: &'a View, wanted: &'a View) -> Option<Message<'a>>
 fn next_put<'a>(sent: &'a View, wanted: &'a View) -> Option<Message<'a>>
     ensures { option_map change_of result ≡ next_put sent.now wanted.now }
 {
-    if let Some((name, members)) = absent_set(&sent.sets, &wanted.sets) {
+    if let Some((name, members)) = absent_name(&sent.sets, &wanted.sets) {
         let members = MemberList::all(members);
         return Some(Message::SetAdd { name, members });
     }
@@ -61,23 +61,8 @@ fn next_gone<'a>(sent: &'a View, wanted: &'a View) -> Option<Message<'a>>
     if let Some((key, _)) = absent_name(&wanted.policies, &sent.policies) {
         return Some(Message::PolicyGone { key });
     }
-    if let Some((name, _)) = absent_set(&wanted.sets, &sent.sets) {
+    if let Some((name, _)) = absent_name(&wanted.sets, &sent.sets) {
         return Some(Message::SetGone { name });
-    }
-    None
-}
-
-// The first set that the map has not.
-fn absent_set<'a>(
-    held: &SetMap<MemberSet>,
-    sets: &'a SetMap<MemberSet>,
-) -> Option<(&'a SetName, &'a MemberSet)>
-    ensures { option_map (λ p. (p.0.now, p.1.now)) result ≡ first_absent held.now sets.now }
-{
-    for (name, members) in sets.iter() {
-        if !held.contains_key(*name) {
-            return Some((name, members));
-        }
     }
     None
 }
@@ -88,7 +73,7 @@ fn other_set<'a>(sent: &'a SetMap<MemberSet>, wanted: &'a SetMap<MemberSet>) -> 
         (first_other members_eq.eq-value.it sent.now wanted.now) }
 {
     for (name, members) in wanted.iter() {
-        if let Some(before) = sent.get(*name) {
+        if let Some(before) = sent.get(name) {
             if before != members {
                 return Some(Message::SetDelta {
                     name,
@@ -102,18 +87,18 @@ fn other_set<'a>(sent: &'a SetMap<MemberSet>, wanted: &'a SetMap<MemberSet>) -> 
 }
 
 // The first value that the map has not at its name.
-fn changed_name<'a, V: Exact>(
-    sent: &NameMap<V>,
-    wanted: &'a NameMap<V>,
-) -> Option<(&'a NameKey, &'a V)>
+fn changed_name<'a, const N: usize, V: Exact>(
+    sent: &FixedMap<N, V>,
+    wanted: &'a FixedMap<N, V>,
+) -> Option<(&'a FixedName<N>, &'a V)>
     ensures { option_map (λ p. (p.0.now, p.1.now)) result ≡ first_changed V.eq sent.now wanted.now }
 {
     for (key, value) in wanted.iter() {
-        let kept = match sent.get(*key) {
+        let is_same = match sent.get(key) {
             Some(before) => before == value,
             None => false,
         };
-        if !kept {
+        if !is_same {
             return Some((key, value));
         }
     }
@@ -121,11 +106,14 @@ fn changed_name<'a, V: Exact>(
 }
 
 // The first entry whose name the map has not.
-fn absent_name<'a, V>(held: &NameMap<V>, names: &'a NameMap<V>) -> Option<(&'a NameKey, &'a V)>
+fn absent_name<'a, const N: usize, V>(
+    held: &FixedMap<N, V>,
+    names: &'a FixedMap<N, V>,
+) -> Option<(&'a FixedName<N>, &'a V)>
     ensures { option_map (λ p. (p.0.now, p.1.now)) result ≡ first_absent held.now names.now }
 {
     for (key, value) in names.iter() {
-        if !held.contains_key(*key) {
+        if !held.contains_key(key) {
             return Some((key, value));
         }
     }
@@ -140,11 +128,11 @@ fn changed_text<'a, V: Exact>(
     ensures { option_map (λ p. (p.0.now, p.1.now)) result ≡ first_changed V.eq sent.now wanted.now }
 {
     for (key, value) in wanted.iter() {
-        let kept = match sent.get(key) {
+        let is_same = match sent.get(key) {
             Some(before) => before == value,
             None => false,
         };
-        if !kept {
+        if !is_same {
             return Some((key, value));
         }
     }

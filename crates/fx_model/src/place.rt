@@ -1,12 +1,12 @@
 //! A place in a view, and how a view takes over what another has there.
 ghost use Rattle.std.specs.Prelude.{◌≡◌, IfOk, OnOk, OnErr};
 ghost use Rattle.fx_base.specs.Extended.{taken_from};
-ghost use Rattle.fx_model.specs.Told.{change_of};
+ghost use Rattle.fx_model.specs.Lent.{change_of};
 ghost use Rattle.fx_model.specs.Places.{place_of, taken_at};
 
 use crate::message::Message;
 use crate::view::View;
-use fx_base::{Exact, Memory, NameKey, NameMap, SetMap, SetName, Text, TextMap};
+use fx_base::{Exact, FixedMap, FixedName, Memory, NameKey, SetName, Text, TextMap};
 
 /// A key of one of a view's maps.
 #[derive(Debug, Drop)]
@@ -40,19 +40,19 @@ pub fn take_at(sent: &mut View, wanted: &View, place: Place) -> Result<(), Memor
     ensures err { OnErr result (sent.new ≡ sent.old) }
 {
     match place {
-        Place::Set(name) => take_set(&mut sent.sets, &wanted.sets, name),
-        Place::Policy(key) => take_name(&mut sent.policies, &wanted.policies, key),
-        Place::Profile(key) => take_name(&mut sent.profiles, &wanted.profiles, key),
+        Place::Set(name) => take_name(&mut sent.sets, &wanted.sets, &name),
+        Place::Policy(key) => take_name(&mut sent.policies, &wanted.policies, &key),
+        Place::Profile(key) => take_name(&mut sent.profiles, &wanted.profiles, &key),
         Place::Endpoint(iface) => take_text(&mut sent.endpoints, &wanted.endpoints, iface),
     }
 }
 
-fn take_name<V: Exact + Drop>(
-    sent: &mut NameMap<V>,
-    wanted: &NameMap<V>,
-    key: NameKey,
+fn take_name<const N: usize, V: Exact + Drop>(
+    sent: &mut FixedMap<N, V>,
+    wanted: &FixedMap<N, V>,
+    key: &FixedName<N>,
 ) -> Result<(), Memory>
-    ensures ok { OnOk result (sent.new ≡ taken_from sent.old wanted.now key) }
+    ensures ok { OnOk result (sent.new ≡ taken_from sent.old wanted.now key.now) }
     ensures err { OnErr result (sent.new ≡ sent.old) }
 {
     match wanted.get(key) {
@@ -61,25 +61,6 @@ fn take_name<V: Exact + Drop>(
         }
         None => {
             sent.remove(key);
-        }
-    }
-    Ok(())
-}
-
-fn take_set<V: Exact + Drop>(
-    sent: &mut SetMap<V>,
-    wanted: &SetMap<V>,
-    name: SetName,
-) -> Result<(), Memory>
-    ensures ok { OnOk result (sent.new ≡ taken_from sent.old wanted.now name) }
-    ensures err { OnErr result (sent.new ≡ sent.old) }
-{
-    match wanted.get(name) {
-        Some(value) => {
-            sent.insert(name, value.clone()?)?;
-        }
-        None => {
-            sent.remove(name);
         }
     }
     Ok(())

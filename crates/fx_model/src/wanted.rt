@@ -71,7 +71,7 @@ fn put_profiles<R: DigestRule, F: DigestFunction<R> + Drop>(
 {
     for name in names.as_slice() {
         let profile = view_profile(alloc, name, resources.profiles.get(name))?;
-        profiles.insert(namer.key(Prefix::ProfileIn, name.bytes()), profile)?;
+        profiles.insert(&namer.key(Prefix::ProfileIn, name.bytes()), profile)?;
     }
     Ok(())
 }

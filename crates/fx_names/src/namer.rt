@@ -13,16 +13,16 @@ use std::marker::PhantomData;
 /// Names by a digest rule. It takes no memory.
 #[derive(Drop)]
 pub struct Namer<R: DigestRule, F: DigestFunction<R> + Drop> {
-    answers: F,
+    function: F,
     rule: PhantomData<R>,
 }
 
 impl<R: DigestRule, F: DigestFunction<R> + Drop> Namer<R, F> {
-    pub fn new(answers: F) -> Self
-        ensures { result.answers ≡ answers }
+    pub fn new(function: F) -> Self
+        ensures { result.function ≡ function }
     {
         Namer {
-            answers,
+            function,
             rule: PhantomData,
         }
     }
@@ -70,7 +70,7 @@ impl<R: DigestRule, F: DigestFunction<R> + Drop> Namer<R, F> {
     fn digest_text(&self, text: &[u8]) -> [u8; 43]
         ensures { result ≡ digest_text R.digest_of text.now }
     {
-        let digest = self.answers.digest(text);
+        let digest = self.function.digest(text);
         let mut encoded = [0; 43];
         let _ = URL_SAFE_NO_PAD.encode_slice(&digest, &mut encoded);
         encoded

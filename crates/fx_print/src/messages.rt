@@ -1,7 +1,7 @@
 //! What is told of a view as text.
 ghost use Rattle.std.specs.Prelude.{◌≡◌, ◌++◌, OnOk, IfOk, codes};
 ghost use Rattle.fx_model.specs.Messages.{Change, SetAdd, SetDelta, PolicyPut, ProfilePut, EndpointPut};
-ghost use Rattle.fx_model.specs.Told.{change_of};
+ghost use Rattle.fx_model.specs.Lent.{change_of};
 ghost use Rattle.fx_model.specs.PolicyIdTexts.{policy_id_text};
 ghost use Rattle.fx_model.specs.MessageTexts.{each_member, behind, keys_text, tier_text, later_tiers, tiers_text, counts_text, rules_text, sides_text, endpoint_text, named_line, message_line};
 

@@ -424,9 +424,9 @@ fn root_rules(alloc: Global, leaf: ChainName) -> Result<Seq<ChainRule>, Memory> 
 fn chains(alloc: Global) -> Result<ChainMap<Seq<ChainRule>>, Memory> {
     let leaf = ChainName::join(b"cali-tw-", b"cali1");
     let mut chains = ChainMap::new(alloc);
-    chains.insert(leaf, leaf_rules(alloc)?)?;
+    chains.insert(&leaf, leaf_rules(alloc)?)?;
     chains.insert(
-        ChainName::join(b"cali-FORWARD", b""),
+        &ChainName::join(b"cali-FORWARD", b""),
         root_rules(alloc, leaf)?,
     )?;
     Ok(chains)
@@ -517,7 +517,7 @@ fn matches_with_and_without_a_sign(rt: HostRuntime) -> Result<(), Fail> {
     rules.push(rule(positive_matches(alloc, ports)?, Target::Log))?;
     rules.push(rule(negated_matches(alloc, nets)?, Target::Drop))?;
     let mut chains = ChainMap::new(alloc);
-    chains.insert(ChainName::join(b"c", b""), rules)?;
+    chains.insert(&ChainName::join(b"c", b""), rules)?;
     let lines = tables_text(alloc, &SetMap::new(alloc), &chains)?;
     let expected: [&[u8]; 5] = [
         b"*filter\n",
@@ -535,7 +535,7 @@ fn tables(rt: HostRuntime) -> Result<(), Fail> {
     let alloc = rt.alloc();
     let mut sets = SetMap::new(alloc);
     let name = SetName::new(SetKind::Ports, *b"dGNwLGh0dHAsYWxsKCkAAAA");
-    sets.insert(name, ports(alloc)?)?;
+    sets.insert(&name, ports(alloc)?)?;
     let lines = tables_text(alloc, &sets, &chains(alloc)?)?;
     let expected: [&[u8]; 15] = [
         b"create cali40n:dGNwLGh0dHAsYWxsKCkAAAA hash:ip,port\n",

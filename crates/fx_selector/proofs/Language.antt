@@ -284,9 +284,6 @@ module _ (n : ℕ) (k : List ℕ) where
   pub test_reads : Reads (Test n k) not_blank (test n k)
   test_reads = choice (λ c. eqb c 61) EqualTest U2 not_blank _ _ r1 c2 (s1 (λ c. eqb c 61) refl) (t2 (λ c. not (eqb c 61)) refl refl refl refl refl refl)
 
-pub not_unit : (b : Bool) → b ≡ false → not b ≡ true
-not_unit b e = ap not e
-
 abbrev pub Calls : (List ℕ → Tree → Type 0) → List ℕ → Tree → Type 0
 Calls H = Then not_blank (Mark (40 ∷ [])) (λ _. H)
 

@@ -66,7 +66,3 @@ key_byte c t = three (leb 32 c) (not (eqb c 127)) (not (eqb c 34)) (low_byte c t
 key_bytes : (k : List ℕ) → Each is_key k → Each (is_text 34) k
 key_bytes [] h = tt
 key_bytes (c ∷ cs) h = (key_byte c h.0, key_bytes cs h.1)
-
--- key bytes may stand in a string
-pub key_string : (k : List ℕ) → Each is_key k → IsString k
-key_string k h = plain_string k (key_bytes k h)

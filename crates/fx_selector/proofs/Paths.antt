@@ -79,9 +79,6 @@ module _ (limit n : ℕ) where
   group_here d [] e f = cc
   group_here d (c ∷ cs) e f = rw (e, f) refl
 
-  pub not_bang : (depth : ℕ) (rest : List ℕ) → depth ≢ 0 → begins_with 33 rest ≡ true → not_of limit n depth rest ≡ bind (mark (33 ∷ []) rest) (λ _. mapped negated (not_of limit n (depth - 1)))
-  not_bang depth rest h e = let k : depth ≡ suc (depth - 1) = omega arith in ap (λ x. not_of limit n x rest) k ∙ bang_here (depth - 1) rest e
-
   pub not_group : (depth : ℕ) (rest : List ℕ) → depth ≢ 0 → begins_with 33 rest ≡ false → begins_with 40 rest ≡ true → not_of limit n depth rest ≡ bind (mark (40 ∷ []) rest) (λ _. λ y. bind (or_of (not_of limit n (depth - 1)) n y) (λ t. mapped (λ _. t) (mark (41 ∷ []))))
   not_group depth rest h e f = let k : depth ≡ suc (depth - 1) = omega arith in ap (λ x. not_of limit n x rest) k ∙ group_here (depth - 1) rest e f
 
@@ -90,16 +87,6 @@ module _ (limit n : ℕ) where
   not_atom (suc d) [] e f = refl
   not_atom zero (c ∷ cs) e f = rw (e, f) refl
   not_atom (suc d) (c ∷ cs) e f = rw (e, f) refl
-
-  pub deep_bang : (depth : ℕ) (rest : List ℕ) → depth ≡ 0 → begins_with 33 rest ≡ true → not_of limit n depth rest ≡ Stop deep rest
-  deep_bang zero [] h e = cc
-  deep_bang zero (c ∷ cs) h e = rw e refl
-  deep_bang (suc d) rest h e = absurd (omega arith)
-
-  pub deep_group : (depth : ℕ) (rest : List ℕ) → depth ≡ 0 → begins_with 33 rest ≡ false → begins_with 40 rest ≡ true → not_of limit n depth rest ≡ Stop deep rest
-  deep_group zero [] h e f = cc
-  deep_group zero (c ∷ cs) h e f = rw (e, f) refl
-  deep_group (suc d) rest h e f = absurd (omega arith)
 
 -- behind the whole text's blanks
 module _ (limit n depth : ℕ) (text start : List ℕ) (past : start ≡ skip text) where

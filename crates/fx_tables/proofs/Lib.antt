@@ -1,3 +1,3 @@
-pub mod Keeps
+pub mod InvariantLemmas
 pub mod Exchanged
 pub mod Filled

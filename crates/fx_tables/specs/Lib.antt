@@ -1,4 +1,4 @@
 pub mod Leads
 pub mod Names
-pub mod Kept
+pub mod Invariant
 pub mod Coding

@@ -27,7 +27,7 @@ pub struct Tables {
 impl Model for Tables {
     ghost use Rattle.fx_model.specs.Tables as value;
     ghost use Rattle.fx_tables.specs.Coding.{tables_code};
-    ghost use Rattle.fx_tables.specs.Kept.{AreKept};
+    ghost use Rattle.fx_tables.specs.Invariant.{AreKept};
     ghost use Rattle.fx_model.specs.contracts.chain.ChainRule as rule;
     ghost use Rattle.fx_model.specs.contracts.member.MemberSet as members;
 
@@ -58,7 +58,7 @@ impl Tables {
         ensures ok { OnOk result (self.new ≡ record self.old { sets = map.insert self.old.sets name set.empty }) }
         ensures err { OnErr result (self.new ≡ self.old) }
     {
-        self.sets.insert(name, MemberSet::new(self.alloc))?;
+        self.sets.insert(&name, MemberSet::new(self.alloc))?;
         Ok(())
     }
 
@@ -94,7 +94,7 @@ impl Tables {
         requires { NoneNames self.old.chains name }
         ensures { self.new ≡ record self.old { sets = map.remove self.old.sets name } }
     {
-        self.sets.remove(name);
+        self.sets.remove(&name);
     }
 
     /// Writes a chain, in place of the one that is there.
@@ -106,7 +106,7 @@ impl Tables {
         ensures ok { OnOk result (self.new ≡ record self.old { chains = map.insert self.old.chains name rules }) }
         ensures err { OnErr result (self.new ≡ self.old) }
     {
-        self.chains.insert(name, rules)?;
+        self.chains.insert(&name, rules)?;
         Ok(())
     }
 
@@ -115,7 +115,7 @@ impl Tables {
         requires { NoneLeadsTo self.old.chains name }
         ensures { self.new ≡ record self.old { chains = map.remove self.old.chains name } }
     {
-        self.chains.remove(name);
+        self.chains.remove(&name);
     }
 
     /// The rules of a chain.
@@ -125,7 +125,7 @@ impl Tables {
         ensures closed { AreClosedTables self.now }
         ensures shaped { AreShaped self.now.chains }
     {
-        self.chains.get(name)
+        self.chains.get(&name)
     }
 
     /// The members of a set.
@@ -133,7 +133,7 @@ impl Tables {
         ensures found { option_copied result ≡ map.get self.now.sets name }
         ensures kinds { AreOfKinds self.now.sets }
     {
-        self.sets.get(name)
+        self.sets.get(&name)
     }
 
     /// All chains, by their names.
@@ -169,9 +169,9 @@ fn insert_into(
     ensures err { OnErr result (sets.new ≡ sets.old) }
 {
     let mut members = MemberSet::new(alloc);
-    sets.swap(name, &mut members);
+    sets.swap(&name, &mut members);
     let added = members.insert(member);
-    sets.swap(name, &mut members);
+    sets.swap(&name, &mut members);
     added?;
     Ok(())
 }
@@ -183,7 +183,7 @@ fn remove_from(alloc: Global, sets: &mut SetMap<MemberSet>, name: SetName, membe
     ensures { sets.new ≡ map.insert sets.old name (set.remove (members_of (map.get sets.old name)) member) }
 {
     let mut members = MemberSet::new(alloc);
-    sets.swap(name, &mut members);
+    sets.swap(&name, &mut members);
     members.remove(member);
-    sets.swap(name, &mut members);
+    sets.swap(&name, &mut members);
 }

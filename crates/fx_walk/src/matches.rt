@@ -131,7 +131,7 @@ fn is_met_by(packet: &Packet, end: End, member: Member) -> bool
 fn is_in_set(sets: &SetMap<MemberSet>, packet: &Packet, end: End, name: SetName) -> bool
     ensures { result ≡ set_holds sets.now end name packet.now }
 {
-    match sets.get(name) {
+    match sets.get(&name) {
         None => false,
         Some(members) => members.iter().any(|member| is_met_by(packet, end, *member)),
     }

@@ -129,7 +129,7 @@ fn messages_lead_to_the_view(rt: HostRuntime) -> Result<(), Fail> {
         key: Key::Profile { name },
     })?;
     let wanted = view_of(a, &resources, &Namer::new(Flat))?;
-    match wanted.profiles.get(NameKey::new(b"q")) {
+    match wanted.profiles.get(&NameKey::new(b"q")) {
         Some(profile) => assert!(rt; profile.missing),
         None => assert!(rt; false),
     }

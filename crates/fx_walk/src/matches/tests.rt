@@ -52,8 +52,8 @@ fn sets(alloc: Global) -> Result<SetMap<MemberSet>, Memory> {
         number: 443,
     })?;
     let mut sets = SetMap::new(alloc);
-    sets.insert(nets(), inner)?;
-    sets.insert(ports(), web)?;
+    sets.insert(&nets(), inner)?;
+    sets.insert(&ports(), web)?;
     Ok(sets)
 }
 

@@ -1,4 +1,4 @@
-use Rattle.fx_tables.proofs.Keeps.{kept-add}
+use Rattle.fx_tables.proofs.InvariantLemmas.{kept-add}
 use Rattle.fx_tables.proofs.tables.Tables.add_member.Goals as goal
 
 pub invariant_of-self-2 : goal.invariant_of-self-2

@@ -1,4 +1,4 @@
-use Rattle.fx_tables.proofs.Keeps.{kept-create}
+use Rattle.fx_tables.proofs.InvariantLemmas.{kept-create}
 use Rattle.fx_tables.proofs.tables.Tables.create_set.Goals as goal
 
 pub invariant_of-self-2 : goal.invariant_of-self-2

@@ -1,7 +1,7 @@
 use Rattle.std.proofs.Common.{sym, subst}
 use Rattle.fx_model.specs.Tables.{Tables}
 use Rattle.fx_tables.specs.Leads.{NoneLeadsTo}
-use Rattle.fx_tables.proofs.Keeps.{kept-delete}
+use Rattle.fx_tables.proofs.InvariantLemmas.{kept-delete}
 use Rattle.fx_tables.proofs.tables.Tables.delete_chain.Goals as goal
 
 pub invariant_of-self : goal.invariant_of-self

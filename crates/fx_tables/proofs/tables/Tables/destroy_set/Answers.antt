@@ -1,7 +1,7 @@
 use Rattle.std.proofs.Common.{sym, subst}
 use Rattle.fx_model.specs.Tables.{Tables}
 use Rattle.fx_tables.specs.Names.{NoneNames}
-use Rattle.fx_tables.proofs.Keeps.{kept-destroy}
+use Rattle.fx_tables.proofs.InvariantLemmas.{kept-destroy}
 use Rattle.fx_tables.proofs.tables.Tables.destroy_set.Goals as goal
 
 pub invariant_of-self : goal.invariant_of-self

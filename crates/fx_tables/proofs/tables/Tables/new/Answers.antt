@@ -1,4 +1,4 @@
-use Rattle.fx_tables.proofs.Keeps.{kept-empty}
+use Rattle.fx_tables.proofs.InvariantLemmas.{kept-empty}
 use Rattle.fx_tables.proofs.tables.Tables.new.Goals as goal
 
 pub invariant_of-result : goal.invariant_of-result

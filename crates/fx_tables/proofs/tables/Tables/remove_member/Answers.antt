@@ -1,4 +1,4 @@
-use Rattle.fx_tables.proofs.Keeps.{kept-take}
+use Rattle.fx_tables.proofs.InvariantLemmas.{kept-take}
 use Rattle.fx_tables.proofs.tables.Tables.remove_member.Goals as goal
 
 pub invariant_of-self : goal.invariant_of-self

@@ -1,7 +1,7 @@
 use Rattle.std.proofs.Common.{sym, subst}
 use Rattle.fx_model.specs.Tables.{Tables}
 use Rattle.fx_model.specs.Closed.{AllLeadThere, AllNameThere}
-use Rattle.fx_tables.proofs.Keeps.{kept-write}
+use Rattle.fx_tables.proofs.InvariantLemmas.{kept-write}
 use Rattle.fx_tables.proofs.tables.Tables.write_chain.Goals as goal
 
 pub invariant_of-self-2 : goal.invariant_of-self-2
