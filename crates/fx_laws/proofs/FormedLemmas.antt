@@ -18,7 +18,6 @@ use Rattle.fx_model.specs.declared.resources.Resources.{Resources}
 use Rattle.fx_model.specs.declared.view.View.{View}
 use Rattle.fx_model.specs.declared.view.ViewEndpoint.{ViewEndpoint}
 use Rattle.fx_model.specs.Policy.{is_workload}
-use Rattle.fx_model.specs.ViewPolicy.{IsOnWorkloads}
 use Rattle.fx_model.specs.Resources.{after, is_local, is_served, served_endpoints}
 use Rattle.fx_names.specs.Digests.{Digest}
 use Rattle.fx_model.specs.Views.{view_of, profile_entry, endpoint_entry, profile_key, active_profiles}
@@ -107,5 +106,5 @@ module _ (dg : Digest) where
         all-collected bytes_exact (λ (x : List ℕ × ViewEndpoint). is_workload x.0) nat_list_cmp_total (map (endpoint_entry dg) (served_endpoints R)) (workload_entries (maps.entries R.endpoints) was)
 
 -- the same, endpoint by endpoint
-pub on_workloads : (v : View) → has_workload_interfaces v ≡ true → IsOnWorkloads v
+pub on_workloads : (v : View) → has_workload_interfaces v ≡ true → (iface : List ℕ) (e : ViewEndpoint) → maps.get v.endpoints iface ≡ Some e → is_workload iface ≡ true
 on_workloads v h = λ iface e is. found_passes nat_list_cmp_total bytes_exact (λ (x : List ℕ × ViewEndpoint). is_workload x.0) v.endpoints h iface e is

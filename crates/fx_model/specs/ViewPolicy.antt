@@ -26,10 +26,10 @@ use Rattle.fx_model.specs.Views.{view_of}
 use Rattle.fx_model.specs.Claims.{IsClashFree}
 use Rattle.fx_model.specs.Closed.{IsClosedView}
 use Rattle.fx_model.specs.Tables.{Tables, Sets, tables_of, policy_side, profile_side, tiers_side}
-use Rattle.fx_model.specs.Policy.{MetRule, Tier, Listed, Missing, There, Decision, Outcome, tiers_verdict, profiles_verdict, side_verdict, both_sides, is_workload, packet_verdict}
+use Rattle.fx_model.specs.Policy.{MetRule, Tier, Listed, Missing, There, Decision, Outcome, tiers_verdict, profiles_verdict, side_verdict, both_sides, packet_verdict}
 use Rattle.fx_model.specs.Machine.{set_holds, Decides}
 use Rattle.fx_model.specs.Criteria.{address_at, port_at, proto_is, proto_is_not, lies_in, lies_in_given, holds_port, icmp_is, icmp_is_not}
-use Rattle.fx_model.specs.Formed.{is_formed_view_rule, is_formed_view_profile_rule, are_formed, have_workload_interfaces}
+use Rattle.fx_model.specs.Formed.{is_formed_view_rule, is_formed_view_profile_rule, are_formed, have_workload_interfaces, has_workload_interfaces}
 
 -- a port in a set is one by address, protocol and number
 abbrev pub view_port_holds : Sets → End → Packet → ViewPort → Bool
@@ -104,10 +104,6 @@ view_verdict v a =
 
 -- ---- where the tables say what the policy says
 
--- each endpoint's interface begins as those of workloads do
-abbrev pub IsOnWorkloads : View → Type 0
-IsOnWorkloads v = (iface : List ℕ) (e : ViewEndpoint) → maps.get v.endpoints iface ≡ Some e → is_workload iface ≡ true
-
 -- the rules of policies and profiles are formed, and no rule of a profile passes
 pub record HasFormedRules (v : View) : Type 0 where
   pub policies : (d : Direction) (key : List ℕ) (p : ViewPolicy) → maps.get v.policies key ≡ Some p → list_all is_formed_view_rule (policy_side d p) ≡ true
@@ -116,7 +112,7 @@ pub record HasFormedRules (v : View) : Type 0 where
 -- the tables of a closed view give each first packet the view's verdict and reasons
 abbrev pub TablesAgree : Type 0
 TablesAgree =
-    (v : View) (a : Packet) → IsClosedView v → IsOnWorkloads v → HasFormedRules v → a.state ≡ New
+    (v : View) (a : Packet) → IsClosedView v → has_workload_interfaces v ≡ true → HasFormedRules v → a.state ≡ New
     → let answer = view_verdict v a in Decides (tables_of v) a answer.verdict answer.egress answer.ingress
 
 -- what resources have that are read and whose updates are let through

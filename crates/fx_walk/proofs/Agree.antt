@@ -12,6 +12,7 @@ use Rattle.fx_model.specs.Policy.{Outcome}
 use Rattle.fx_model.specs.ViewPolicy.{TablesAgree, IsPolicyAnswer, PolicyIsKept}
 use Rattle.fx_walk.specs.Serving.{IsServedApart}
 use Rattle.fx_walk.specs.PacketPaths.{WalkIsRun, PacketHasOnePath, first_walk}
+use Rattle.fx_laws.proofs.FormedLemmas.{has_workload_interfaces-view_of}
 use Rattle.fx_laws.proofs.Leading.{ranked-tables}
 use Rattle.fx_laws.proofs.ViewClosed.{view_of-closed}
 use Rattle.fx_walk.proofs.Walks.{ended-run, one-end}
@@ -19,7 +20,7 @@ use Rattle.fx_walk.proofs.Seen.{seen_by, traced_reasons}
 use Rattle.fx_walk.proofs.Families.{tables_render}
 use Rattle.fx_walk.proofs.FirstPackets.{machine_agrees}
 use Rattle.fx_walk.proofs.Servable.{served_apart}
-use Rattle.fx_walk.proofs.Wanted.{view_is_policy, on_workloads, formed_rules}
+use Rattle.fx_walk.proofs.Wanted.{view_is_policy, formed_rules}
 
 pub run_has_one_end : RunHasOneEnd
 run_has_one_end tables a v w e f i j x y =
@@ -48,7 +49,7 @@ pub policy_is_kept : PolicyIsKept
 policy_is_kept dg R a servable new =
     let apart : IsServedApart dg R = served_apart dg R servable in
     subst (λ (x : Outcome). Decides (tables_of (view_of dg R)) a x.verdict x.egress x.ingress) (view_is_policy dg R a apart)
-    (tables_agree (view_of dg R) a (view_of-closed dg R) (on_workloads dg R a apart) (formed_rules dg R apart) new)
+    (tables_agree (view_of dg R) a (view_of-closed dg R) (has_workload_interfaces-view_of dg R servable.on_workloads) (formed_rules dg R apart) new)
 
 module _ {S T : Type 0} (f : S → T) where
   verdict-seen : (e : Ended S) → verdict_of (seen_by f e) ≡ verdict_of e

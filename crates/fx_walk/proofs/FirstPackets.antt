@@ -18,7 +18,9 @@ use Rattle.fx_model.specs.Ranks.{IsRanked}
 use Rattle.fx_model.specs.Machine.{holds, marked, iface_at, Reasons, nothing_noted, with_reason, last_reason, Decides}
 use Rattle.fx_model.specs.Walk.{Onward, Ended, Dropped, onward, after_jump, over_rules}
 use Rattle.fx_model.specs.Policy.{Decision, Outcome, unknown_or_free, is_workload, side_verdict, with_ingress, both_sides}
-use Rattle.fx_model.specs.ViewPolicy.{view_verdict_at, view_verdict, IsOnWorkloads, HasFormedRules}
+use Rattle.fx_model.specs.ViewPolicy.{view_verdict_at, view_verdict, HasFormedRules}
+use Rattle.fx_model.specs.Formed.{has_workload_interfaces}
+use Rattle.fx_laws.proofs.FormedLemmas.{on_workloads}
 use Rattle.fx_walk.proofs.Walks.{walk_hit, walk_miss, walk-end, Means, walked-run}
 use Rattle.fx_walk.proofs.Families.{Renders}
 use Rattle.fx_walk.proofs.Sides.{Concludes, call, called, workload_met, root_decision, root_ends}
@@ -98,7 +100,7 @@ module _ (a : Packet) (v : View) (chains : Chains) (given : Renders v chains) (f
       decided Allow why k = to_end _ _ Allow s.egress (Some why) k.1 (through_end 4 k.0 (with_reason (Some Ingress) why (turned Ingress s)))
       decided Deny why k = to_end _ _ Deny s.egress (Some why) k (Some Ingress, (refl, refl))
 
-  module _ (new : a.state ≡ New) (on : IsOnWorkloads v) where
+  module _ (new : a.state ≡ New) (on : has_workload_interfaces v ≡ true) where
     abbrev ingress_verdict : Option Decision
     ingress_verdict = side_verdict (view_verdict_at v Ingress a (maps.get v.endpoints a.iface_out)) a.iface_out
 
@@ -106,7 +108,7 @@ module _ (a : Packet) (v : View) (chains : Chains) (given : Renders v chains) (f
     egress_verdict = side_verdict (view_verdict_at v Egress a (maps.get v.endpoints a.iface_in)) a.iface_in
 
     ingress_side : (m : ℕ) (s : Reasons) → s.ingress ≡ None → RunsAs (from_side Ingress [] m s) (with_ingress s.egress ingress_verdict)
-    ingress_side m s none = ingress_ends m s ingress_verdict none (side_goes Ingress [] m s new (on a.iface_out) (maps.get v.endpoints a.iface_out) refl (is_workload a.iface_out) refl)
+    ingress_side m s none = ingress_ends m s ingress_verdict none (side_goes Ingress [] m s new (on_workloads v on a.iface_out) (maps.get v.endpoints a.iface_out) refl (is_workload a.iface_out) refl)
 
     egress_side : (m : ℕ) (o : Option Decision) → SideGoes Egress 2 (side_rule Ingress ∷ []) (from_side Egress (side_rule Ingress ∷ []) m nothing_noted) nothing_noted o → RunsAs (from_side Egress (side_rule Ingress ∷ []) m nothing_noted) (both_sides o ingress_verdict)
     egress_side m None h = to_end _ _ _ _ _ h.1 (ingress_side h.0 nothing_noted refl)
@@ -127,7 +129,7 @@ module _ (a : Packet) (v : View) (chains : Chains) (given : Renders v chains) (f
         ∙ ap (λ t. from_side Egress (side_rule Ingress ∷ []) (marked 0 0 0xf0000) t) first_noted
 
     whole : RunsAs (call a v chains given formed 5 forward 0 nothing_noted) (view_verdict v a)
-    whole = to_end _ _ _ _ _ begins (egress_side (marked 0 0 0xf0000) egress_verdict (side_goes Egress (side_rule Ingress ∷ []) (marked 0 0 0xf0000) nothing_noted new (on a.iface_in) (maps.get v.endpoints a.iface_in) refl (is_workload a.iface_in) refl))
+    whole = to_end _ _ _ _ _ begins (egress_side (marked 0 0 0xf0000) egress_verdict (side_goes Egress (side_rule Ingress ∷ []) (marked 0 0 0xf0000) nothing_noted new (on_workloads v on a.iface_in) (maps.get v.endpoints a.iface_in) refl (is_workload a.iface_in) refl))
 
     pub machine_agrees : IsRanked chains → Decides (record { sets = v.sets; chains = chains }) a (view_verdict v a).verdict (view_verdict v a).egress (view_verdict v a).ingress
     machine_agrees ranked = (whole.0, walked-run last_reason (holds v.sets a) chains ranked 0 nothing_noted _ _ whole.1)

@@ -39,8 +39,8 @@ use Rattle.fx_model.specs.Formed.{implies, is_given, has_port_protocol, has_icmp
 use Rattle.fx_model.specs.Tables.{profile_side}
 use Rattle.fx_names.specs.Digests.{Digest}
 use Rattle.fx_model.specs.Views.{view_of, view_side, view_rule, profile_key, is_active_profile, view_profile, profile_entry, view_endpoint, endpoint_entry, active_profiles}
-use Rattle.fx_model.specs.Policy.{some_port, some_port_given, side_matches, rule_matches, There, met_rules, there_or_missing, listed_profile, profiles_verdict, endpoint_verdict, with_iface, endpoint_at, verdict_at, is_workload, side_verdict, both_sides, packet_verdict}
-use Rattle.fx_model.specs.ViewPolicy.{some_view_port, some_view_port_given, view_side_matches, view_rule_matches, HasFormedRules, met_view_rules, listed_of, view_listed, view_endpoint_verdict, view_verdict_at, view_verdict, IsOnWorkloads}
+use Rattle.fx_model.specs.Policy.{some_port, some_port_given, side_matches, rule_matches, There, met_rules, there_or_missing, listed_profile, profiles_verdict, endpoint_verdict, with_iface, endpoint_at, verdict_at, side_verdict, both_sides, packet_verdict}
+use Rattle.fx_model.specs.ViewPolicy.{some_view_port, some_view_port_given, view_side_matches, view_rule_matches, HasFormedRules, met_view_rules, listed_of, view_listed, view_endpoint_verdict, view_verdict_at, view_verdict}
 use Rattle.fx_walk.specs.Serving.{IsServedApart}
 use Rattle.fx_walk.proofs.Lookups.{last_at, get-collected, first, second}
 
@@ -267,23 +267,3 @@ module _ (dg : Digest) (R : Resources) (a : Packet) where
     view_is_policy =
         ap (λ x. both_sides (side_verdict x a.iface_in) (side_verdict (view_verdict_at (view_of dg R) Ingress a (maps.get (view_of dg R).endpoints a.iface_out)) a.iface_out)) (at_iface Egress a.iface_in)
         ∙ ap (λ x. both_sides (side_verdict (verdict_at R Egress a (endpoint_at R a.iface_in)) a.iface_in) (side_verdict x a.iface_out)) (at_iface Ingress a.iface_out)
-
-    on_list : (iface : List ℕ) (es : List (ItemKey × Endpoint)) (p : Option ViewEndpoint) → AllThere R.endpoints es → ((e : ViewEndpoint) → p ≡ Some e → is_workload iface ≡ true) → (e : ViewEndpoint) → last (map (endpoint_entry dg) (served es)) iface p ≡ Some e → is_workload iface ≡ true
-    on_list iface [] p there before e h = before e h
-    on_list iface (x ∷ es) p there before e h = by_served (λ g. on_list iface es p there.1 before e g) (is_served R x.1) refl h
-      where
-        by_iface : (last (map (endpoint_entry dg) (served es)) iface p ≡ Some e → is_workload iface ≡ true) → is_served R x.1 ≡ true → (b : Bool) → is iface x.1.iface ≡ b → last (map (endpoint_entry dg) (served es)) iface (cond b (Some (view_endpoint dg x.0 x.1)) p) ≡ Some e → is_workload iface ≡ true
-        by_iface rest t true same h = ap is_workload (is_same iface x.1.iface same) ∙ servable.on_workloads x.0 x.1 there.0 t
-        by_iface rest t false same h = rest h
-
-        by_served : (last (map (endpoint_entry dg) (served es)) iface p ≡ Some e → is_workload iface ≡ true) → (b : Bool) → is_served R x.1 ≡ b → last (map (endpoint_entry dg) (cond b (x ∷ served es) (served es))) iface p ≡ Some e → is_workload iface ≡ true
-        by_served rest true t h = by_iface rest t (is iface x.1.iface) refl h
-        by_served rest false t h = rest h
-
-    none_some : {X : Type 0} (x : X) → None ≡ Some x → ⊥
-    none_some x e = cc
-
-    pub on_workloads : IsOnWorkloads (view_of dg R)
-    on_workloads iface e h =
-        on_list iface (maps.entries R.endpoints) None (entries_found item_total R.endpoints) (λ x q. absurd (none_some x q)) e
-        (sym (get-collected nat_list_cmp_total (map (endpoint_entry dg) (served_endpoints R)) iface) ∙ h)
