@@ -38,7 +38,6 @@ module _ (low high : ℕ) (small : high < 2 ^ 16) where
 
 -- ---- an optional number behind a mark
 module _ (absent mark low high : ℕ) where
-
   pub optional_value : (rest : List ℕ) (x : ℕ) → Means (IsNumber low high) rest x → Means (IsOptional absent mark low high) (mark ∷ rest) x
   optional_value rest x m = record {
     is = inr (rest, refl, m.is);
