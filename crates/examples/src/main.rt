@@ -11,7 +11,9 @@ use std::alloc::Global;
 use std::rt::Files;
 use std::{fs, io};
 
-const EXAMPLES: [&str; 5] = ["first", "packets", "rules", "refusals", "delete"];
+const EXAMPLES: [&str; 6] = [
+    "first", "packets", "rules", "policies", "refusals", "delete",
+];
 
 const MOST_WRITTEN: u32 = 1_048_576;
 

@@ -11,6 +11,7 @@ use Rattle.fx_model.specs.Closed.{IsClosedView}
 use Rattle.fx_model.specs.Formed.{are_formed, have_workload_interfaces, is_formed_view}
 use Rattle.fx_model.specs.Views.{empty_view}
 use Rattle.fx_model.specs.contracts.ids.ItemKeyOrd.TheImpl as item_cmp
+use Rattle.fx_model.specs.contracts.ids.PolicyIdOrd.TheImpl as policy_cmp
 use Rattle.fx_names.specs.Digests.{Digest}
 use Rattle.felix_replay.specs.Output.{start}
 
@@ -35,7 +36,7 @@ empty_view-formed = rw (entries-empty (slice_cmp nat_cmp), entries-empty (slice_
 
 -- and so are the resources at the start
 pub start-formed : (dg : Digest) (node : List ℕ) → are_formed (start dg node).resources ≡ true
-start-formed dg node = rw (entries-empty item_cmp.cmp-value.it, entries-empty (slice_cmp nat_cmp)) refl
+start-formed dg node = rw (entries-empty item_cmp.cmp-value.it, entries-empty (slice_cmp nat_cmp), entries-empty policy_cmp.cmp-value.it) refl
 
 pub start-on_workloads : (dg : Digest) (node : List ℕ) → have_workload_interfaces (start dg node).resources ≡ true
 start-on_workloads dg node = rw (entries-empty item_cmp.cmp-value.it) refl

@@ -1,4 +1,3 @@
-pub mod WholeChain
 pub mod Writing
 pub mod Runs
 pub mod SendingLemmas

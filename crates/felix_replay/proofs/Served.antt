@@ -23,7 +23,7 @@ use Rattle.felix_replay.proofs.EmptyView.{start-formed, start-on_workloads}
 start-servable : (dg : Digest) (node : List ℕ) → IsServable dg (start dg node).resources
 start-servable dg node = record {
   formed = start-formed dg node;
-  clash_free = clash_free_none dg (start dg node).resources refl refl;
+  clash_free = clash_free_none dg (start dg node).resources refl refl refl;
   on_workloads = start-on_workloads dg node;
 }
 

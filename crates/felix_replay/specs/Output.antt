@@ -56,13 +56,22 @@ abbrev pub is_second_local : Resources → Update → Bool
 is_second_local R update.InSync = false
 is_second_local R (update.Put (key.Item k) (item.Endpoint e)) = is_local R e && list_any (λ x. is_local R x.1 && not (item_eq.eq-value.it x.0 k)) (maps.entries R.endpoints)
 is_second_local R (update.Put (key.Item k) (item.Profile p)) = false
+is_second_local R (update.Put (key.Item k) (item.Tier t)) = false
+is_second_local R (update.Put (key.Item k) (item.Policy p)) = false
 is_second_local R (update.Put (key.Profile name) x) = false
+is_second_local R (update.Put (key.Tier name) x) = false
+is_second_local R (update.Put (key.Policy id) x) = false
 is_second_local R (update.Delete k) = false
 
 -- an update whose claims clash is refused, with the first clash
 abbrev pub unless_taken : Option Clash → Update → Result Command Refusal
 unless_taken None u = Ok (command.Update u)
 unless_taken (Some c) u = Err (Taken c.name c.holder)
+
+-- the same where the refusal is known, if there is one
+abbrev pub unless_refused : Option Refusal → Update → Result Command Refusal
+unless_refused None u = Ok (command.Update u)
+unless_refused (Some r) u = Err r
 
 abbrev pub update_answer : Digest → Resources → Update → Result Command Refusal
 update_answer dg R u = if is_second_local R u then Err (Read (Unsupported (codes "spec.node"))) else unless_taken (clash dg R u) u

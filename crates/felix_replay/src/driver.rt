@@ -8,11 +8,9 @@ ghost use Rattle.fx_model.specs.Formed.{is_formed_view, is_formed_view_endpoint,
 ghost use Rattle.fx_model.specs.Tables.{tables_of, policy_chains, profile_chains, endpoint_chains, dispatch_chains};
 ghost use Rattle.fx_model.specs.Writing.{CanBeWritten};
 
-use crate::chains::{
-    dispatch_chain, endpoint_chain, endpoint_name, forward_chain, forward_name, policy_name,
-    profile_name, root_name,
-};
+use crate::chains::{dispatch_chain, forward_chain, forward_name, root_name};
 use fx_base::{Memory, NameKey, NameMap, Text, TextMap};
+use fx_chains::{endpoint_chain, endpoint_name, policy_name, profile_name};
 use fx_model::{View, ViewEndpoint, ViewPolicy, ViewProfile};
 use fx_rules::{policy_chain, profile_chain};
 use fx_tables::Tables;

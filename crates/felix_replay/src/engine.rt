@@ -12,7 +12,7 @@ ghost use Rattle.fx_model.specs.Views.{view_of};
 ghost use Rattle.fx_model.specs.contracts.ids.ItemKeyPartialEq.TheImpl as item_eq;
 ghost use Rattle.fx_print.specs.Texts.{refusal_line, flushed_line};
 ghost use Rattle.fx_lines.specs.Formed.{IsReadCommand};
-ghost use Rattle.felix_replay.specs.Output.{start, next, text, checked, update_answer, after_answer, answer_text, is_second_local, flush_text};
+ghost use Rattle.felix_replay.specs.Output.{start, next, text, checked, update_answer, unless_refused, after_answer, answer_text, is_second_local, flush_text};
 ghost use Rattle.fx_model.specs.TableTexts.{table_lines};
 ghost use Rattle.felix_replay.specs.PacketRuns.{packet_text};
 ghost use Rattle.felix_replay.specs.Fitting.{Fits};
@@ -245,13 +245,31 @@ fn checked_update<R: DigestRule, F: DigestFunction<R> + Drop>(
     requires formed { is_formed update ≡ true }
     ensures { IfOk result (λ answer. answer ≡ update_answer R.digest_of store.now.resources update) }
 {
-    if is_second_local(store.resources(), &update) {
-        let path = Text::new(alloc, b"spec.node")?;
-        return Ok(Err(Refusal::Read(ReadFault::Unsupported { path })));
+    match refusal_of(alloc, store, &update, namer)? {
+        None => Ok(Ok(Command::Update(update))),
+        Some(refusal) => Ok(Err(refusal)),
     }
-    match store.check(&update, namer) {
-        Ok(()) => Ok(Ok(Command::Update(update))),
-        Err(CheckFault::Taken { name, holder }) => Ok(Err(Refusal::Taken { name, holder })),
+}
+
+// Why an update is refused, if it is.
+fn refusal_of<R: DigestRule, F: DigestFunction<R> + Drop>(
+    alloc: Global,
+    store: &Store,
+    update: &Update,
+    namer: &Namer<R, F>,
+) -> Result<Option<Refusal>, Memory>
+    requires claims { KeepsClaims R.digest_of store.now }
+    requires formed { is_formed update.now ≡ true }
+    ensures { IfOk result (λ refusal. unless_refused refusal update.now
+        ≡ update_answer R.digest_of store.now.resources update.now) }
+{
+    if is_second_local(store.resources(), update) {
+        let path = Text::new(alloc, b"spec.node")?;
+        return Ok(Some(Refusal::Read(ReadFault::Unsupported { path })));
+    }
+    match store.check(update, namer) {
+        Ok(()) => Ok(None),
+        Err(CheckFault::Taken { name, holder }) => Ok(Some(Refusal::Taken { name, holder })),
         Err(CheckFault::Memory) => Err(Memory),
     }
 }

@@ -7,6 +7,10 @@ mod chains;
 mod driver;
 mod engine;
 #[cfg(test)]
+mod policy_rows;
+#[cfg(test)]
+mod policy_tests;
+#[cfg(test)]
 mod refusal_rows;
 #[cfg(test)]
 mod refusal_tests;

@@ -14,9 +14,7 @@ pub const ROWS: &str = r##"# lines
 {"put":{"apiVersion":"projectcalico.org/v3","kind":"profile","metadata":{"name":"p"},"spec":{}}} => refused 1 1 UnknownKind
 {"put":{"apiVersion":"projectcalico.org/v1","kind":"Profile","metadata":{"name":"p"},"spec":{}}} => refused 1 1 UnknownKind
 {"put":{"apiVersion":"v1","kind":"Profile","metadata":{"name":"p"},"spec":{}}} => refused 1 1 UnknownKind
-{"put":{"apiVersion":"projectcalico.org/v3","kind":"Tier","metadata":[],"spec":[]}} => refused 1 5 Unsupported kind
-{"put":{"apiVersion":"projectcalico.org/v3","kind":"GlobalNetworkPolicy","metadata":{"name":"p"},"spec":{}}} => refused 1 5 Unsupported kind
-{"put":{"apiVersion":"projectcalico.org/v3","kind":"NetworkPolicy","metadata":{"name":"p"},"spec":{}}} => refused 1 5 Unsupported kind
+{"put":{"apiVersion":"projectcalico.org/v3","kind":"NetworkSet","metadata":[],"spec":[]}} => refused 1 5 Unsupported kind
 {"put":{"apiVersion":"networking.k8s.io/v1","kind":"NetworkPolicy","metadata":{"name":"p"},"spec":{}}} => refused 1 5 Unsupported kind
 {"put":{"apiVersion":"v1","kind":"NetworkPolicy","metadata":{"name":"p"},"spec":{}}} => refused 1 1 UnknownKind
 {"put":{"apiVersion":"v1","kind":"Namespace","metadata":{"name":"p"},"spec":{}}} => refused 1 5 Unsupported kind
@@ -25,6 +23,12 @@ pub const ROWS: &str = r##"# lines
 {"delete":{"apiVersion":"projectcalico.org/v3","kind":"GlobalNetworkSet","metadata":{}}} => refused 1 5 Unsupported kind
 {"delete":{"apiVersion":"projectcalico.org/v3","kind":"HostEndpoint","metadata":{}}} => refused 1 1 UnknownKind
 # names and namespaces
+{"put":{"apiVersion":"projectcalico.org/v3","kind":"Tier","metadata":[],"spec":[]}} => refused 1 3 BadField metadata
+{"put":{"apiVersion":"projectcalico.org/v3","kind":"Tier","metadata":{},"spec":[]}} => refused 1 2 MissingField metadata.name
+{"put":{"apiVersion":"projectcalico.org/v3","kind":"GlobalNetworkPolicy","metadata":{"name":"a/b"},"spec":[]}} => refused 1 3 BadField metadata.name
+{"put":{"apiVersion":"projectcalico.org/v3","kind":"GlobalNetworkPolicy","metadata":{"name":"x","namespace":7,"labels":7}}}
+{"put":{"apiVersion":"projectcalico.org/v3","kind":"NetworkPolicy","metadata":{"name":"p"},"spec":{}}} => refused 1 2 MissingField metadata.namespace
+{"put":{"apiVersion":"projectcalico.org/v3","kind":"NetworkPolicy","metadata":{"namespace":"N"},"spec":{}}} => refused 1 2 MissingField metadata.name
 {"put":{"apiVersion":"projectcalico.org/v3","kind":"Profile"}} => refused 1 2 MissingField metadata.name
 {"put":{"apiVersion":"projectcalico.org/v3","kind":"Profile","metadata":{"name":"p"}}}
 {"put":{"apiVersion":"projectcalico.org/v3","kind":"Profile","metadata":null,"spec":[]}} => refused 1 2 MissingField metadata.name
@@ -289,6 +293,74 @@ pub const ROWS: &str = r##"# lines
 {"put":{"apiVersion":"projectcalico.org/v3","kind":"WorkloadEndpoint","metadata":{"name":"w","namespace":"a"},"spec":{"node":"n2","interfaceName":"cali1","ports":[{"name":"b","port":"80"}]}}} => refused 1 3 BadField spec.ports[0].port
 {"put":{"apiVersion":"projectcalico.org/v3","kind":"WorkloadEndpoint","metadata":{"name":"w","namespace":"a"},"spec":{"node":"n2","interfaceName":"cali1","ports":[{"name":"b","port":80.5}]}}} => refused 1 3 BadField spec.ports[0].port
 {"put":{"apiVersion":"projectcalico.org/v3","kind":"WorkloadEndpoint","metadata":{"name":"w","namespace":"a"},"spec":{"node":"n2","interfaceName":"cali1","profiles":["p/"],"ports":[5]}}} => refused 1 3 BadField spec.profiles[0]
+# tiers
+{"put":{"apiVersion":"projectcalico.org/v3","kind":"Tier","metadata":{"name":"t"}}}
+{"put":{"apiVersion":"projectcalico.org/v3","kind":"Tier","metadata":{"name":"t"},"spec":[]}} => refused 1 3 BadField spec
+{"put":{"apiVersion":"projectcalico.org/v3","kind":"Tier","metadata":{"name":"t"},"spec":{"order":null,"defaultAction":null,"x":7}}}
+{"put":{"apiVersion":"projectcalico.org/v3","kind":"Tier","metadata":{"name":"t"},"spec":{"order":-9223372036854775808,"defaultAction":"Deny"}}}
+{"put":{"apiVersion":"projectcalico.org/v3","kind":"Tier","metadata":{"name":"t"},"spec":{"order":9223372036854775807}}}
+{"put":{"apiVersion":"projectcalico.org/v3","kind":"Tier","metadata":{"name":"t"},"spec":{"order":9223372036854775808}}} => refused 1 3 BadField spec.order
+{"put":{"apiVersion":"projectcalico.org/v3","kind":"Tier","metadata":{"name":"t"},"spec":{"order":-9223372036854775809}}} => refused 1 3 BadField spec.order
+{"put":{"apiVersion":"projectcalico.org/v3","kind":"Tier","metadata":{"name":"t"},"spec":{"order":1.5}}} => refused 1 3 BadField spec.order
+{"put":{"apiVersion":"projectcalico.org/v3","kind":"Tier","metadata":{"name":"t"},"spec":{"order":1.0}}} => refused 1 3 BadField spec.order
+{"put":{"apiVersion":"projectcalico.org/v3","kind":"Tier","metadata":{"name":"t"},"spec":{"order":1e2}}} => refused 1 3 BadField spec.order
+{"put":{"apiVersion":"projectcalico.org/v3","kind":"Tier","metadata":{"name":"t"},"spec":{"order":-0}}} => refused 1 3 BadField spec.order
+{"put":{"apiVersion":"projectcalico.org/v3","kind":"Tier","metadata":{"name":"t"},"spec":{"order":"1"}}} => refused 1 3 BadField spec.order
+{"put":{"apiVersion":"projectcalico.org/v3","kind":"Tier","metadata":{"name":"t"},"spec":{"order":false,"defaultAction":"Pass"}}} => refused 1 3 BadField spec.order
+{"put":{"apiVersion":"projectcalico.org/v3","kind":"Tier","metadata":{"name":"t"},"spec":{"defaultAction":"Pass"}}} => refused 1 5 Unsupported spec.defaultAction
+{"put":{"apiVersion":"projectcalico.org/v3","kind":"Tier","metadata":{"name":"t"},"spec":{"defaultAction":"Allow"}}} => refused 1 3 BadField spec.defaultAction
+{"put":{"apiVersion":"projectcalico.org/v3","kind":"Tier","metadata":{"name":"t"},"spec":{"defaultAction":"deny"}}} => refused 1 3 BadField spec.defaultAction
+{"put":{"apiVersion":"projectcalico.org/v3","kind":"Tier","metadata":{"name":"t"},"spec":{"defaultAction":["Deny"]}}} => refused 1 3 BadField spec.defaultAction
+{"put":{"apiVersion":"projectcalico.org/v3","kind":"Tier","metadata":{"name":"a/b"},"spec":{"order":"x"}}} => refused 1 3 BadField metadata.name
+# policies
+{"put":{"apiVersion":"projectcalico.org/v3","kind":"GlobalNetworkPolicy","metadata":{"name":"x"},"spec":null}}
+{"put":{"apiVersion":"projectcalico.org/v3","kind":"GlobalNetworkPolicy","metadata":{"name":"x"},"spec":7}} => refused 1 3 BadField spec
+{"put":{"apiVersion":"projectcalico.org/v3","kind":"GlobalNetworkPolicy","metadata":{"name":"x"},"spec":{"tier":null,"order":-1,"selector":null,"namespaceSelector":"","serviceAccountSelector":" ","types":null,"ingress":[],"egress":null,"doNotTrack":false,"preDNAT":null,"applyOnForward":false,"performanceHints":7}}}
+{"put":{"apiVersion":"projectcalico.org/v3","kind":"GlobalNetworkPolicy","metadata":{"name":"x"},"spec":{"tier":"T_1.a-b"}}}
+{"put":{"apiVersion":"projectcalico.org/v3","kind":"GlobalNetworkPolicy","metadata":{"name":"x"},"spec":{"tier":""}}} => refused 1 3 BadField spec.tier
+{"put":{"apiVersion":"projectcalico.org/v3","kind":"GlobalNetworkPolicy","metadata":{"name":"x"},"spec":{"tier":7,"order":7.5}}} => refused 1 3 BadField spec.tier
+{"put":{"apiVersion":"projectcalico.org/v3","kind":"GlobalNetworkPolicy","metadata":{"name":"x"},"spec":{"order":7.5,"selector":"foo("}}} => refused 1 3 BadField spec.order
+{"put":{"apiVersion":"projectcalico.org/v3","kind":"GlobalNetworkPolicy","metadata":{"name":"x"},"spec":{"selector":"foo("}}} => refused 1 4 BadSelector spec.selector 3
+{"put":{"apiVersion":"projectcalico.org/v3","kind":"GlobalNetworkPolicy","metadata":{"name":"x"},"spec":{"selector":["all()"]}}} => refused 1 3 BadField spec.selector
+{"put":{"apiVersion":"projectcalico.org/v3","kind":"GlobalNetworkPolicy","metadata":{"name":"x"},"spec":{"selector":"a == 'b"}}} => refused 1 4 BadSelector spec.selector 7
+{"put":{"apiVersion":"projectcalico.org/v3","kind":"GlobalNetworkPolicy","metadata":{"name":"x"},"spec":{"selector":"a == 'ä'"}}}
+{"put":{"apiVersion":"projectcalico.org/v3","kind":"GlobalNetworkPolicy","metadata":{"name":"x"},"spec":{"selector":"!!!!!!!!!!!!!!!!!!!!!!!!!!!!!!!!!!!!!!!!!!!!!!!!!!!!!!!!!!!!!!!!has(a)"}}}
+{"put":{"apiVersion":"projectcalico.org/v3","kind":"GlobalNetworkPolicy","metadata":{"name":"x"},"spec":{"selector":"!!!!!!!!!!!!!!!!!!!!!!!!!!!!!!!!!!!!!!!!!!!!!!!!!!!!!!!!!!!!!!!!!has(a)"}}} => refused 1 4 BadSelector spec.selector 64
+{"put":{"apiVersion":"projectcalico.org/v3","kind":"GlobalNetworkPolicy","metadata":{"name":"x"},"spec":{"selector":"has(kkkkkkkkkkkkkkkkkkkkkkkkkkkkkkkkkkkkkkkkkkkkkkkkkkkkkkkkkkkkkkkkkkkkkkkkkkkkkkkkkkkkkkkkkkkkkkkkkkkkkkkkkkkkkkkkkkkkkkkkkkkkkkkkkkkkkkkkkkkkkkkkkkkkkkkkkkkkkkkkkkkkkkkkkkkkkkkkkkkkkkkkkkkkkkkkkkkkkkkkkkkkkkkkkkkkkkkkkkkkkkkkkkkkkkkkkkkkkkkkkkkkkkkkkkkkkkkkkkkkkkkkkkkkkkkkkkkkkkkkkkkkkkkkkkkkkkkkkkkkkkkkkkkkkkkkkkkkkkkkkkkkkkkkkkkkkkkkkkkkkkkkkkkkkkkkkkkkkkkkkkkkkkkkkkkkkkkkkkkkkkkkkkkkkkkkkkkkkkkkkkkkkkkkkkkkkkkkkkkkkkkkkkkkkkkkkkkkkkkkkkkkkkkkkkkkkkkkkkkkkkkkkkkkkkkkkkkkkkkkkkkkkkkkkkkkkkkkkkkkkkkkkkkkkkkk)"}}}
+{"put":{"apiVersion":"projectcalico.org/v3","kind":"GlobalNetworkPolicy","metadata":{"name":"x"},"spec":{"selector":"has(kkkkkkkkkkkkkkkkkkkkkkkkkkkkkkkkkkkkkkkkkkkkkkkkkkkkkkkkkkkkkkkkkkkkkkkkkkkkkkkkkkkkkkkkkkkkkkkkkkkkkkkkkkkkkkkkkkkkkkkkkkkkkkkkkkkkkkkkkkkkkkkkkkkkkkkkkkkkkkkkkkkkkkkkkkkkkkkkkkkkkkkkkkkkkkkkkkkkkkkkkkkkkkkkkkkkkkkkkkkkkkkkkkkkkkkkkkkkkkkkkkkkkkkkkkkkkkkkkkkkkkkkkkkkkkkkkkkkkkkkkkkkkkkkkkkkkkkkkkkkkkkkkkkkkkkkkkkkkkkkkkkkkkkkkkkkkkkkkkkkkkkkkkkkkkkkkkkkkkkkkkkkkkkkkkkkkkkkkkkkkkkkkkkkkkkkkkkkkkkkkkkkkkkkkkkkkkkkkkkkkkkkkkkkkkkkkkkkkkkkkkkkkkkkkkkkkkkkkkkkkkkkkkkkkkkkkkkkkkkkkkkkkkkkkkkkkkkkkkkkkkkkkkkkkkkkk)"}}} => refused 1 4 BadSelector spec.selector 516
+{"put":{"apiVersion":"projectcalico.org/v3","kind":"GlobalNetworkPolicy","metadata":{"name":"x"},"spec":{"selector":")","namespaceSelector":"("}}} => refused 1 4 BadSelector spec.selector 0
+{"put":{"apiVersion":"projectcalico.org/v3","kind":"GlobalNetworkPolicy","metadata":{"name":"x"},"spec":{"namespaceSelector":0}}} => refused 1 3 BadField spec.namespaceSelector
+{"put":{"apiVersion":"projectcalico.org/v3","kind":"GlobalNetworkPolicy","metadata":{"name":"x"},"spec":{"namespaceSelector":"all("}}} => refused 1 4 BadSelector spec.namespaceSelector 4
+{"put":{"apiVersion":"projectcalico.org/v3","kind":"GlobalNetworkPolicy","metadata":{"name":"x"},"spec":{"serviceAccountSelector":"(","namespaceSelector":"!"}}} => refused 1 4 BadSelector spec.namespaceSelector 1
+{"put":{"apiVersion":"projectcalico.org/v3","kind":"GlobalNetworkPolicy","metadata":{"name":"x"},"spec":{"serviceAccountSelector":{},"types":7}}} => refused 1 3 BadField spec.serviceAccountSelector
+{"put":{"apiVersion":"projectcalico.org/v3","kind":"GlobalNetworkPolicy","metadata":{"name":"x"},"spec":{"serviceAccountSelector":"has()"}}} => refused 1 4 BadSelector spec.serviceAccountSelector 4
+{"put":{"apiVersion":"projectcalico.org/v3","kind":"GlobalNetworkPolicy","metadata":{"name":"x"},"spec":{"types":"Ingress","ingress":7}}} => refused 1 3 BadField spec.types
+{"put":{"apiVersion":"projectcalico.org/v3","kind":"GlobalNetworkPolicy","metadata":{"name":"x"},"spec":{"types":["ingress"]}}} => refused 1 3 BadField spec.types[0]
+{"put":{"apiVersion":"projectcalico.org/v3","kind":"GlobalNetworkPolicy","metadata":{"name":"x"},"spec":{"types":["Egress","Ingress","Egress",null]}}} => refused 1 3 BadField spec.types[3]
+{"put":{"apiVersion":"projectcalico.org/v3","kind":"GlobalNetworkPolicy","metadata":{"name":"x"},"spec":{"ingress":{}}}} => refused 1 3 BadField spec.ingress
+{"put":{"apiVersion":"projectcalico.org/v3","kind":"GlobalNetworkPolicy","metadata":{"name":"x"},"spec":{"ingress":[{"action":"Allow"},null],"egress":7}}} => refused 1 3 BadField spec.ingress[1]
+{"put":{"apiVersion":"projectcalico.org/v3","kind":"GlobalNetworkPolicy","metadata":{"name":"x"},"spec":{"ingress":[{}]}}} => refused 1 2 MissingField spec.ingress[0].action
+{"put":{"apiVersion":"projectcalico.org/v3","kind":"GlobalNetworkPolicy","metadata":{"name":"x"},"spec":{"ingress":[{"action":"Pass"}],"egress":[{"action":"Log"},{"action":"Pass"}]}}}
+{"put":{"apiVersion":"projectcalico.org/v3","kind":"GlobalNetworkPolicy","metadata":{"name":"x"},"spec":{"ingress":[{"action":"Allow","destination":{"ports":[80]}}]}}} => refused 1 6 PortsWithoutProtocol spec.ingress[0].destination.ports
+{"put":{"apiVersion":"projectcalico.org/v3","kind":"GlobalNetworkPolicy","metadata":{"name":"x"},"spec":{"types":["Egress"],"ingress":[{"action":"Allow","icmp":{"type":8}}]}}} => refused 1 7 IcmpWithoutProtocol spec.ingress[0].icmp
+{"put":{"apiVersion":"projectcalico.org/v3","kind":"GlobalNetworkPolicy","metadata":{"name":"x"},"spec":{"egress":[{"action":"Pass","source":{"selector":"all()"}}]}}} => refused 1 5 Unsupported spec.egress[0].source.selector
+{"put":{"apiVersion":"projectcalico.org/v3","kind":"GlobalNetworkPolicy","metadata":{"name":"x"},"spec":{"egress":[{"action":"Next"}],"doNotTrack":true}}} => refused 1 3 BadField spec.egress[0].action
+{"put":{"apiVersion":"projectcalico.org/v3","kind":"GlobalNetworkPolicy","metadata":{"name":"x"},"spec":{"doNotTrack":true,"preDNAT":7}}} => refused 1 5 Unsupported spec.doNotTrack
+{"put":{"apiVersion":"projectcalico.org/v3","kind":"GlobalNetworkPolicy","metadata":{"name":"x"},"spec":{"doNotTrack":"false"}}} => refused 1 3 BadField spec.doNotTrack
+{"put":{"apiVersion":"projectcalico.org/v3","kind":"GlobalNetworkPolicy","metadata":{"name":"x"},"spec":{"preDNAT":true,"applyOnForward":7}}} => refused 1 5 Unsupported spec.preDNAT
+{"put":{"apiVersion":"projectcalico.org/v3","kind":"GlobalNetworkPolicy","metadata":{"name":"x"},"spec":{"preDNAT":0}}} => refused 1 3 BadField spec.preDNAT
+{"put":{"apiVersion":"projectcalico.org/v3","kind":"GlobalNetworkPolicy","metadata":{"name":"x"},"spec":{"applyOnForward":true}}} => refused 1 5 Unsupported spec.applyOnForward
+{"put":{"apiVersion":"projectcalico.org/v3","kind":"GlobalNetworkPolicy","metadata":{"name":"x"},"spec":{"applyOnForward":{}}}} => refused 1 3 BadField spec.applyOnForward
+{"put":{"apiVersion":"projectcalico.org/v3","kind":"NetworkPolicy","metadata":{"name":"x","namespace":"n"},"spec":{}}}
+{"put":{"apiVersion":"projectcalico.org/v3","kind":"NetworkPolicy","metadata":{"name":"x","namespace":"n"},"spec":[]}} => refused 1 3 BadField spec
+{"put":{"apiVersion":"projectcalico.org/v3","kind":"NetworkPolicy","metadata":{"name":"x","namespace":"n.m"},"spec":{"tier":7}}} => refused 1 3 BadField metadata.namespace
+{"put":{"apiVersion":"projectcalico.org/v3","kind":"NetworkPolicy","metadata":{"name":"x","namespace":"n"},"spec":{"namespaceSelector":"foo(","doNotTrack":true,"preDNAT":7,"applyOnForward":true}}}
+{"put":{"apiVersion":"projectcalico.org/v3","kind":"NetworkPolicy","metadata":{"name":"x","namespace":"n"},"spec":{"tier":"a b"}}} => refused 1 3 BadField spec.tier
+{"put":{"apiVersion":"projectcalico.org/v3","kind":"NetworkPolicy","metadata":{"name":"x","namespace":"n"},"spec":{"order":[],"selector":7}}} => refused 1 3 BadField spec.order
+{"put":{"apiVersion":"projectcalico.org/v3","kind":"NetworkPolicy","metadata":{"name":"x","namespace":"n"},"spec":{"selector":"a in {'b',}","serviceAccountSelector":7}}} => refused 1 4 BadSelector spec.selector 10
+{"put":{"apiVersion":"projectcalico.org/v3","kind":"NetworkPolicy","metadata":{"name":"x","namespace":"n"},"spec":{"serviceAccountSelector":"a = 'b'","types":7}}} => refused 1 4 BadSelector spec.serviceAccountSelector 3
+{"put":{"apiVersion":"projectcalico.org/v3","kind":"NetworkPolicy","metadata":{"name":"x","namespace":"n"},"spec":{"types":["Both"],"egress":[{}]}}} => refused 1 3 BadField spec.types[0]
+{"put":{"apiVersion":"projectcalico.org/v3","kind":"NetworkPolicy","metadata":{"name":"x","namespace":"n"},"spec":{"egress":[{"action":"pass"}]}}} => refused 1 3 BadField spec.egress[0].action
 # deletes
 {"delete":{"apiVersion":"projectcalico.org/v3","kind":"Profile","metadata":{"name":"p"},"spec":7}}
 {"delete":{"apiVersion":"projectcalico.org/v3","kind":"Profile","metadata":{}}} => refused 1 2 MissingField metadata.name
@@ -297,6 +369,12 @@ pub const ROWS: &str = r##"# lines
 {"delete":{"apiVersion":"projectcalico.org/v3","kind":"WorkloadEndpoint","metadata":{"name":"w","namespace":"a","labels":7}}}
 {"delete":{"apiVersion":"projectcalico.org/v3","kind":"WorkloadEndpoint","metadata":{"name":"w"}}} => refused 1 2 MissingField metadata.namespace
 {"delete":{"apiVersion":"projectcalico.org/v3","kind":"WorkloadEndpoint","metadata":{"name":"w","namespace":"a_b"}}} => refused 1 3 BadField metadata.namespace
+{"delete":{"apiVersion":"projectcalico.org/v3","kind":"Tier","metadata":{"name":"t"},"spec":7}}
+{"delete":{"apiVersion":"projectcalico.org/v3","kind":"Tier","metadata":{"name":"a b"}}} => refused 1 3 BadField metadata.name
+{"delete":{"apiVersion":"projectcalico.org/v3","kind":"GlobalNetworkPolicy","metadata":{"name":"x","namespace":7},"spec":{"selector":"foo("}}}
+{"delete":{"apiVersion":"projectcalico.org/v3","kind":"GlobalNetworkPolicy","metadata":null}} => refused 1 2 MissingField metadata.name
+{"delete":{"apiVersion":"projectcalico.org/v3","kind":"NetworkPolicy","metadata":{"name":"x","namespace":"n"},"spec":[]}}
+{"delete":{"apiVersion":"projectcalico.org/v3","kind":"NetworkPolicy","metadata":{"name":"x"}}} => refused 1 2 MissingField metadata.namespace
 # packets
 {"packet":{}} => refused 1 2 MissingField packet.in
 {"packet":{"in":"eth0"}} => refused 1 2 MissingField packet.out

@@ -141,4 +141,173 @@ pub const RUNS: &str = r#"
 < profile _YWFhYWFhYWFhYWFhYW aaaaaaaaaaaaaaaaaaaa1 missing
 < endpoint cali1 a/w1 in - out - profiles _YWFhYWFhYWFhYWFhYW
 < flushed 2
+= equal orders go by name, and a tier that nobody defined comes last
+> {"put":{"apiVersion":"projectcalico.org/v3","kind":"Profile","metadata":{"name":"open"},"spec":{"ingress":[{"action":"Allow"}],"egress":[{"action":"Allow"}]}}}
+> {"put":{"apiVersion":"projectcalico.org/v3","kind":"WorkloadEndpoint","metadata":{"name":"w1","namespace":"a","labels":{"role":"a"}},"spec":{"node":"n1","interfaceName":"cali1","ipNetworks":["10.0.0.1/32"],"profiles":["open"]}}}
+> {"inSync":true}
+> {"flush":{}}
+> {"put":{"apiVersion":"projectcalico.org/v3","kind":"Tier","metadata":{"name":"t2"},"spec":{"order":5}}}
+> {"put":{"apiVersion":"projectcalico.org/v3","kind":"Tier","metadata":{"name":"t1"},"spec":{"order":5}}}
+> {"put":{"apiVersion":"projectcalico.org/v3","kind":"GlobalNetworkPolicy","metadata":{"name":"d"},"spec":{"tier":"aa"}}}
+> {"put":{"apiVersion":"projectcalico.org/v3","kind":"GlobalNetworkPolicy","metadata":{"name":"c"},"spec":{"tier":"t2"}}}
+> {"put":{"apiVersion":"projectcalico.org/v3","kind":"GlobalNetworkPolicy","metadata":{"name":"b"},"spec":{"tier":"t1","order":1}}}
+> {"put":{"apiVersion":"projectcalico.org/v3","kind":"GlobalNetworkPolicy","metadata":{"name":"a"},"spec":{"tier":"t1","order":1}}}
+> {"flush":{}}
+< profile open open in 1 out 1
+< endpoint cali1 a/w1 in - out - profiles open
+< flushed 2
+< policy gnp/a gnp/a in 0 out 0
+< policy gnp/b gnp/b in 0 out 0
+< policy gnp/c gnp/c in 0 out 0
+< policy gnp/d gnp/d in 0 out 0
+< endpoint cali1 a/w1 in t1(gnp/a,gnp/b);t2(gnp/c);aa(gnp/d) out - profiles open
+< flushed 5
+= pass goes on with the next tier, and behind the last with the profiles
+> {"put":{"apiVersion":"projectcalico.org/v3","kind":"Profile","metadata":{"name":"open"},"spec":{"ingress":[{"action":"Allow"}],"egress":[{"action":"Allow"}]}}}
+> {"put":{"apiVersion":"projectcalico.org/v3","kind":"WorkloadEndpoint","metadata":{"name":"w1","namespace":"a","labels":{"role":"a"}},"spec":{"node":"n1","interfaceName":"cali1","ipNetworks":["10.0.0.1/32"],"profiles":["open"]}}}
+> {"inSync":true}
+> {"flush":{}}
+> {"put":{"apiVersion":"projectcalico.org/v3","kind":"Tier","metadata":{"name":"t1"},"spec":{"order":1}}}
+> {"put":{"apiVersion":"projectcalico.org/v3","kind":"Tier","metadata":{"name":"t2"},"spec":{"order":2}}}
+> {"put":{"apiVersion":"projectcalico.org/v3","kind":"GlobalNetworkPolicy","metadata":{"name":"p"},"spec":{"tier":"t1","ingress":[{"action":"Pass"}]}}}
+> {"put":{"apiVersion":"projectcalico.org/v3","kind":"GlobalNetworkPolicy","metadata":{"name":"q"},"spec":{"tier":"t2","ingress":[{"action":"Allow","protocol":"TCP"},{"action":"Pass"}]}}}
+> {"flush":{}}
+> {"packet":{"in":"eth0","out":"cali1","src":"192.0.2.1","dst":"10.0.0.1","proto":"UDP","sport":40000,"dport":80}}
+> {"packet":{"in":"eth0","out":"cali1","src":"192.0.2.1","dst":"10.0.0.1","proto":"TCP","sport":40000,"dport":80}}
+< profile open open in 1 out 1
+< endpoint cali1 a/w1 in - out - profiles open
+< flushed 2
+< policy gnp/p gnp/p in 1 out 0
+< policy gnp/q gnp/q in 2 out 0
+< endpoint cali1 a/w1 in t1(gnp/p);t2(gnp/q) out - profiles open
+< flushed 3
+< path cali-FORWARD:3 cali-to-wl-dispatch:1 cali-tw-cali1:5 cali-pi-gnp/p:1 cali-tw-cali1:9 cali-pi-gnp/q:3 cali-tw-cali1:12 cali-pri-open:1
+< ingress cali1 profile open 1
+< verdict allow
+< path cali-FORWARD:3 cali-to-wl-dispatch:1 cali-tw-cali1:5 cali-pi-gnp/p:1 cali-tw-cali1:9 cali-pi-gnp/q:1
+< ingress cali1 policy gnp/q 1
+< verdict allow
+= a tier without a deciding rule denies at its end
+> {"put":{"apiVersion":"projectcalico.org/v3","kind":"Profile","metadata":{"name":"open"},"spec":{"ingress":[{"action":"Allow"}],"egress":[{"action":"Allow"}]}}}
+> {"put":{"apiVersion":"projectcalico.org/v3","kind":"WorkloadEndpoint","metadata":{"name":"w1","namespace":"a","labels":{"role":"a"}},"spec":{"node":"n1","interfaceName":"cali1","ipNetworks":["10.0.0.1/32"],"profiles":["open"]}}}
+> {"inSync":true}
+> {"flush":{}}
+> {"put":{"apiVersion":"projectcalico.org/v3","kind":"GlobalNetworkPolicy","metadata":{"name":"i"},"spec":{"types":["Ingress"]}}}
+> {"flush":{}}
+> {"packet":{"in":"eth0","out":"cali1","src":"192.0.2.1","dst":"10.0.0.1","proto":"TCP","sport":40000,"dport":80}}
+> {"packet":{"in":"cali1","out":"eth0","src":"10.0.0.1","dst":"192.0.2.1","proto":"TCP","sport":40000,"dport":443}}
+< profile open open in 1 out 1
+< endpoint cali1 a/w1 in - out - profiles open
+< flushed 2
+< policy gnp/i gnp/i in 0 out 0
+< endpoint cali1 a/w1 in default(gnp/i) out - profiles open
+< flushed 2
+< path cali-FORWARD:3 cali-to-wl-dispatch:1 cali-tw-cali1:5 cali-tw-cali1:7
+< ingress cali1 end-of-tier default
+< verdict deny
+< path cali-FORWARD:2 cali-from-wl-dispatch:1 cali-fw-cali1:4 cali-pro-open:1
+< egress cali1 profile open 1
+< verdict allow
+= a rule that logs decides nothing
+> {"put":{"apiVersion":"projectcalico.org/v3","kind":"Profile","metadata":{"name":"open"},"spec":{"ingress":[{"action":"Allow"}],"egress":[{"action":"Allow"}]}}}
+> {"put":{"apiVersion":"projectcalico.org/v3","kind":"WorkloadEndpoint","metadata":{"name":"w1","namespace":"a","labels":{"role":"a"}},"spec":{"node":"n1","interfaceName":"cali1","ipNetworks":["10.0.0.1/32"],"profiles":["open"]}}}
+> {"inSync":true}
+> {"flush":{}}
+> {"put":{"apiVersion":"projectcalico.org/v3","kind":"GlobalNetworkPolicy","metadata":{"name":"l"},"spec":{"order":1,"ingress":[{"action":"Log"}]}}}
+> {"put":{"apiVersion":"projectcalico.org/v3","kind":"GlobalNetworkPolicy","metadata":{"name":"m"},"spec":{"order":2,"ingress":[{"action":"Allow"}]}}}
+> {"flush":{}}
+> {"packet":{"in":"eth0","out":"cali1","src":"192.0.2.1","dst":"10.0.0.1","proto":"TCP","sport":40000,"dport":80}}
+< profile open open in 1 out 1
+< endpoint cali1 a/w1 in - out - profiles open
+< flushed 2
+< policy gnp/l gnp/l in 1 out 0
+< policy gnp/m gnp/m in 1 out 0
+< endpoint cali1 a/w1 in default(gnp/l,gnp/m) out - profiles open
+< flushed 3
+< path cali-FORWARD:3 cali-to-wl-dispatch:1 cali-tw-cali1:5 cali-pi-gnp/l:1 cali-tw-cali1:7 cali-pi-gnp/m:1
+< ingress cali1 policy gnp/m 1
+< verdict allow
+= a rule with blocks in a policy
+> {"put":{"apiVersion":"projectcalico.org/v3","kind":"Profile","metadata":{"name":"open"},"spec":{"ingress":[{"action":"Allow"}],"egress":[{"action":"Allow"}]}}}
+> {"put":{"apiVersion":"projectcalico.org/v3","kind":"WorkloadEndpoint","metadata":{"name":"w1","namespace":"a","labels":{"role":"a"}},"spec":{"node":"n1","interfaceName":"cali1","ipNetworks":["10.0.0.1/32"],"profiles":["open"]}}}
+> {"inSync":true}
+> {"flush":{}}
+> {"put":{"apiVersion":"projectcalico.org/v3","kind":"GlobalNetworkPolicy","metadata":{"name":"m"},"spec":{"ingress":[{"action":"Allow","protocol":"TCP","source":{"nets":["10.1.0.0/16","10.2.0.0/16"]},"destination":{"ports":[1,2,3,4,5,6,7,8,9,10,11,12,13,14,15,16,"100:200"]}}]}}}
+> {"flush":{}}
+> {"tables":true}
+< profile open open in 1 out 1
+< endpoint cali1 a/w1 in - out - profiles open
+< flushed 2
+< policy gnp/m gnp/m in 1 out 0
+< endpoint cali1 a/w1 in default(gnp/m) out - profiles open
+< flushed 2
+< *filter
+< :cali-FORWARD - [0:0]
+< :cali-from-wl-dispatch - [0:0]
+< :cali-fw-cali1 - [0:0]
+< :cali-pi-gnp/m - [0:0]
+< :cali-po-gnp/m - [0:0]
+< :cali-pri-open - [0:0]
+< :cali-pro-open - [0:0]
+< :cali-to-wl-dispatch - [0:0]
+< :cali-tw-cali1 - [0:0]
+< -A cali-FORWARD -j MARK --set-xmark 0x0/0xf0000
+< -A cali-FORWARD -i cali+ -j cali-from-wl-dispatch
+< -A cali-FORWARD -o cali+ -j cali-to-wl-dispatch
+< -A cali-from-wl-dispatch -i cali1 -g cali-fw-cali1
+< -A cali-from-wl-dispatch -j DROP
+< -A cali-fw-cali1 -m conntrack --ctstate RELATED,ESTABLISHED -j ACCEPT
+< -A cali-fw-cali1 -m conntrack --ctstate INVALID -j DROP
+< -A cali-fw-cali1 -j MARK --set-xmark 0x0/0x10000
+< -A cali-fw-cali1 -j cali-pro-open
+< -A cali-fw-cali1 -m mark --mark 0x10000/0x10000 -j RETURN
+< -A cali-fw-cali1 -j DROP
+< -A cali-pi-gnp/m -j MARK --set-xmark 0x40000/0x40000
+< -A cali-pi-gnp/m -j MARK --set-xmark 0x0/0x80000
+< -A cali-pi-gnp/m -s 10.1.0.0/16 -j MARK --set-xmark 0x80000/0x80000
+< -A cali-pi-gnp/m -s 10.2.0.0/16 -j MARK --set-xmark 0x80000/0x80000
+< -A cali-pi-gnp/m -m mark --mark 0x0/0x80000 -j MARK --set-xmark 0x0/0x40000
+< -A cali-pi-gnp/m -j MARK --set-xmark 0x0/0x80000
+< -A cali-pi-gnp/m -p tcp -m multiport --dports 1,2,3,4,5,6,7,8,9,10,11,12,13,14,15 -j MARK --set-xmark 0x80000/0x80000
+< -A cali-pi-gnp/m -p tcp -m multiport --dports 16,100:200 -j MARK --set-xmark 0x80000/0x80000
+< -A cali-pi-gnp/m -m mark --mark 0x0/0x80000 -j MARK --set-xmark 0x0/0x40000
+< -A cali-pi-gnp/m -p tcp -m mark --mark 0x40000/0x40000 -j MARK --set-xmark 0x10000/0x10000
+< -A cali-pi-gnp/m -m mark --mark 0x10000/0x10000 -j RETURN
+< -A cali-pri-open -j MARK --set-xmark 0x10000/0x10000
+< -A cali-pri-open -m mark --mark 0x10000/0x10000 -j RETURN
+< -A cali-pro-open -j MARK --set-xmark 0x10000/0x10000
+< -A cali-pro-open -m mark --mark 0x10000/0x10000 -j RETURN
+< -A cali-to-wl-dispatch -o cali1 -g cali-tw-cali1
+< -A cali-to-wl-dispatch -j DROP
+< -A cali-tw-cali1 -m conntrack --ctstate RELATED,ESTABLISHED -j ACCEPT
+< -A cali-tw-cali1 -m conntrack --ctstate INVALID -j DROP
+< -A cali-tw-cali1 -j MARK --set-xmark 0x0/0x10000
+< -A cali-tw-cali1 -j MARK --set-xmark 0x0/0x20000
+< -A cali-tw-cali1 -m mark --mark 0x0/0x20000 -j cali-pi-gnp/m
+< -A cali-tw-cali1 -m mark --mark 0x10000/0x10000 -j RETURN
+< -A cali-tw-cali1 -m mark --mark 0x0/0x20000 -j DROP
+< -A cali-tw-cali1 -j cali-pri-open
+< -A cali-tw-cali1 -m mark --mark 0x10000/0x10000 -j RETURN
+< -A cali-tw-cali1 -j DROP
+< COMMIT
+= a rule on IPv6 nets alone is no chain rule
+> {"put":{"apiVersion":"projectcalico.org/v3","kind":"Profile","metadata":{"name":"open"},"spec":{"ingress":[{"action":"Allow"}],"egress":[{"action":"Allow"}]}}}
+> {"put":{"apiVersion":"projectcalico.org/v3","kind":"WorkloadEndpoint","metadata":{"name":"w1","namespace":"a","labels":{"role":"a"}},"spec":{"node":"n1","interfaceName":"cali1","ipNetworks":["10.0.0.1/32"],"profiles":["open"]}}}
+> {"inSync":true}
+> {"flush":{}}
+> {"put":{"apiVersion":"projectcalico.org/v3","kind":"GlobalNetworkPolicy","metadata":{"name":"m"},"spec":{"ingress":[{"action":"Allow","source":{"nets":["fd00::/8"]}}]}}}
+> {"flush":{}}
+> {"packet":{"in":"eth0","out":"cali1","src":"192.0.2.1","dst":"10.0.0.1","proto":"TCP","sport":40000,"dport":80}}
+< profile open open in 1 out 1
+< endpoint cali1 a/w1 in - out - profiles open
+< flushed 2
+< policy gnp/m gnp/m in 1 out 0
+< endpoint cali1 a/w1 in default(gnp/m) out - profiles open
+< flushed 2
+< path cali-FORWARD:3 cali-to-wl-dispatch:1 cali-tw-cali1:5 cali-tw-cali1:7
+< ingress cali1 end-of-tier default
+< verdict deny
+= a selector that does not parse is refused with its place
+> {"put":{"apiVersion":"projectcalico.org/v3","kind":"GlobalNetworkPolicy","metadata":{"name":"x"},"spec":{"selector":"foo("}}}
+< refused 1 4 BadSelector spec.selector 3
 "#;

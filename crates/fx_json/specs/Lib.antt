@@ -5,6 +5,9 @@ pub mod Forms
 pub mod Values
 pub mod Sides
 pub mod Rules
+pub mod Names
+pub mod Selectors
+pub mod Policies
 pub mod Resources
 pub mod Packets
 pub mod Refusals

@@ -1,6 +1,6 @@
--- A resource, field by field in the order of Calico's resource reference (`projectcalico.org/v3`): a Profile or a WorkloadEndpoint. The
--- other kinds of that reference, and those of Kubernetes' API reference that select or name workloads, are known and aren't read yet.
--- Members that aren't named here are ignored.
+-- A resource, by its kind, and a Profile or a WorkloadEndpoint field by field in the order of Calico's resource
+-- reference (`projectcalico.org/v3`). The sets of networks of that reference, and the kinds of Kubernetes' API reference
+-- that select or name workloads, are known and aren't read yet. Members that aren't named here are ignored.
 use Rattle.std.specs.Prelude.{ℕ, List, [], ◌∷◌, Bool, if◌then◌else◌, Option, Some, None, option_and_then, Result, Ok, Err, codes}
 use Rattle.std.specs.List.{list_any}
 use Rattle.std.specs.Str.{bytes_eq}
@@ -19,15 +19,18 @@ use Rattle.fx_model.specs.declared.resources.Update.TheVariants as update
 use Rattle.fx_json.specs.declared.fault.ReadFault.{ReadFault}
 use Rattle.fx_json.specs.declared.fault.ReadFault.TheVariants.{UnknownKind, Unsupported}
 use Rattle.fx_json.specs.declared.resources.Kind.{Kind}
-use Rattle.fx_json.specs.declared.resources.Kind.TheVariants.{Profile as AProfile, WorkloadEndpoint}
-use Rattle.fx_json.specs.declared.texts.TextForm.TheVariants.{Name, Namespace, WorkloadInterface, PortName}
-use Rattle.fx_json.specs.declared.resources.NamespacedName.{NamespacedName}
+use Rattle.fx_json.specs.declared.resources.Kind.TheVariants.{Profile as AProfile, WorkloadEndpoint, Tier as ATier, GlobalNetworkPolicy, NetworkPolicy}
+use Rattle.fx_json.specs.declared.texts.TextForm.TheVariants.{Name, WorkloadInterface, PortName}
+use Rattle.fx_json.specs.declared.names.NamespacedName.{NamespacedName}
+use Rattle.fx_json.specs.declared.rules.RuleForm.TheVariants.{OfProfile}
 use Rattle.fx_json.specs.declared.resources.EndpointMetadata.{EndpointMetadata}
 use Rattle.fx_json.specs.declared.resources.Workload.{Workload}
 use Rattle.fx_json.specs.Forms.{text}
 use Rattle.fx_json.specs.Fields.{◌>>=◌, Reader, field, formed, required, defaulted, optional, object_at, section, items}
 use Rattle.fx_json.specs.Values.{whole, port_protocol, host_net}
+use Rattle.fx_json.specs.Names.{name_at, namespaced_name, name_in}
 use Rattle.fx_json.specs.Rules.{rule}
+use Rattle.fx_json.specs.Policies.{tier_put, global_key, global_policy_put, namespaced_key, namespaced_policy_put}
 
 -- ---- kinds
 
@@ -42,8 +45,11 @@ unfoldable pub calico_kind : List ℕ → Result Kind ReadFault
 calico_kind kind =
     if bytes_eq kind (codes "Profile") then Ok AProfile
     else (if bytes_eq kind (codes "WorkloadEndpoint") then Ok WorkloadEndpoint
-    else (if is_among (codes "Tier" ∷ codes "GlobalNetworkPolicy" ∷ codes "NetworkPolicy" ∷ codes "NetworkSet" ∷ codes "GlobalNetworkSet" ∷ []) kind then unread_kind
-    else Err UnknownKind))
+    else (if bytes_eq kind (codes "Tier") then Ok ATier
+    else (if bytes_eq kind (codes "GlobalNetworkPolicy") then Ok GlobalNetworkPolicy
+    else (if bytes_eq kind (codes "NetworkPolicy") then Ok NetworkPolicy
+    else (if is_among (codes "NetworkSet" ∷ codes "GlobalNetworkSet" ∷ []) kind then unread_kind
+    else Err UnknownKind)))))
 
 unfoldable pub core_kind : List ℕ → Result Kind ReadFault
 core_kind kind = if is_among (codes "Namespace" ∷ codes "ServiceAccount" ∷ []) kind then unread_kind else Err UnknownKind
@@ -114,16 +120,10 @@ own_labels given namespace account orchestrator =
 -- the profile that `spec` holds
 unfoldable pub profile_of : Reader Profile
 profile_of path spec = do
-  ingress ← items rule path (codes "ingress") spec
-  egress ← items rule path (codes "egress") spec
+  ingress ← items (rule OfProfile) path (codes "ingress") spec
+  egress ← items (rule OfProfile) path (codes "egress") spec
   inherited ← labels_at path (codes "labelsToApply") spec
   Ok (record { labels = inherited; ingress = ingress; egress = egress })
-
--- the name that a resource has
-unfoldable pub name_in : Data → Result (List ℕ) ReadFault
-name_in d = do
-  metadata ← section (codes "metadata") (codes "metadata") d
-  required (text Name) (codes "metadata") (codes "name") metadata
 
 unfoldable pub profile_in : Data → Result Profile ReadFault
 profile_in d = do
@@ -137,13 +137,6 @@ profile_put d = do
   Ok (update.Put (key.Profile name) (item.Profile profile))
 
 -- ---- workload endpoints
-
--- the name and the namespace that `metadata` holds
-unfoldable pub namespaced_name : Reader NamespacedName
-namespaced_name path metadata = do
-  name ← required (text Name) path (codes "name") metadata
-  namespace ← required (text Namespace) path (codes "namespace") metadata
-  Ok (record { ns = namespace; name = name })
 
 abbrev pub endpoint_key : NamespacedName → Key
 endpoint_key named = key.Item (item_key.Endpoint named.ns named.name)
@@ -212,6 +205,9 @@ endpoint_put d = do
 abbrev pub put_of : Kind → Data → Result Update ReadFault
 put_of AProfile d = profile_put d
 put_of WorkloadEndpoint d = endpoint_put d
+put_of ATier d = tier_put d
+put_of GlobalNetworkPolicy d = global_policy_put d
+put_of NetworkPolicy d = namespaced_policy_put d
 
 -- what a put of a resource is read as
 unfoldable pub resource_of : Data → Result Update ReadFault
@@ -221,8 +217,11 @@ resource_of d = do
 
 -- the key of a resource of this kind
 abbrev pub key_of : Kind → Reader Key
-key_of AProfile path metadata = required (text Name) path (codes "name") metadata >>= λ name. Ok (key.Profile name)
+key_of AProfile path metadata = name_at path metadata >>= λ name. Ok (key.Profile name)
 key_of WorkloadEndpoint path metadata = namespaced_name path metadata >>= λ named. Ok (endpoint_key named)
+key_of ATier path metadata = name_at path metadata >>= λ name. Ok (key.Tier name)
+key_of GlobalNetworkPolicy path metadata = name_at path metadata >>= λ name. Ok (global_key name)
+key_of NetworkPolicy path metadata = namespaced_name path metadata >>= λ named. Ok (namespaced_key named)
 
 unfoldable pub key_in : Kind → Data → Result Key ReadFault
 key_in kind d = do

@@ -1,6 +1,6 @@
--- A rule of a profile, field by field in the order of Calico's resource reference (`projectcalico.org/v3`, Rule). Words are exact in
--- case. Members that aren't named here are ignored. A rule for IPv6 alone, as one for messages of ICMPv6, is kept as one that is never met.
-use Rattle.std.specs.Prelude.{ℕ, List, Bool, false, ◌&&◌, ◌||◌, ◌==◌, if◌then◌else◌, Option, Some, None, is_some, option_and_then, Result, Ok, Err, codes}
+-- A rule of a policy or a profile, field by field in the order of Calico's resource reference (`projectcalico.org/v3`, Rule). Words are
+-- exact in case. Members that aren't named here are ignored. A rule for IPv6 alone, as one for messages of ICMPv6, is kept as one that is never met.
+use Rattle.std.specs.Prelude.{ℕ, List, Bool, true, false, not, ◌&&◌, ◌||◌, ◌==◌, if◌then◌else◌, Option, Some, None, is_some, option_and_then, Result, Ok, Err, codes}
 use Rattle.std.specs.Str.{bytes_eq}
 use Rattle.serde_json.specs.Data.{Data}
 use Rattle.serde_json.specs.Find.{as_str}
@@ -12,6 +12,8 @@ use Rattle.fx_model.specs.declared.rules.Rule.{Rule}
 use Rattle.fx_model.specs.Formed.{passes}
 use Rattle.fx_json.specs.declared.fault.ReadFault.{ReadFault}
 use Rattle.fx_json.specs.declared.fault.ReadFault.TheVariants.{IcmpWithoutProtocol, PassInProfile}
+use Rattle.fx_json.specs.declared.rules.RuleForm.{RuleForm}
+use Rattle.fx_json.specs.declared.rules.RuleForm.TheVariants.{OfPolicy, OfProfile}
 use Rattle.fx_json.specs.declared.rules.ReadProtocols.{ReadProtocols}
 use Rattle.fx_json.specs.declared.sides.ReadSide.{ReadSide}
 use Rattle.fx_json.specs.Paths.{member_path}
@@ -28,9 +30,16 @@ action_named s =
     else (if bytes_eq s (codes "Log") then Some Log
     else (if bytes_eq s (codes "Pass") then Some Pass else None)))
 
--- the action of a rule of a profile, behind which there is no tier to pass to
-abbrev pub profile_action : Reader Action
-profile_action path d = formed path (option_and_then action_named (as_str d)) >>= λ a. if passes a then Err (PassInProfile path) else Ok a
+-- behind a profile there is no tier to pass to
+abbrev pub may_pass : RuleForm → Bool
+may_pass OfPolicy = true
+may_pass OfProfile = false
+
+abbrev pub allowed : RuleForm → List ℕ → Action → Result Action ReadFault
+allowed form path a = if passes a && not (may_pass form) then Err (PassInProfile path) else Ok a
+
+abbrev pub action : RuleForm → Reader Action
+action form path d = formed path (option_and_then action_named (as_str d)) >>= allowed form path
 
 -- ---- messages of ICMP
 
@@ -95,15 +104,15 @@ side_at protocol path key d = section (member_path path key) key d >>= side prot
 unfoldable pub is_never : ReadProtocols → ReadSide → ReadSide → Bool
 is_never asked source destination = asked.never || (source.never || destination.never)
 
-unfoldable pub rule_fields : Reader Rule
-rule_fields path d = do
-  action ← required profile_action path (codes "action") d
+unfoldable pub rule_fields : RuleForm → Reader Rule
+rule_fields form path d = do
+  a ← required (action form) path (codes "action") d
   asked ← protocols path d
   source ← side_at asked.protocol path (codes "source") d
   destination ← side_at asked.protocol path (codes "destination") d
   _ ← optional unread path (codes "http") d
   Ok (record {
-    action = action;
+    action = a;
     never = is_never asked source destination;
     protocol = asked.protocol;
     not_protocol = asked.not_protocol;
@@ -113,5 +122,5 @@ rule_fields path d = do
     destination = destination.side;
   })
 
-unfoldable pub rule : Reader Rule
-rule path d = object_at path d >>= rule_fields path
+unfoldable pub rule : RuleForm → Reader Rule
+rule form path d = object_at path d >>= rule_fields form path

@@ -22,8 +22,8 @@ use Rattle.fx_json.specs.Values.{net, port}
 -- ---- selectors
 
 -- A selector: the empty text is none, and every other text isn't read yet.
-abbrev pub selector : Reader (Unit {0})
-selector path d = by_text (as_str d)
+abbrev pub unread_selector : Reader (Unit {0})
+unread_selector path d = by_text (as_str d)
   where
     by_text : Option (List ℕ) → Result (Unit {0}) ReadFault
     by_text None = Err (BadField path)
@@ -47,9 +47,9 @@ accounts path d = object_at path d >>= λ o.
 -- what a side asks of the endpoints of its addresses
 unfoldable pub selectors : Reader (Unit {0})
 selectors path d = do
-  _ ← optional selector path (codes "selector") d
-  _ ← optional selector path (codes "notSelector") d
-  _ ← optional selector path (codes "namespaceSelector") d
+  _ ← optional unread_selector path (codes "selector") d
+  _ ← optional unread_selector path (codes "notSelector") d
+  _ ← optional unread_selector path (codes "namespaceSelector") d
   _ ← optional accounts path (codes "serviceAccounts") d
   Ok tt
 

@@ -1,7 +1,7 @@
 //! Why a resource or a packet isn't read.
 ghost use Rattle.std.specs.Prelude.{◌≡◌, option_map};
 ghost use Rattle.fx_json.specs.declared.fault.ReadFault.TheVariants as fault;
-ghost use Rattle.fx_json.specs.Faults.{fault_number, fault_name, path_of, is_memory};
+ghost use Rattle.fx_json.specs.Faults.{fault_number, fault_name, path_of, place_of, is_memory};
 
 use fx_base::{Memory, Text};
 use std::alloc::{AllocError, AllocFailed};
@@ -13,6 +13,8 @@ pub enum ReadFault {
     UnknownKind,
     MissingField { path: Text },
     BadField { path: Text },
+    /// A text that is no selector, and where in it that shows.
+    BadSelector { path: Text, at: u32 },
     Unsupported { path: Text },
     PortsWithoutProtocol { path: Text },
     IcmpWithoutProtocol { path: Text },
@@ -29,6 +31,7 @@ impl ReadFault {
             ReadFault::UnknownKind => 1,
             ReadFault::MissingField { .. } => 2,
             ReadFault::BadField { .. } => 3,
+            ReadFault::BadSelector { .. } => 4,
             ReadFault::Unsupported { .. } => 5,
             ReadFault::PortsWithoutProtocol { .. } => 6,
             ReadFault::IcmpWithoutProtocol { .. } => 7,
@@ -44,6 +47,7 @@ impl ReadFault {
             ReadFault::UnknownKind => b"UnknownKind",
             ReadFault::MissingField { .. } => b"MissingField",
             ReadFault::BadField { .. } => b"BadField",
+            ReadFault::BadSelector { .. } => b"BadSelector",
             ReadFault::Unsupported { .. } => b"Unsupported",
             ReadFault::PortsWithoutProtocol { .. } => b"PortsWithoutProtocol",
             ReadFault::IcmpWithoutProtocol { .. } => b"IcmpWithoutProtocol",
@@ -60,10 +64,21 @@ impl ReadFault {
             ReadFault::UnknownKind | ReadFault::Memory => None,
             ReadFault::MissingField { path }
             | ReadFault::BadField { path }
+            | ReadFault::BadSelector { path, .. }
             | ReadFault::Unsupported { path }
             | ReadFault::PortsWithoutProtocol { path }
             | ReadFault::IcmpWithoutProtocol { path }
             | ReadFault::PassInProfile { path } => Some(path),
+        }
+    }
+
+    /// Where a selector's text is at fault, counted in bytes from 0.
+    pub fn place(&self) -> Option<u32>
+        ensures { result ≡ place_of self.now }
+    {
+        match self {
+            ReadFault::BadSelector { at, .. } => Some(*at),
+            _ => None,
         }
     }
 

@@ -3,6 +3,7 @@
 
 pub use fault::ReadFault;
 pub use fields::{field, has_members};
+pub use laws::selectors_are_read;
 pub use packets::read_packet;
 pub use refusal::Refusal;
 pub use resources::{read_delete, read_resource};
@@ -11,11 +12,15 @@ pub use texts::is_name;
 mod fault;
 mod fields;
 mod labels;
+mod laws;
+mod names;
 mod packets;
 mod path;
+mod policies;
 mod refusal;
 mod resources;
 mod rules;
+mod selectors;
 mod sides;
 #[cfg(test)]
 mod tests;

@@ -1,20 +1,22 @@
-//! Reads a resource that is put or deleted: a Profile or a WorkloadEndpoint.
+//! Reads a resource that is put or deleted, and of those that are put a Profile or a WorkloadEndpoint.
 ghost use Rattle.std.specs.Prelude.{◌≡◌, ℕ, List, true, IfOk, option_map};
 ghost use Rattle.serde_json.specs.View.{view};
 ghost use Rattle.fx_model.specs.Formed.{is_formed, puts_workload_interface};
 ghost use Rattle.fx_json.specs.Faults.{IsReadFault, IsAnswerOf};
 ghost use Rattle.fx_json.specs.Paths.{text_of};
-ghost use Rattle.fx_json.specs.Resources.{unread_kind, calico_kind, core_kind, network_kind, kind_named, text_at, kind_of, profile_of, profile_put, namespaced_name, endpoint_key, port_fields, endpoint_port, endpoint_of, endpoint_put, put_of, resource_of, key_of, delete_of, key_in, name_in, profile_in, metadata_in, metadata_of, endpoint_in, workload, endpoint_profiles};
+ghost use Rattle.fx_json.specs.Resources.{unread_kind, calico_kind, core_kind, network_kind, kind_named, text_at, kind_of, profile_of, profile_put, endpoint_key, port_fields, endpoint_port, endpoint_of, endpoint_put, put_of, resource_of, key_of, delete_of, key_in, profile_in, metadata_in, metadata_of, endpoint_in, workload, endpoint_profiles};
 
 use crate::fault::ReadFault;
 use crate::fields::{Form, field, items, object, optional, required, section};
 use crate::labels::{labels_at, own_labels};
+use crate::names::{NamespacedName, name_at, name_in, namespaced_name};
 use crate::path::Path;
+use crate::policies::{global_policy_put, namespaced_key, namespaced_policy_put, tier_put};
 use crate::rules::RuleForm;
 use crate::texts::TextForm;
 use crate::values::{HostForm, PortProtocolForm, WordForm};
 use fx_base::{Seq, Text};
-use fx_model::{Endpoint, Item, ItemKey, Key, Profile, Update};
+use fx_model::{Endpoint, Item, ItemKey, Key, PolicyId, Profile, Update};
 use fx_selector::Labels;
 use serde_json::Value;
 use std::alloc::Global;
@@ -24,6 +26,9 @@ use std::alloc::Global;
 enum Kind {
     Profile,
     WorkloadEndpoint,
+    Tier,
+    GlobalNetworkPolicy,
+    NetworkPolicy,
 }
 
 /// The update that a put of this resource is, or the first fault of the resource.
@@ -42,6 +47,9 @@ fn put_of(alloc: Global, value: &Value) -> Result<Update, ReadFault>
     match kind_of(alloc, value)? {
         Kind::Profile => profile_put(alloc, value),
         Kind::WorkloadEndpoint => endpoint_put(alloc, value),
+        Kind::Tier => tier_put(alloc, value),
+        Kind::GlobalNetworkPolicy => global_policy_put(alloc, value),
+        Kind::NetworkPolicy => namespaced_policy_put(alloc, value),
     }
 }
 
@@ -78,9 +86,16 @@ fn key_of(alloc: Global, kind: Kind, path: &Path<'_>, metadata: &Value) -> Resul
 {
     match kind {
         Kind::Profile => Ok(Key::Profile {
-            name: required(alloc, &TextForm::Name, path, "name", metadata)?,
+            name: name_at(alloc, path, metadata)?,
         }),
         Kind::WorkloadEndpoint => Ok(endpoint_key(namespaced_name(alloc, path, metadata)?)),
+        Kind::Tier => Ok(Key::Tier {
+            name: name_at(alloc, path, metadata)?,
+        }),
+        Kind::GlobalNetworkPolicy => Ok(Key::Policy(PolicyId::Global {
+            name: name_at(alloc, path, metadata)?,
+        })),
+        Kind::NetworkPolicy => Ok(namespaced_key(namespaced_name(alloc, path, metadata)?)),
     }
 }
 
@@ -123,9 +138,10 @@ fn calico_kind(alloc: Global, kind: &str) -> Result<Kind, ReadFault>
     match kind {
         "Profile" => Ok(Kind::Profile),
         "WorkloadEndpoint" => Ok(Kind::WorkloadEndpoint),
-        "Tier" | "GlobalNetworkPolicy" | "NetworkPolicy" | "NetworkSet" | "GlobalNetworkSet" => {
-            unread_kind(alloc)
-        }
+        "Tier" => Ok(Kind::Tier),
+        "GlobalNetworkPolicy" => Ok(Kind::GlobalNetworkPolicy),
+        "NetworkPolicy" => Ok(Kind::NetworkPolicy),
+        "NetworkSet" | "GlobalNetworkSet" => unread_kind(alloc),
         _ => Err(ReadFault::UnknownKind),
     }
 }
@@ -173,16 +189,6 @@ fn profile_put(alloc: Global, resource: &Value) -> Result<Update, ReadFault>
     })
 }
 
-#[tactic(auto, unfolding(crate::specs::Resources::name_in))]
-fn name_in(alloc: Global, resource: &Value) -> Result<Text, ReadFault>
-    ensures { IsAnswerOf (name_in (view resource.now)) result }
-{
-    let nothing = Value::Null;
-    let path = Path::top("metadata");
-    let metadata = section(alloc, &path, "metadata", resource, &nothing)?;
-    required(alloc, &TextForm::Name, &path, "name", metadata)
-}
-
 #[tactic(auto, unfolding(crate::specs::Resources::profile_in))]
 fn profile_in(alloc: Global, resource: &Value) -> Result<Profile, ReadFault>
     ensures { IsAnswerOf (profile_in (view resource.now)) result }
@@ -197,8 +203,8 @@ fn profile_in(alloc: Global, resource: &Value) -> Result<Profile, ReadFault>
 fn read_profile(alloc: Global, path: &Path<'_>, spec: &Value) -> Result<Profile, ReadFault>
     ensures { IsAnswerOf (profile_of (text_of path.now) (view spec.now)) result }
 {
-    let ingress = items(alloc, &RuleForm, path, "ingress", spec)?;
-    let egress = items(alloc, &RuleForm, path, "egress", spec)?;
+    let ingress = items(alloc, &RuleForm::OfProfile, path, "ingress", spec)?;
+    let egress = items(alloc, &RuleForm::OfProfile, path, "egress", spec)?;
     let labels = labels_at(alloc, path, "labelsToApply", spec)?;
     Ok(Profile {
         labels,
@@ -264,26 +270,6 @@ fn endpoint_in(
     let path = Path::top("spec");
     let spec = section(alloc, &path, "spec", resource, &nothing)?;
     read_endpoint(alloc, given, namespace, &path, spec)
-}
-
-// A name in a namespace.
-#[derive(Drop)]
-struct NamespacedName {
-    ns: Text,
-    name: Text,
-}
-
-#[tactic(auto, unfolding(crate::specs::Resources::namespaced_name))]
-fn namespaced_name(
-    alloc: Global,
-    path: &Path<'_>,
-    metadata: &Value,
-) -> Result<NamespacedName, ReadFault>
-    ensures { IsAnswerOf (namespaced_name (text_of path.now) (view metadata.now)) result }
-{
-    let name = required(alloc, &TextForm::Name, path, "name", metadata)?;
-    let ns = required(alloc, &TextForm::Namespace, path, "namespace", metadata)?;
-    Ok(NamespacedName { ns, name })
 }
 
 fn endpoint_key(named: NamespacedName) -> Key

@@ -1,11 +1,11 @@
-//! Reads a rule of a profile.
+//! Reads a rule of a policy or a profile.
 ghost use Rattle.std.specs.Prelude.{◌≡◌, option_and_then};
 ghost use Rattle.serde_json.specs.Find.{as_str};
 ghost use Rattle.serde_json.specs.View.{view};
 ghost use Rattle.fx_model.specs.Formed.{passes};
 ghost use Rattle.fx_json.specs.Faults.{IsAnswerOf};
 ghost use Rattle.fx_json.specs.Paths.{text_of};
-ghost use Rattle.fx_json.specs.Rules.{action_named, profile_action, is_icmpv6, has_messages, with_messages, message, asked_message, icmp_at, side_at, of_ipv4, is_of_ipv6, protocols, is_never, rule_fields, rule};
+ghost use Rattle.fx_json.specs.Rules.{action_named, may_pass, allowed, action, is_icmpv6, has_messages, with_messages, message, asked_message, icmp_at, side_at, of_ipv4, is_of_ipv6, protocols, is_never, rule_fields, rule};
 
 use crate::fault::ReadFault;
 use crate::fields::{Form, defaulted, formed, is_absent, object, optional, required, section};
@@ -17,25 +17,34 @@ use fx_model::{Action, Icmp, Rule};
 use serde_json::Value;
 use std::alloc::Global;
 
-/// A rule of a profile.
-pub struct RuleForm;
+/// A rule, by what it stands in.
+#[derive(Clone, Copy)]
+pub enum RuleForm {
+    OfPolicy,
+    OfProfile,
+}
 
 impl Form for RuleForm {
     type Read = Rule;
 
-    ghost read_by = { λ _. rule };
+    ghost read_by = { rule };
 
     #[tactic(auto, unfolding(crate::specs::Rules::rule))]
     fn read(&self, alloc: Global, path: &Path<'_>, value: &Value) -> Result<Rule, ReadFault> {
-        read_rule(alloc, path, object(alloc, path, value)?)
+        read_rule(alloc, *self, path, object(alloc, path, value)?)
     }
 }
 
 #[tactic(auto, unfolding(crate::specs::Rules::rule_fields))]
-fn read_rule(alloc: Global, path: &Path<'_>, rule: &Value) -> Result<Rule, ReadFault>
-    ensures { IsAnswerOf (rule_fields (text_of path.now) (view rule.now)) result }
+fn read_rule(
+    alloc: Global,
+    form: RuleForm,
+    path: &Path<'_>,
+    rule: &Value,
+) -> Result<Rule, ReadFault>
+    ensures { IsAnswerOf (rule_fields form (text_of path.now) (view rule.now)) result }
 {
-    let action = required(alloc, &ActionForm, path, "action", rule)?;
+    let action = required(alloc, &ActionForm { of: form }, path, "action", rule)?;
     let asked = read_protocols(alloc, path, rule)?;
     let source = side_at(alloc, asked.protocol, path, "source", rule)?;
     let destination = side_at(alloc, asked.protocol, path, "destination", rule)?;
@@ -106,23 +115,47 @@ fn side_at(
 
 // ---- actions
 
-// The action of a rule of a profile, behind which there is no tier to pass to.
-struct ActionForm;
+// The action of such a rule.
+#[derive(Clone, Copy)]
+struct ActionForm {
+    of: RuleForm,
+}
 
 impl Form for ActionForm {
     type Read = Action;
 
-    ghost read_by = { λ _. profile_action };
+    ghost read_by = { λ form. action form.of };
 
     fn read(&self, alloc: Global, path: &Path<'_>, value: &Value) -> Result<Action, ReadFault> {
         let action = formed(alloc, path, action_in(value))?;
-        if passes(action) {
-            Err(ReadFault::PassInProfile {
-                path: path.text(alloc)?,
-            })
-        } else {
-            Ok(action)
-        }
+        allowed(alloc, self.of, path, action)
+    }
+}
+
+// Behind a profile there is no tier to pass to.
+fn allowed(
+    alloc: Global,
+    form: RuleForm,
+    path: &Path<'_>,
+    action: Action,
+) -> Result<Action, ReadFault>
+    ensures { IsAnswerOf (allowed form (text_of path.now) action) result }
+{
+    if passes(action) && !may_pass(form) {
+        Err(ReadFault::PassInProfile {
+            path: path.text(alloc)?,
+        })
+    } else {
+        Ok(action)
+    }
+}
+
+fn may_pass(form: RuleForm) -> bool
+    ensures { result ≡ may_pass form }
+{
+    match form {
+        RuleForm::OfPolicy => true,
+        RuleForm::OfProfile => false,
     }
 }
 

@@ -7,7 +7,7 @@ ghost use Rattle.fx_model.specs.Formed.{has_port_protocol};
 ghost use Rattle.fx_json.specs.Faults.{IsReadFault, IsAnswerOf};
 ghost use Rattle.fx_json.specs.Paths.{text_of};
 ghost use Rattle.fx_json.specs.Fields.{unread};
-ghost use Rattle.fx_json.specs.Sides.{selector, is_no_selector, accounts, selectors, with_ports, may_list, ports_in, ports_at, ipv4, is_ipv6, are_ipv6_alone, nets_of, ports_of, side};
+ghost use Rattle.fx_json.specs.Sides.{unread_selector, is_no_selector, accounts, selectors, with_ports, may_list, ports_in, ports_at, ipv4, is_ipv6, are_ipv6_alone, nets_of, ports_of, side};
 
 use crate::fault::ReadFault;
 use crate::fields::{Form, field, is_absent, items, list_at, object, optional, read_items};
@@ -98,9 +98,9 @@ fn read_ports(
 fn read_selectors(alloc: Global, path: &Path<'_>, side: &Value) -> Result<(), ReadFault>
     ensures { IsAnswerOf (selectors (text_of path.now) (view side.now)) result }
 {
-    optional(alloc, &SelectorForm, path, "selector", side)?;
-    optional(alloc, &SelectorForm, path, "notSelector", side)?;
-    optional(alloc, &SelectorForm, path, "namespaceSelector", side)?;
+    optional(alloc, &UnreadSelectorForm, path, "selector", side)?;
+    optional(alloc, &UnreadSelectorForm, path, "notSelector", side)?;
+    optional(alloc, &UnreadSelectorForm, path, "namespaceSelector", side)?;
     optional(alloc, &AccountsForm, path, "serviceAccounts", side)?;
     Ok(())
 }
@@ -121,12 +121,12 @@ impl Form for UnreadForm {
 }
 
 // A selector, which isn't read yet unless it is empty.
-struct SelectorForm;
+struct UnreadSelectorForm;
 
-impl Form for SelectorForm {
+impl Form for UnreadSelectorForm {
     type Read = ();
 
-    ghost read_by = { λ _. selector };
+    ghost read_by = { λ _. unread_selector };
 
     fn read(&self, alloc: Global, path: &Path<'_>, value: &Value) -> Result<(), ReadFault> {
         match value.as_str() {

@@ -1,5 +1,5 @@
 use crate::{ReadFault, read_delete, read_packet, read_resource};
-use fx_model::{Item, Update};
+use fx_model::{Item, Policy, Update};
 use serde_json::Value;
 use std::alloc::Global;
 use std::test::Fail;
@@ -39,10 +39,21 @@ labels: Labels { alloc: Global, held: {[112, 114, 111, 106, 101, 99, 116, 99, 97
 110, 97, 109, 101, 115, 112, 97, 99, 101]: Text { held: [97] }} }, \
 profiles: Seq { held: [Text { held: [112] }, Text { held: [113] }] } }) }";
 
+const TIER: &str =
+    r#"{"apiVersion":"projectcalico.org/v3","kind":"Tier","metadata":{"name":"t"},"spec":{"order":-9223372036854775808,"defaultAction":"Deny"}}"#;
+
+const READ_TIER: &str =
+    "Put { key: Tier { name: Text { held: [116] } }, item: Tier(Tier { order: Some(-9223372036854775808) }) }";
+
 #[test]
 fn resources_are_read(rt: HostRuntime) -> Result<(), Fail> {
     let alloc = rt.alloc();
-    for (text, want) in [(PROFILE, READ_PROFILE), (ENDPOINT, READ_ENDPOINT)] {
+    let rows = [
+        (PROFILE, READ_PROFILE),
+        (ENDPOINT, READ_ENDPOINT),
+        (TIER, READ_TIER),
+    ];
+    for (text, want) in rows {
         let value = Value::from_str(alloc, text)?;
         let said = answered(alloc, &read_resource(alloc, &value))?;
         assert_eq!(rt; said.as_str(), want);
@@ -72,6 +83,7 @@ fn label<'u>(update: &'u Update, key: &str) -> Option<&'u [u8]> {
     match item {
         Item::Endpoint(endpoint) => endpoint.labels.get(key.as_bytes()),
         Item::Profile(profile) => profile.labels.get(key.as_bytes()),
+        Item::Tier(_) | Item::Policy(_) => None,
     }
 }
 
@@ -160,6 +172,109 @@ fn rules_of_ipv6_are_never_met(rt: HostRuntime) -> Result<(), Fail> {
     for row in NEVER.lines() {
         let (members, want) = row.split_once(" => ").unwrap_or((row, ""));
         assert_eq!(rt; never(rt.alloc(), members)?, want == "true", "{members}");
+    }
+    Ok(())
+}
+
+// ---- policies
+
+// The policy of this kind and these members of its spec.
+fn policy_of(alloc: Global, kind: &str, spec: &str) -> Result<Option<Policy>, Fail> {
+    let text = format!(in alloc;
+        "{{\"apiVersion\":\"projectcalico.org/v3\",\"kind\":\"{kind}\",\"metadata\":{{\"name\":\"p\",\"namespace\":\"n\"}},\"spec\":{{{spec}}}}}"
+    )?;
+    let value = Value::from_str(alloc, text.as_str())?;
+    let Ok(Update::Put { key: _, item }) = read_resource(alloc, &value) else {
+        return Ok(None);
+    };
+    match item {
+        Item::Policy(policy) => Ok(Some(policy)),
+        _ => Ok(None),
+    }
+}
+
+// A kind, the members of a policy's spec, and the canonical text of what the policy selects.
+const SELECTED: &str = r#"GlobalNetworkPolicy "selector":null => all()
+GlobalNetworkPolicy "selector":"","namespaceSelector":"","serviceAccountSelector":"" => all()
+GlobalNetworkPolicy "selector":"a == 'b' || has(c)" => (a == "b" || has(c))
+GlobalNetworkPolicy "selector":" ","namespaceSelector":"x in {'z','y'}" => (all() && pcns.x in {"y", "z"})
+GlobalNetworkPolicy "namespaceSelector":"\t" => has(projectcalico.org/namespace)
+GlobalNetworkPolicy "namespaceSelector":"global()","serviceAccountSelector":"!has(s)" => (!has(pcsa.s) && !has(projectcalico.org/namespace))
+GlobalNetworkPolicy "serviceAccountSelector":"all()" => has(projectcalico.org/serviceaccount)
+GlobalNetworkPolicy "serviceAccountSelector":"s == 't'","namespaceSelector":"has(m)","selector":"a && b" => refused
+GlobalNetworkPolicy "serviceAccountSelector":"s == 't'","namespaceSelector":"has(m)","selector":"a != 'b'" => (a != "b" && pcsa.s == "t" && has(pcns.m))
+NetworkPolicy "selector":"" => projectcalico.org/namespace == "n"
+NetworkPolicy "namespaceSelector":"foo(","doNotTrack":true => projectcalico.org/namespace == "n"
+NetworkPolicy "selector":"all()" => (all() && projectcalico.org/namespace == "n")
+NetworkPolicy "serviceAccountSelector":"global()","selector":"has(a) && has(b)" => ((has(a) && has(b)) && !has(projectcalico.org/serviceaccount) && projectcalico.org/namespace == "n")"#;
+
+// Whether the policy selects so.
+fn selects(alloc: Global, policy: &str, want: &str) -> Result<bool, Fail> {
+    let (kind, spec) = policy.split_once(' ').unwrap_or((policy, ""));
+    match policy_of(alloc, kind, spec)? {
+        Some(policy) => Ok(policy.selector.canonical(alloc)?.bytes() == want.as_bytes()),
+        None => Ok(want == "refused"),
+    }
+}
+
+#[test]
+fn policies_select_by_all_their_parts(rt: HostRuntime) -> Result<(), Fail> {
+    for row in SELECTED.lines() {
+        let (policy, want) = row.split_once(" => ").unwrap_or((row, ""));
+        assert!(rt; selects(rt.alloc(), policy, want)?, "{row}");
+    }
+    Ok(())
+}
+
+// Whether a selector of so many blanks is read as a policy's.
+fn reads_blanks(alloc: Global, count: usize) -> Result<bool, Fail> {
+    let mut spec = Vec::from_slice(alloc, b"\"selector\":\"")?;
+    for _ in 0..count {
+        spec.push(b' ')?;
+    }
+    spec.push(b'"')?;
+    let spec = String::from_utf8(spec)?;
+    Ok(policy_of(alloc, "GlobalNetworkPolicy", spec.as_str())?.is_some())
+}
+
+#[test]
+fn a_selector_has_at_most_65536_bytes(rt: HostRuntime) -> Result<(), Fail> {
+    assert!(rt; reads_blanks(rt.alloc(), 65536)?);
+    assert!(rt; !reads_blanks(rt.alloc(), 65537)?);
+    Ok(())
+}
+
+// The members of a policy's spec, its directions, and how many rules each keeps.
+const DIRECTIONS: &str = r#""types":null => ingress 0 0
+"ingress":[{"action":"Pass"}] => ingress 1 0
+"egress":[{"action":"Log"}] => egress 0 1
+"ingress":[{"action":"Allow"}],"egress":[{"action":"Deny"},{"action":"Deny"}] => both 1 2
+"types":[],"egress":[{"action":"Deny"}] => egress 0 1
+"types":["Ingress"],"ingress":[{"action":"Deny"}],"egress":[{"action":"Deny"}] => ingress 1 0
+"types":["Egress"],"ingress":[{"action":"Deny"}] => egress 0 0
+"types":["Egress","Ingress","Egress"] => both 0 0"#;
+
+fn directions(alloc: Global, spec: &str) -> Result<String, Fail> {
+    let Some(policy) = policy_of(alloc, "GlobalNetworkPolicy", spec)? else {
+        return Ok(format!(in alloc; "refused")?);
+    };
+    let on = match (policy.on_ingress, policy.on_egress) {
+        (true, true) => "both",
+        (true, false) => "ingress",
+        (false, true) => "egress",
+        (false, false) => "none",
+    };
+    let ingress = policy.ingress.as_slice().len();
+    let egress = policy.egress.as_slice().len();
+    Ok(format!(in alloc; "{on} {ingress} {egress}")?)
+}
+
+#[test]
+fn policies_keep_the_rules_of_their_directions(rt: HostRuntime) -> Result<(), Fail> {
+    for row in DIRECTIONS.lines() {
+        let (spec, want) = row.split_once(" => ").unwrap_or((row, ""));
+        let said = directions(rt.alloc(), spec)?;
+        assert_eq!(rt; said.as_str(), want, "{spec}");
     }
     Ok(())
 }

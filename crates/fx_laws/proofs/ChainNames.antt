@@ -6,9 +6,6 @@ use Rattle.std.specs.List.{AllByRecursion, flat_map, list_all}
 use Rattle.std.specs.Cmp.Lexicographic.{nat_list_cmp_total}
 use Rattle.std.specs.FinMap as maps
 use Rattle.fx_base.specs.Same.{both_pass}
-use Rattle.std.specs.Ordering.{nat_cmp}
-use Rattle.std.specs.Cmp.Lexicographic.{slice_cmp}
-use Rattle.fx_base.proofs.Entries.{entries-empty}
 use Rattle.fx_base.proofs.AtKey.{get_empty}
 use Rattle.fx_base.proofs.ExtendedKeys.{is_among, among_first, among_later, at_extended}
 use Rattle.fx_base.proofs.Found.{each, entries_found}
@@ -21,6 +18,8 @@ use Rattle.fx_names.specs.declared.prefix.Prefix.TheVariants.{ToEndpoint, FromEn
 use Rattle.fx_names.proofs.ClaimLists.{times-append, times-itself}
 use Rattle.fx_model.specs.declared.ids.ItemKey.{ItemKey}
 use Rattle.fx_model.specs.declared.ids.ItemKey.TheVariants as item_key
+use Rattle.fx_model.specs.declared.ids.PolicyId.{PolicyId}
+use Rattle.fx_model.specs.declared.policy.Policy.{Policy}
 use Rattle.fx_model.specs.declared.resources.Endpoint.{Endpoint}
 use Rattle.fx_model.specs.declared.resources.Profile.{Profile}
 use Rattle.fx_model.specs.declared.resources.Resources.{Resources}
@@ -31,12 +30,15 @@ use Rattle.fx_model.specs.declared.chain.ChainRule.{ChainRule}
 use Rattle.fx_model.specs.Directions.{Ingress, Egress}
 use Rattle.fx_model.specs.Resources.{is_served, is_local, served_endpoints}
 use Rattle.fx_model.specs.Formed.{is_formed_namespace, is_formed_item_key, is_formed_endpoint, is_formed_endpoint_entry, are_formed}
-use Rattle.fx_model.specs.Claims.{item_text, profile_claims, interface_claims, endpoint_claims, all_claims}
-use Rattle.fx_model.specs.Views.{view_of, profile_entry, endpoint_entry, active_profiles, is_active_profile}
-use Rattle.fx_model.specs.Tables.{ChainName, profile_chain, endpoint_chain, policy_chains, profile_chains, endpoint_chains, dispatch_chains, chains_of, tables_of}
+use Rattle.fx_model.specs.Claims.{item_text, profile_claims, policy_claims, interface_claims, endpoint_claims, all_claims}
+use Rattle.fx_model.specs.Views.{view_of, policy_entry, profile_entry, endpoint_entry, active_profiles, is_active_profile}
+use Rattle.fx_model.specs.Active.{is_active, active_policies}
+use Rattle.fx_model.specs.PolicyIdTexts.{policy_id_text}
+use Rattle.fx_model.proofs.Orders.{policy_total}
+use Rattle.fx_model.specs.Tables.{ChainName, policy_chain, profile_chain, endpoint_chain, policy_chains, profile_chains, endpoint_chains, dispatch_chains, chains_of, tables_of}
 use Rattle.fx_laws.specs.ChainNames.{IsFixedOrClaimed}
-use Rattle.fx_laws.proofs.ClaimsOfKeys.{ingress_claimed, egress_claimed}
-use Rattle.fx_laws.proofs.FormedLemmas.{parts, not_formed}
+use Rattle.fx_laws.proofs.ClaimsOfKeys.{ingress_claimed, egress_claimed, policy_ingress_claimed, policy_egress_claimed}
+use Rattle.fx_laws.proofs.FormedLemmas.{endpoints_formed, not_formed}
 
 abbrev Written : Type 0
 Written = ChainName × List ChainRule
@@ -88,6 +90,34 @@ module _ (dg : Digest) where
     profile_chains_held [] h = tt
     profile_chains_held (e ∷ es) h = (h.0.0, (h.0.1, profile_chains_held es h.1))
 
+    -- ---- policies
+
+    abbrev PolicyHeld : List ℕ → ViewPolicy → Type 0
+    PolicyHeld key p = Has (policy_chain Ingress key) × Has (policy_chain Egress key)
+
+    active_held : (xs : List (PolicyId × Policy)) → AllByRecursion (λ x. maps.get R.policies x.0 ≡ Some x.1) xs → AllByRecursion (λ e. PolicyHeld e.0 e.1) (map (policy_entry dg) (filter (λ x. is_active R x.1) xs))
+    active_held [] there = tt
+    active_held (x ∷ xs) there =
+        let rest = active_held xs there.1 in
+        let left = filter (λ (y : PolicyId × Policy). is_active R y.1) xs in
+        let holder = codes "policy " ++ policy_id_text x.0 in
+        elim (is_active R x.1) as (λ b. AllByRecursion (λ (e : List ℕ × ViewPolicy). PolicyHeld e.0 e.1) (map (policy_entry dg) (cond b (x ∷ left) left))) [
+          | true ↦ ((inr (holder, policy_ingress_claimed dg R x.0 x.1 there.0), inr (holder, policy_egress_claimed dg R x.0 x.1 there.0)), rest)
+          | false ↦ rest
+        ]
+
+    no_policy : {A : Type 0} (p : ViewPolicy) → None ≡ Some p → A
+    no_policy p is = cc
+
+    policy_held : (key : List ℕ) (p : ViewPolicy) → maps.get (view_of dg R).policies key ≡ Some p → PolicyHeld key p
+    policy_held = at_extended PolicyHeld maps.empty (map (policy_entry dg) (active_policies R))
+        (λ q x is. no_policy x (sym (get_empty q) ∙ is))
+        (active_held (maps.entries R.policies) (entries_found policy_total R.policies))
+
+    policy_chains_held : (es : List (List ℕ × ViewPolicy)) → AllByRecursion (λ e. PolicyHeld e.0 e.1) es → AllByRecursion IsHeld (flat_map policy_chains es)
+    policy_chains_held [] h = tt
+    policy_chains_held (e ∷ es) h = (h.0.0, (h.0.1, policy_chains_held es h.1))
+
     -- ---- endpoints
 
     abbrev EndpointHeld : List ℕ → ViewEndpoint → Type 0
@@ -127,14 +157,14 @@ module _ (dg : Digest) where
           subst Has (from_name x.1 short) (inr (codes "endpoint " ++ item_text x.0, from)),
         )
 
-    served_held : (es : List (ItemKey × Endpoint)) → list_all is_formed_endpoint_entry es ≡ true → ((c : Claim) → 0 < times c (endpoints_claim es) → 0 < times c (all_claims dg R)) → AllByRecursion (λ e. EndpointHeld e.0 e.1) (map (endpoint_entry dg) (filter (λ x. is_served R x.1) es))
+    served_held : (es : List (ItemKey × Endpoint)) → list_all is_formed_endpoint_entry es ≡ true → ((c : Claim) → 0 < times c (endpoints_claim es) → 0 < times c (all_claims dg R)) → AllByRecursion (λ e. EndpointHeld e.0 e.1) (map (endpoint_entry dg R) (filter (λ x. is_served R x.1) es))
     served_held [] all more = tt
     served_held (x ∷ es) all more =
         let h = both_pass (is_formed_endpoint_entry x) (list_all is_formed_endpoint_entry es) all in
         let left = filter (λ (y : ItemKey × Endpoint). is_served R y.1) es in
         let first = endpoint_claims dg R.node x.0 x.1 in
         let rest = served_held es h.1 (λ c p. more c (omega (arith, p, times-append c first (endpoints_claim es)))) in
-        elim (is_served R x.1) as (λ b. is_served R x.1 ≡ b → AllByRecursion (λ (e : List ℕ × ViewEndpoint). EndpointHeld e.0 e.1) (map (endpoint_entry dg) (cond b (x ∷ left) left))) [
+        elim (is_served R x.1) as (λ b. is_served R x.1 ≡ b → AllByRecursion (λ (e : List ℕ × ViewEndpoint). EndpointHeld e.0 e.1) (map (endpoint_entry dg R) (cond b (x ∷ left) left))) [
           | true ↦ λ served. (
             endpoint_held x h.0
                 (more (to_claim x) (omega (arith, to_claimed x served, times-append (to_claim x) first (endpoints_claim es))))
@@ -148,10 +178,10 @@ module _ (dg : Digest) where
     no_endpoint e is = cc
 
     endpoints_held : are_formed R ≡ true → (iface : List ℕ) (e : ViewEndpoint) → maps.get (view_of dg R).endpoints iface ≡ Some e → EndpointHeld iface e
-    endpoints_held formed = at_extended EndpointHeld maps.empty (map (endpoint_entry dg) (served_endpoints R))
+    endpoints_held formed = at_extended EndpointHeld maps.empty (map (endpoint_entry dg R) (served_endpoints R))
         (λ q x is. no_endpoint x (sym (get_empty q) ∙ is))
-        (served_held (maps.entries R.endpoints) (parts R formed).0
-        (λ c p. omega (arith, p, times-append c (endpoints_claim (maps.entries R.endpoints)) (flat_map (λ (x : List ℕ × Profile). profile_claims dg x.0) (maps.entries R.profiles)))))
+        (served_held (maps.entries R.endpoints) (endpoints_formed R formed)
+        (λ c p. omega (arith, p, times-append c (endpoints_claim (maps.entries R.endpoints)) (flat_map (λ (x : List ℕ × Profile). profile_claims dg x.0) (maps.entries R.profiles) ++ flat_map (λ (x : PolicyId × Policy). policy_claims dg x.0) (maps.entries R.policies)))))
 
     endpoint_chains_held : (es : List (List ℕ × ViewEndpoint)) → AllByRecursion (λ e. EndpointHeld e.0 e.1) es → AllByRecursion IsHeld (flat_map endpoint_chains es)
     endpoint_chains_held [] h = tt
@@ -159,16 +189,14 @@ module _ (dg : Digest) where
 
     -- ---- all of them
 
-    -- there are no policies yet
-    policy_chains_held : AllByRecursion IsHeld (flat_map policy_chains (maps.entries (view_of dg R).policies))
-    policy_chains_held = subst (λ (es : List (List ℕ × ViewPolicy)). AllByRecursion IsHeld (flat_map policy_chains es)) (sym (entries-empty (slice_cmp nat_cmp))) tt
-
     all_held : are_formed R ≡ true → AllByRecursion IsHeld (chains_of (view_of dg R))
     all_held formed =
         let v = view_of dg R in
         let profiles = flat_map profile_chains (maps.entries v.profiles) in
         let endpoints = flat_map endpoint_chains (maps.entries v.endpoints) in
-        fixed-append IsHeld (flat_map policy_chains (maps.entries v.policies)) (profiles ++ (endpoints ++ dispatch_chains v)) policy_chains_held
+        fixed-append IsHeld (flat_map policy_chains (maps.entries v.policies)) (profiles ++ (endpoints ++ dispatch_chains v))
+        (policy_chains_held (maps.entries v.policies)
+        (each (λ e. maps.get v.policies e.0 ≡ Some e.1) (λ e. PolicyHeld e.0 e.1) (λ e is. policy_held e.0 e.1 is) (maps.entries v.policies) (entries_found nat_list_cmp_total v.policies)))
         (fixed-append IsHeld profiles (endpoints ++ dispatch_chains v)
         (profile_chains_held (maps.entries v.profiles)
         (each (λ e. maps.get v.profiles e.0 ≡ Some e.1) (λ e. ProfileHeld e.0 e.1) (λ e is. profile_held e.0 e.1 is) (maps.entries v.profiles) (entries_found nat_list_cmp_total v.profiles)))

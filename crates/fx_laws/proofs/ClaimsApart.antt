@@ -11,8 +11,11 @@ use Rattle.fx_names.specs.declared.claim.Claim.{Claim}
 use Rattle.fx_names.specs.Claims.{is_same, clashes, times, other_holder, first_clash}
 use Rattle.fx_names.proofs.ClaimLists.{same_claim, same_name-refl, bytes_eq-refl, clashes-swap, times-append, times-other, times-none, first_clash-head, first_clash-tail}
 use Rattle.fx_model.specs.contracts.ids.ItemKeyOrd.TheImpl.{cmp-value}
+use Rattle.fx_model.specs.contracts.ids.PolicyIdOrd.TheImpl as policy_cmp
 use Rattle.fx_model.specs.declared.ids.ItemKey.{ItemKey}
 use Rattle.fx_model.specs.declared.ids.Key.{Key}
+use Rattle.fx_model.specs.declared.ids.PolicyId.{PolicyId}
+use Rattle.fx_model.specs.declared.policy.Policy.{Policy}
 use Rattle.fx_model.specs.declared.resources.Endpoint.{Endpoint}
 use Rattle.fx_model.specs.declared.resources.Profile.{Profile}
 use Rattle.fx_model.specs.declared.resources.Item.{Item}
@@ -21,7 +24,7 @@ use Rattle.fx_model.specs.declared.resources.Update.{Update}
 use Rattle.fx_model.specs.declared.resources.Update.TheVariants as update
 use Rattle.fx_model.specs.Resources.{after, after_put, after_delete}
 use Rattle.fx_model.specs.Formed.{is_formed}
-use Rattle.fx_model.specs.Claims.{profile_claims, endpoint_claims, claims_of, all_claims, clash, AreApart, IsClashFree}
+use Rattle.fx_model.specs.Claims.{profile_claims, policy_claims, endpoint_claims, claims_of, all_claims, clash, AreApart, IsClashFree}
 use Rattle.fx_laws.proofs.ClaimsCounted.{times-at, times-put}
 use Rattle.fx_laws.proofs.Clashing.{clash-put}
 
@@ -81,10 +84,13 @@ module _ (dg : Digest) (R : Resources) where
   clash_free_after (update.Delete k) formed apart free = deleted_apart k apart
 
 -- no resources claim nothing
-pub none_claimed : (dg : Digest) (R : Resources) → R.endpoints ≡ maps.empty → R.profiles ≡ maps.empty → (c : Claim) → times c (all_claims dg R) ≡ 0
-none_claimed dg R endpoints profiles c =
-    ap (λ xs. times c (flat_map (λ (x : ItemKey × Endpoint). endpoint_claims dg R.node x.0 x.1) xs ++ flat_map (λ (x : List ℕ × Profile). profile_claims dg x.0) (maps.entries R.profiles))) (ap maps.entries endpoints ∙ entries-empty cmp-value.it)
-    ∙ ap (λ xs. times c (flat_map (λ (x : List ℕ × Profile). profile_claims dg x.0) xs)) (ap maps.entries profiles ∙ entries-empty (slice_cmp nat_cmp))
+pub none_claimed : (dg : Digest) (R : Resources) → R.endpoints ≡ maps.empty → R.profiles ≡ maps.empty → R.policies ≡ maps.empty → (c : Claim) → times c (all_claims dg R) ≡ 0
+none_claimed dg R endpoints profiles policies c =
+    let of_profiles = λ (xs : List (List ℕ × Profile)). flat_map (λ (x : List ℕ × Profile). profile_claims dg x.0) xs in
+    let of_policies = λ (xs : List (PolicyId × Policy)). flat_map (λ (x : PolicyId × Policy). policy_claims dg x.0) xs in
+    ap (λ xs. times c (flat_map (λ (x : ItemKey × Endpoint). endpoint_claims dg R.node x.0 x.1) xs ++ (of_profiles (maps.entries R.profiles) ++ of_policies (maps.entries R.policies)))) (ap maps.entries endpoints ∙ entries-empty cmp-value.it)
+    ∙ ap (λ xs. times c (of_profiles xs ++ of_policies (maps.entries R.policies))) (ap maps.entries profiles ∙ entries-empty (slice_cmp nat_cmp))
+    ∙ ap (λ xs. times c (of_policies xs)) (ap maps.entries policies ∙ entries-empty policy_cmp.cmp-value.it)
 
-pub clash_free_none : (dg : Digest) (R : Resources) → R.endpoints ≡ maps.empty → R.profiles ≡ maps.empty → IsClashFree dg R
-clash_free_none dg R endpoints profiles = λ c d p q. absurd (omega (arith, none_claimed dg R endpoints profiles c))
+pub clash_free_none : (dg : Digest) (R : Resources) → R.endpoints ≡ maps.empty → R.profiles ≡ maps.empty → R.policies ≡ maps.empty → IsClashFree dg R
+clash_free_none dg R endpoints profiles policies = λ c d p q. absurd (omega (arith, none_claimed dg R endpoints profiles policies c))

@@ -1,5 +1,5 @@
 -- Active profiles with one key are one, where no claims clash.
-use Rattle.std.proofs.Common.{◌≡◌, ℕ, ◌<◌, Bool, true, false, cond, ◌&&◌, ◌||◌, not, List, [], ◌∷◌, ◌++◌, refl, sym, ap, ◌∙◌, subst, arith}
+use Rattle.std.proofs.Common.{◌≡◌, ℕ, ◌<◌, Bool, true, false, cond, ◌&&◌, ◌||◌, not, List, [], ◌∷◌, ◌++◌, Some, refl, sym, ap, ◌∙◌, subst, arith}
 use Rattle.std.specs.Prelude.{filter, codes, if◌then◌else◌}
 use Rattle.std.proofs.lemmas.Bool.{not-false}
 use Rattle.std.proofs.lemmas.List.{append_cancel_left}
@@ -16,16 +16,21 @@ use Rattle.fx_base.proofs.KeyCases.{bytes_exact}
 use Rattle.fx_names.specs.Digests.{Digest}
 use Rattle.fx_names.specs.Names.{prefix_text, chain_name_of}
 use Rattle.fx_names.specs.declared.claim.Claim.{Claim}
-use Rattle.fx_names.specs.declared.prefix.Prefix.TheVariants.{ProfileIn, ProfileOut}
+use Rattle.fx_names.specs.declared.prefix.Prefix.TheVariants.{PolicyIn, PolicyOut, ProfileIn, ProfileOut}
 use Rattle.fx_names.specs.Claims.{same_name, clashes, times}
 use Rattle.fx_names.proofs.ClaimLists.{same_name-refl, times-append, times-itself}
 use Rattle.fx_model.specs.declared.ids.ItemKey.{ItemKey}
+use Rattle.fx_model.specs.declared.ids.PolicyId.{PolicyId}
+use Rattle.fx_model.specs.declared.ids.Key.TheVariants as key
+use Rattle.fx_model.specs.declared.policy.Policy.{Policy}
 use Rattle.fx_model.specs.declared.resources.Endpoint.{Endpoint}
 use Rattle.fx_model.specs.declared.resources.Profile.{Profile}
 use Rattle.fx_model.specs.declared.resources.Resources.{Resources}
 use Rattle.fx_model.specs.Resources.{is_served, is_local}
 use Rattle.fx_model.specs.Views.{profile_key, is_active_profile}
-use Rattle.fx_model.specs.Claims.{profile_claims, interface_claims, endpoint_claims, all_claims, IsClashFree}
+use Rattle.fx_model.specs.Claims.{profile_claims, policy_claims, given_policy_claims, interface_claims, endpoint_claims, claims_at, all_claims, IsClashFree}
+use Rattle.fx_model.specs.PolicyIdTexts.{policy_id_text}
+use Rattle.fx_laws.proofs.ClaimsCounted.{times-at}
 
 -- a name that is among these
 abbrev among : List ℕ → List (List ℕ) → Bool
@@ -96,7 +101,30 @@ module _ (dg : Digest) where
 
       active_claimed : is_active_profile R a ≡ true → 0 < times c (all_claims dg R)
       active_claimed h =
-          omega (arith, entries_claimed (maps.entries R.endpoints) h, times-append c (endpoints_claim (maps.entries R.endpoints)) (flat_map (λ (x : List ℕ × Profile). profile_claims dg x.0) (maps.entries R.profiles)))
+          let others = flat_map (λ (x : List ℕ × Profile). profile_claims dg x.0) (maps.entries R.profiles) ++ flat_map (λ (x : PolicyId × Policy). policy_claims dg x.0) (maps.entries R.policies) in
+          omega (arith, entries_claimed (maps.entries R.endpoints) h, times-append c (endpoints_claim (maps.entries R.endpoints)) others)
+
+  -- a policy's claim on the chain of its ingress rules
+  abbrev pub policy_ingress_claim : PolicyId → Claim
+  policy_ingress_claim id = record { name = Chain (chain_name_of dg PolicyIn (policy_id_text id)); holder = codes "policy " ++ policy_id_text id }
+
+  abbrev pub policy_egress_claim : PolicyId → Claim
+  policy_egress_claim id = record { name = Chain (chain_name_of dg PolicyOut (policy_id_text id)); holder = codes "policy " ++ policy_id_text id }
+
+  -- both chains of a policy that is there are claimed
+  module _ (R : Resources) (id : PolicyId) (p : Policy) (at : maps.get R.policies id ≡ Some p) where
+    claims_there : claims_at dg R (key.Policy id) ≡ policy_claims dg id
+    claims_there = ap (given_policy_claims dg id) at
+
+    pub policy_ingress_claimed : 0 < times (policy_ingress_claim id) (all_claims dg R)
+    policy_ingress_claimed =
+        let c = policy_ingress_claim id in
+        omega (arith, times-at c dg R (key.Policy id), ap (times c) claims_there, times-itself c (policy_egress_claim id ∷ []))
+
+    pub policy_egress_claimed : 0 < times (policy_egress_claim id) (all_claims dg R)
+    policy_egress_claimed =
+        let c = policy_egress_claim id in
+        omega (arith, times-at c dg R (key.Policy id), ap (times c) claims_there, times-append c (policy_ingress_claim id ∷ []) (c ∷ []), times-itself c [])
 
   -- both chains of an active profile are claimed
   pub ingress_claimed : (R : Resources) (a : List ℕ) → is_active_profile R a ≡ true → 0 < times (ingress_claim a) (all_claims dg R)

@@ -4,6 +4,7 @@ pub mod FormedLemmas
 pub mod Shaping
 pub mod Writable
 pub mod Leading
+pub mod TiersClosed
 pub mod ViewClosed
 pub mod Apart
 pub mod NextCases

@@ -1,5 +1,5 @@
--- The view of any resources is closed: each profile that an endpoint lists is put in.
-use Rattle.std.proofs.Common.{◌≡◌, ℕ, List, [], ◌∷◌, ◌++◌, map, Option, Some, None, refl, sym, ap, ◌∙◌, subst}
+-- The view of any resources is closed: each policy that applies to an endpoint and each profile that it lists is put in.
+use Rattle.std.proofs.Common.{◌≡◌, ℕ, true, List, [], ◌∷◌, ◌++◌, map, Option, Some, None, refl, sym, ap, ◌∙◌, subst}
 use Rattle.std.specs.List.{AllByRecursion, flat_map}
 use Rattle.std.specs.FinMap as maps
 use Rattle.fx_base.specs.Extended.{extended}
@@ -16,9 +16,10 @@ use Rattle.fx_model.specs.Directions.{Direction, Ingress, Egress}
 use Rattle.fx_model.specs.Rendering.{names_of}
 use Rattle.fx_base.specs.declared.set_name.SetKind.{SetKind}
 use Rattle.fx_base.specs.declared.set_name.SetKind.TheVariants.{Ports}
-use Rattle.fx_model.specs.Tables.{Sets, profile_side}
+use Rattle.fx_model.specs.Tables.{Sets, policy_side, profile_side}
 use Rattle.fx_model.specs.declared.ids.ItemKey.{ItemKey}
-use Rattle.fx_model.specs.declared.ids.ItemKey.TheVariants as key
+use Rattle.fx_model.specs.declared.ids.PolicyId.{PolicyId}
+use Rattle.fx_model.specs.declared.policy.Policy.{Policy}
 use Rattle.fx_model.specs.declared.resources.Endpoint.{Endpoint}
 use Rattle.fx_model.specs.declared.resources.Resources.{Resources}
 use Rattle.fx_model.specs.declared.view.View.{View}
@@ -27,7 +28,9 @@ use Rattle.fx_model.specs.declared.view.ViewProfile.{ViewProfile}
 use Rattle.fx_model.specs.Messages.{Named}
 use Rattle.fx_model.specs.Resources.{served_endpoints}
 use Rattle.fx_names.specs.Digests.{Digest}
-use Rattle.fx_model.specs.Views.{view_side, view_rule, profile_key, profile_entry, endpoint_entry, view_profile, view_endpoint, active_profiles, view_of}
+use Rattle.fx_model.specs.Views.{view_side, view_rule, profile_key, policy_entry, profile_entry, endpoint_entry, view_policy, view_profile, view_endpoint, active_profiles, view_of}
+use Rattle.fx_model.specs.Active.{applies, is_active, active_policies}
+use Rattle.fx_laws.proofs.TiersClosed.{activates, keys_there, tiers_there}
 use Rattle.fx_model.specs.Closed.{AreThere, AreOfKind, SideNamesKinds, NamesKinds, NameSets, EndpointIsClosed, IsClosedView, sets_of_side, sets_of_rules}
 use Rattle.fx_model.proofs.Serving.{profiles_both}
 
@@ -52,13 +55,20 @@ module _ (dg : Digest) (R : Resources) where
       subst (λ (n : Named ViewProfile). AllByRecursion (λ (y : ItemKey × Endpoint). AreThere n (map (profile_key dg) y.1.profiles)) (x ∷ xs)) split
       (there_later first (map (profile_entry dg R) (flat_map all xs)) (map (profile_key dg) x.1.profiles) (names_there m x.1.profiles), listed_there first xs)
 
-endpoint_closed : (dg : Digest) (v : View) (key : ItemKey) (e : Endpoint) → AreThere v.profiles (map (profile_key dg) e.profiles) → EndpointIsClosed v (view_endpoint dg key e)
-endpoint_closed dg v (key.Endpoint ns name) e h = record { ingress = tt; egress = tt; profiles = h }
-endpoint_closed dg v (key.NetSet ns name) e h = record { ingress = tt; egress = tt; profiles = h }
+module _ (dg : Digest) (R : Resources) where
+  abbrev wanted : View
+  wanted = view_of dg R
 
-entries_closed : (dg : Digest) (v : View) (xs : List (ItemKey × Endpoint)) → AllByRecursion (λ x. AreThere v.profiles (map (profile_key dg) x.1.profiles)) xs → AllByRecursion (λ e. EndpointIsClosed v e.1) (map (endpoint_entry dg) xs)
-entries_closed dg v [] h = tt
-entries_closed dg v (x ∷ xs) h = (endpoint_closed dg v x.0 x.1 h.0, entries_closed dg v xs h.1)
+  endpoint_closed : (x : ItemKey × Endpoint) → AreThere wanted.profiles (map (profile_key dg) x.1.profiles) → ((d : Direction) (p : Policy) → applies R d p x.1 ≡ true → is_active R p ≡ true) → EndpointIsClosed wanted (view_endpoint dg R x.0 x.1)
+  endpoint_closed x profiles active = record {
+    ingress = tiers_there dg R wanted.policies Ingress x.1 (active Ingress) (keys_there dg R maps.empty (active_policies R));
+    egress = tiers_there dg R wanted.policies Egress x.1 (active Egress) (keys_there dg R maps.empty (active_policies R));
+    profiles = profiles;
+  }
+
+  entries_closed : (xs : List (ItemKey × Endpoint)) → AllByRecursion (λ x. AreThere wanted.profiles (map (profile_key dg) x.1.profiles)) xs → AllByRecursion (λ x. (d : Direction) (p : Policy) → applies R d p x.1 ≡ true → is_active R p ≡ true) xs → AllByRecursion (λ e. EndpointIsClosed wanted e.1) (map (endpoint_entry dg R) xs)
+  entries_closed [] h active = tt
+  entries_closed (x ∷ xs) h active = (endpoint_closed x h.0 active.0, entries_closed xs h.1 active.1)
 
 -- rules of resources name no sets yet
 ranges_name_none : (rs : List PortRange) → names_of (map Range rs) ≡ []
@@ -110,6 +120,15 @@ module _ (dg : Digest) (R : Resources) (d : Direction) (sets : Sets) where
   entries_name [] = tt
   entries_name (n ∷ names) = (profile_names sets d n (maps.get R.profiles n), entries_name names)
 
+policy_names : (sets : Sets) (d : Direction) (id : PolicyId) (p : Policy) → NameSets sets (policy_side d (view_policy id p))
+policy_names sets Ingress id p = rules_name sets p.ingress
+policy_names sets Egress id p = rules_name sets p.egress
+
+module _ (dg : Digest) (d : Direction) (sets : Sets) where
+  policies_name : (xs : List (PolicyId × Policy)) → AllByRecursion (λ e. NameSets sets (policy_side d e.1)) (map (policy_entry dg) xs)
+  policies_name [] = tt
+  policies_name (x ∷ xs) = (policy_names sets d x.0 x.1, policies_name xs)
+
 no_endpoint : {A : Type 0} (e : ViewEndpoint) → None ≡ Some e → A
 no_endpoint e is = cc
 
@@ -121,10 +140,11 @@ no_policy p is = cc
 
 pub view_of-closed : (dg : Digest) (R : Resources) → IsClosedView (view_of dg R)
 view_of-closed dg R = record {
-  endpoints = at_extended (λ iface e. EndpointIsClosed (view_of dg R) e) maps.empty (map (endpoint_entry dg) (served_endpoints R))
+  endpoints = at_extended (λ iface e. EndpointIsClosed (view_of dg R) e) maps.empty (map (endpoint_entry dg R) (served_endpoints R))
       (λ q x is. no_endpoint x (sym (get_empty q) ∙ is))
-      (entries_closed dg (view_of dg R) (served_endpoints R) (listed_there dg R maps.empty (served_endpoints R)));
-  policies = λ d key p is. no_policy p (sym (get_empty key) ∙ is);
+      (entries_closed dg R (served_endpoints R) (listed_there dg R maps.empty (served_endpoints R)) (activates R (served_endpoints R) (λ p h. h)));
+  policies = λ d. at_extended (λ key p. NameSets (view_of dg R).sets (policy_side d p)) maps.empty (map (policy_entry dg) (active_policies R))
+      (λ q x found. no_policy x (sym (get_empty q) ∙ found)) (policies_name dg d (view_of dg R).sets (active_policies R));
   profiles = λ d. at_extended (NamesItsSets dg R d (view_of dg R).sets) maps.empty (map (profile_entry dg R) (active_profiles R))
       (λ q x found. no_profile x (sym (get_empty q) ∙ found)) (entries_name dg R d (view_of dg R).sets (active_profiles R));
 }

@@ -14,7 +14,11 @@ use Rattle.fx_model.specs.declared.ids.PolicyId.{PolicyId}
 use Rattle.fx_model.specs.contracts.ids.PolicyIdPartialEq.TheImpl as policy_eq
 use Rattle.fx_model.specs.contracts.ids.PolicyIdOrd.TheImpl as policy_cmp
 use Rattle.fx_model.specs.contracts.ids.PolicyIdOrd.TheImpl.Laws as policy_laws
+use Rattle.fx_model.specs.contracts.tier_order.PolicyPlacePartialEq.TheImpl as place_eq
+use Rattle.fx_model.specs.contracts.tier_order.PolicyPlaceOrd.TheImpl as place_cmp
+use Rattle.fx_model.specs.contracts.tier_order.PolicyPlaceOrd.TheImpl.Laws as place_laws
 use Rattle.fx_model.specs.SameIds.{same_item, same_policy_id}
+use Rattle.fx_model.specs.SamePlaces.{same_place}
 use Rattle.fx_model.specs.SameMember.{same_member}
 use Rattle.fx_model.specs.contracts.ids.ItemKeyPartialEq.TheImpl as item_eq
 use Rattle.fx_model.specs.contracts.ids.ItemKeyOrd.TheImpl as item_cmp
@@ -37,6 +41,12 @@ policy_total = policy_laws.total-law
 
 pub exact_policy : IsAntisymmetric policy_cmp.cmp-value.it
 exact_policy = exact_by policy_eq.eq-value.it policy_cmp.cmp-value.it policy_laws.matches_eq-law same_policy_id
+
+pub place_total : IsTotalOrder place_cmp.cmp-value.it
+place_total = place_laws.total-law
+
+pub exact_place : IsAntisymmetric place_cmp.cmp-value.it
+exact_place = exact_by place_eq.eq-value.it place_cmp.cmp-value.it place_laws.matches_eq-law same_place
 
 pub pairs_total : IsTotalOrder pair_cmp
 pairs_total = then_total (on_total (λ (p : List ℕ × ItemKey). p.0) nat_list_cmp_total) (on_total (λ (p : List ℕ × ItemKey). p.1) item_laws.total-law)

@@ -8,7 +8,9 @@ use Rattle.fx_names.specs.Digests.{Digest}
 use Rattle.fx_names.specs.Names.{chain_name_of}
 use Rattle.fx_names.specs.Claims.{Clash, times, clashes, first_clash}
 use Rattle.fx_names.specs.declared.claim.Claim.{Claim}
-use Rattle.fx_names.specs.declared.prefix.Prefix.TheVariants.{ProfileIn, ProfileOut, ToEndpoint, FromEndpoint}
+use Rattle.fx_names.specs.declared.prefix.Prefix.TheVariants.{PolicyIn, PolicyOut, ProfileIn, ProfileOut, ToEndpoint, FromEndpoint}
+use Rattle.fx_model.specs.declared.ids.PolicyId.{PolicyId}
+use Rattle.fx_model.specs.declared.policy.Policy.{Policy}
 use Rattle.fx_model.specs.declared.ids.ItemKey.{ItemKey}
 use Rattle.fx_model.specs.declared.ids.ItemKey.TheVariants as item_key
 use Rattle.fx_model.specs.declared.ids.Key.{Key}
@@ -21,6 +23,7 @@ use Rattle.fx_model.specs.declared.resources.Resources.{Resources}
 use Rattle.fx_model.specs.declared.resources.Update.{Update}
 use Rattle.fx_model.specs.declared.resources.Update.TheVariants as update
 use Rattle.fx_model.specs.Resources.{after, after_delete}
+use Rattle.fx_model.specs.PolicyIdTexts.{policy_id_text}
 
 -- `NS/NAME`; a network set of no namespace is told by its name
 abbrev pub item_text : ItemKey → List ℕ
@@ -33,6 +36,13 @@ abbrev pub profile_claims : Digest → List ℕ → List Claim
 profile_claims dg name =
     record { name = Chain (chain_name_of dg ProfileIn name); holder = codes "profile " ++ name }
     ∷ record { name = Chain (chain_name_of dg ProfileOut name); holder = codes "profile " ++ name }
+    ∷ []
+
+-- a policy's two chains
+abbrev pub policy_claims : Digest → PolicyId → List Claim
+policy_claims dg id =
+    record { name = Chain (chain_name_of dg PolicyIn (policy_id_text id)); holder = codes "policy " ++ policy_id_text id }
+    ∷ record { name = Chain (chain_name_of dg PolicyOut (policy_id_text id)); holder = codes "policy " ++ policy_id_text id }
     ∷ []
 
 -- an endpoint's two chains
@@ -48,12 +58,30 @@ abbrev pub endpoint_claims : Digest → List ℕ → ItemKey → Endpoint → Li
 endpoint_claims dg node k e =
     if bytes_eq e.node node then interface_claims dg k e ++ flat_map (profile_claims dg) e.profiles else []
 
--- what a resource at a key claims
+abbrev pub claims_of_endpoint : Digest → List ℕ → Key → Endpoint → List Claim
+claims_of_endpoint dg node (key.Item k) e = endpoint_claims dg node k e
+claims_of_endpoint dg node (key.Profile name) e = []
+claims_of_endpoint dg node (key.Tier name) e = []
+claims_of_endpoint dg node (key.Policy id) e = []
+
+abbrev pub claims_of_profile : Digest → Key → List Claim
+claims_of_profile dg (key.Item k) = []
+claims_of_profile dg (key.Profile name) = profile_claims dg name
+claims_of_profile dg (key.Tier name) = []
+claims_of_profile dg (key.Policy id) = []
+
+abbrev pub claims_of_policy : Digest → Key → List Claim
+claims_of_policy dg (key.Item k) = []
+claims_of_policy dg (key.Profile name) = []
+claims_of_policy dg (key.Tier name) = []
+claims_of_policy dg (key.Policy id) = policy_claims dg id
+
+-- what a resource at a key claims; a tier has no chain of its own
 abbrev pub claims_of : Digest → List ℕ → Key → Item → List Claim
-claims_of dg node (key.Item k) (item.Endpoint e) = endpoint_claims dg node k e
-claims_of dg node (key.Item k) (item.Profile p) = []
-claims_of dg node (key.Profile name) (item.Endpoint e) = []
-claims_of dg node (key.Profile name) (item.Profile p) = profile_claims dg name
+claims_of dg node k (item.Endpoint e) = claims_of_endpoint dg node k e
+claims_of dg node k (item.Profile p) = claims_of_profile dg k
+claims_of dg node k (item.Tier t) = []
+claims_of dg node k (item.Policy p) = claims_of_policy dg k
 
 abbrev pub listed_claims : Digest → List ℕ → ItemKey → Option Endpoint → List Claim
 listed_claims dg node k None = []
@@ -63,16 +91,22 @@ abbrev pub named_claims : Digest → List ℕ → Option Profile → List Claim
 named_claims dg name None = []
 named_claims dg name (Some p) = profile_claims dg name
 
+abbrev pub given_policy_claims : Digest → PolicyId → Option Policy → List Claim
+given_policy_claims dg id None = []
+given_policy_claims dg id (Some p) = policy_claims dg id
+
 -- what the resource at a key claims; nothing where none is there
 abbrev pub claims_at : Digest → Resources → Key → List Claim
 claims_at dg R (key.Item k) = listed_claims dg R.node k (maps.get R.endpoints k)
 claims_at dg R (key.Profile name) = named_claims dg name (maps.get R.profiles name)
+claims_at dg R (key.Tier name) = []
+claims_at dg R (key.Policy id) = given_policy_claims dg id (maps.get R.policies id)
 
 -- what all resources claim
 abbrev pub all_claims : Digest → Resources → List Claim
 all_claims dg R =
     flat_map (λ x. endpoint_claims dg R.node x.0 x.1) (maps.entries R.endpoints)
-    ++ flat_map (λ x. profile_claims dg x.0) (maps.entries R.profiles)
+    ++ (flat_map (λ x. profile_claims dg x.0) (maps.entries R.profiles) ++ flat_map (λ x. policy_claims dg x.0) (maps.entries R.policies))
 
 -- the keys whose records an update touches
 abbrev pub touched_by : Update → List Key

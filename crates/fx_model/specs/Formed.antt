@@ -13,8 +13,11 @@ use Rattle.fx_model.specs.declared.rules.Action.TheVariants.{Allow, Deny, Log, P
 use Rattle.fx_model.specs.declared.rules.Rule.{Rule}
 use Rattle.fx_model.specs.declared.ids.ItemKey.{ItemKey}
 use Rattle.fx_model.specs.declared.ids.ItemKey.TheVariants as item_key
+use Rattle.fx_model.specs.declared.ids.PolicyId.{PolicyId}
+use Rattle.fx_model.specs.declared.ids.PolicyId.TheVariants.{Global, Namespaced, Kube}
 use Rattle.fx_model.specs.declared.ids.Key.{Key}
 use Rattle.fx_model.specs.declared.ids.Key.TheVariants as key
+use Rattle.fx_model.specs.declared.policy.Policy.{Policy}
 use Rattle.fx_model.specs.declared.resources.Endpoint.{Endpoint}
 use Rattle.fx_model.specs.declared.resources.Profile.{Profile}
 use Rattle.fx_model.specs.declared.resources.Item.{Item}
@@ -66,6 +69,9 @@ is_formed_profile_rule r = is_formed_rule r && not (passes r.action)
 abbrev pub is_formed_profile : Profile → Bool
 is_formed_profile p = list_all is_formed_profile_rule p.ingress && list_all is_formed_profile_rule p.egress
 
+abbrev pub is_formed_policy : Policy → Bool
+is_formed_policy p = list_all is_formed_rule p.ingress && list_all is_formed_rule p.egress
+
 -- the same of rules as they are rendered
 abbrev pub lists_view_ports : ViewRule → Bool
 lists_view_ports r =
@@ -89,23 +95,53 @@ is_formed_item_key (item_key.Endpoint ns name) = is_formed_namespace ns
 is_formed_item_key (item_key.NetSet (Some ns) name) = is_formed_namespace ns
 is_formed_item_key (item_key.NetSet None name) = true
 
+abbrev pub is_formed_policy_id : PolicyId → Bool
+is_formed_policy_id (Global name) = true
+is_formed_policy_id (Namespaced ns name) = is_formed_namespace ns
+is_formed_policy_id (Kube ns name) = is_formed_namespace ns
+
 abbrev pub is_formed_key : Key → Bool
 is_formed_key (key.Item k) = is_formed_item_key k
 is_formed_key (key.Profile name) = true
+is_formed_key (key.Tier name) = true
+is_formed_key (key.Policy id) = is_formed_policy_id id
 
 -- ---- resources
 
 abbrev pub is_formed_endpoint : Endpoint → Bool
 is_formed_endpoint e = nat_le (length e.iface) 15
 
+abbrev pub is_endpoint_key : Key → Bool
+is_endpoint_key (key.Item (item_key.Endpoint ns name)) = true
+is_endpoint_key (key.Item (item_key.NetSet ns name)) = false
+is_endpoint_key (key.Profile name) = false
+is_endpoint_key (key.Tier name) = false
+is_endpoint_key (key.Policy id) = false
+
+abbrev pub is_profile_key : Key → Bool
+is_profile_key (key.Item k) = false
+is_profile_key (key.Profile name) = true
+is_profile_key (key.Tier name) = false
+is_profile_key (key.Policy id) = false
+
+abbrev pub is_tier_key : Key → Bool
+is_tier_key (key.Item k) = false
+is_tier_key (key.Profile name) = false
+is_tier_key (key.Tier name) = true
+is_tier_key (key.Policy id) = false
+
+abbrev pub is_policy_key : Key → Bool
+is_policy_key (key.Item k) = false
+is_policy_key (key.Profile name) = false
+is_policy_key (key.Tier name) = false
+is_policy_key (key.Policy id) = true
+
 -- the item is of its key's kind
 abbrev pub is_formed_item : Key → Item → Bool
-is_formed_item (key.Item (item_key.Endpoint ns name)) (item.Endpoint e) = is_formed_endpoint e
-is_formed_item (key.Item (item_key.Endpoint ns name)) (item.Profile p) = false
-is_formed_item (key.Item (item_key.NetSet ns name)) (item.Endpoint e) = false
-is_formed_item (key.Item (item_key.NetSet ns name)) (item.Profile p) = false
-is_formed_item (key.Profile name) (item.Endpoint e) = false
-is_formed_item (key.Profile name) (item.Profile p) = is_formed_profile p
+is_formed_item k (item.Endpoint e) = is_endpoint_key k && is_formed_endpoint e
+is_formed_item k (item.Profile p) = is_profile_key k && is_formed_profile p
+is_formed_item k (item.Tier t) = is_tier_key k
+is_formed_item k (item.Policy p) = is_policy_key k && is_formed_policy p
 
 abbrev pub is_formed : Update → Bool
 is_formed update.InSync = true
@@ -115,8 +151,13 @@ is_formed (update.Delete k) = is_formed_key k
 abbrev pub is_formed_endpoint_entry : ItemKey × Endpoint → Bool
 is_formed_endpoint_entry x = is_formed_item_key x.0 && is_formed_item (key.Item x.0) (item.Endpoint x.1)
 
+abbrev pub is_formed_policy_entry : PolicyId × Policy → Bool
+is_formed_policy_entry x = is_formed_policy_id x.0 && is_formed_policy x.1
+
 abbrev pub are_formed : Resources → Bool
-are_formed R = list_all is_formed_endpoint_entry (maps.entries R.endpoints) && list_all (λ x. is_formed_profile x.1) (maps.entries R.profiles)
+are_formed R =
+    list_all is_formed_endpoint_entry (maps.entries R.endpoints)
+    && (list_all (λ x. is_formed_profile x.1) (maps.entries R.profiles) && list_all is_formed_policy_entry (maps.entries R.policies))
 
 -- ---- interfaces of workloads
 
@@ -129,6 +170,8 @@ abbrev pub puts_workload_interface : List ℕ → Update → Bool
 puts_workload_interface node update.InSync = true
 puts_workload_interface node (update.Put k (item.Endpoint e)) = has_workload_interface node e
 puts_workload_interface node (update.Put k (item.Profile p)) = true
+puts_workload_interface node (update.Put k (item.Tier t)) = true
+puts_workload_interface node (update.Put k (item.Policy p)) = true
 puts_workload_interface node (update.Delete k) = true
 
 abbrev pub have_workload_interfaces : Resources → Bool

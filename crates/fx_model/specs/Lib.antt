@@ -2,6 +2,7 @@ pub mod SameIds
 pub mod SameMember
 pub mod SameRules
 pub mod SameViews
+pub mod SamePlaces
 pub mod Directions
 pub mod Criteria
 pub mod Resources
@@ -9,6 +10,7 @@ pub mod Labels
 pub mod Pairs
 pub mod Active
 pub mod Sinks
+pub mod TierOrder
 pub mod Views
 pub mod Claims
 pub mod Rendering

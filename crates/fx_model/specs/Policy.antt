@@ -2,7 +2,7 @@
 -- (`projectcalico.org/v3`): tiers and policies in their order, then profiles in listed order, each rule allowing, denying,
 -- logging or passing. It knows no chain, mark or jump.
 use Rattle.std.specs.Prelude.{ℕ, suc, Bool, true, false, not, ◌&&◌, List, [], ◌∷◌, map, nat_eq, codes, Option, Some, None}
-use Rattle.std.specs.List.{list_any, starts_with}
+use Rattle.std.specs.List.{list_any, flat_map, starts_with}
 use Rattle.std.specs.Str.{bytes_eq}
 use Rattle.std.specs.FinMap as maps
 use Rattle.fx_model.specs.declared.ids.ItemKey.{ItemKey}
@@ -16,6 +16,8 @@ use Rattle.fx_model.specs.declared.rules.Action.TheVariants as action
 use Rattle.fx_model.specs.declared.rules.Rule.{Rule}
 use Rattle.fx_model.specs.declared.rules.Side.{Side}
 use Rattle.fx_base.specs.declared.net.PortRange.{PortRange}
+use Rattle.fx_model.specs.declared.ids.PolicyId.{PolicyId}
+use Rattle.fx_model.specs.declared.policy.Policy.{Policy}
 use Rattle.fx_model.specs.declared.resources.Endpoint.{Endpoint}
 use Rattle.fx_model.specs.declared.resources.Profile.{Profile}
 use Rattle.fx_model.specs.declared.resources.Resources.{Resources}
@@ -24,6 +26,8 @@ use Rattle.fx_model.specs.declared.chain.End.TheVariants.{Source, Dest}
 use Rattle.fx_model.specs.Directions.{Direction, Ingress, Egress}
 use Rattle.fx_model.specs.Criteria.{address_at, port_at, proto_is, proto_is_not, lies_in, lies_in_given, holds_port, icmp_is, icmp_is_not}
 use Rattle.fx_model.specs.Resources.{served_endpoints}
+use Rattle.fx_model.specs.Active.{applying}
+use Rattle.fx_model.specs.TierOrder.{place_in, tiers_of}
 
 -- ---- rules, in their order
 
@@ -143,9 +147,19 @@ there_or_missing R d a name (Some p) = There (met_rules R a (reason.Profile name
 abbrev pub listed_profile : Resources → Direction → Packet → List ℕ → Listed
 listed_profile R d a name = there_or_missing R d a name (maps.get R.profiles name)
 
--- the tiers that take part for an endpoint: there are no policies among the resources yet
+abbrev pub rules_of : Direction → Policy → List Rule
+rules_of Ingress p = p.ingress
+rules_of Egress p = p.egress
+
+abbrev pub met_policy : Resources → Direction → Packet → PolicyId × Policy → List MetRule
+met_policy R d a x = met_rules R a (reason.Policy x.0) 1 (rules_of d x.1)
+
+abbrev pub met_tier : Resources → Direction → Packet → List ℕ × List (PolicyId × Policy) → Tier
+met_tier R d a t = record { name = t.0; rules = flat_map (met_policy R d a) t.1 }
+
+-- the tiers that take part for an endpoint: those of the policies that apply to it, in order, each with its policies in order
 abbrev pub tiers_for : Resources → Direction → Endpoint → Packet → List Tier
-tiers_for R d e a = []
+tiers_for R d e a = map (met_tier R d a) (tiers_of (map (λ x. (place_in R.tiers x, x)) (applying R d e)))
 
 abbrev pub endpoint_verdict : Resources → Direction → Endpoint → Packet → Decision
 endpoint_verdict R d e a =

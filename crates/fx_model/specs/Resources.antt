@@ -8,7 +8,10 @@ use Rattle.fx_model.specs.declared.ids.ItemKey.{ItemKey}
 use Rattle.fx_model.specs.declared.ids.ItemKey.TheVariants as item_key
 use Rattle.fx_model.specs.declared.ids.Key.{Key}
 use Rattle.fx_model.specs.declared.ids.Key.TheVariants as key
+use Rattle.fx_model.specs.declared.policy.Policy.{Policy}
+use Rattle.fx_model.specs.declared.policy.Tier.{Tier}
 use Rattle.fx_model.specs.declared.resources.Endpoint.{Endpoint}
+use Rattle.fx_model.specs.declared.resources.Profile.{Profile}
 use Rattle.fx_model.specs.declared.resources.Item.{Item}
 use Rattle.fx_model.specs.declared.resources.Item.TheVariants as item
 use Rattle.fx_model.specs.declared.resources.Update.{Update}
@@ -17,21 +20,53 @@ use Rattle.fx_model.specs.declared.resources.Resources.{Resources}
 
 -- no resources yet, and not in sync
 abbrev pub empty_resources : List ℕ → Resources
-empty_resources node = record { node = node; in_sync = false; endpoints = map.empty; profiles = map.empty }
+empty_resources node = record {
+  node = node;
+  in_sync = false;
+  endpoints = map.empty;
+  profiles = map.empty;
+  tiers = map.empty;
+  policies = map.empty;
+}
 
 -- a put at a key; an item of another kind than the key changes nothing
+abbrev pub put_endpoint : Resources → Key → Endpoint → Resources
+put_endpoint R (key.Item (item_key.Endpoint ns name)) e = record R { endpoints = map.insert R.endpoints (item_key.Endpoint ns name) e }
+put_endpoint R (key.Item (item_key.NetSet ns name)) e = R
+put_endpoint R (key.Profile name) e = R
+put_endpoint R (key.Tier name) e = R
+put_endpoint R (key.Policy id) e = R
+
+abbrev pub put_profile : Resources → Key → Profile → Resources
+put_profile R (key.Item k) p = R
+put_profile R (key.Profile name) p = record R { profiles = map.insert R.profiles name p }
+put_profile R (key.Tier name) p = R
+put_profile R (key.Policy id) p = R
+
+abbrev pub put_tier : Resources → Key → Tier → Resources
+put_tier R (key.Item k) t = R
+put_tier R (key.Profile name) t = R
+put_tier R (key.Tier name) t = record R { tiers = map.insert R.tiers name t }
+put_tier R (key.Policy id) t = R
+
+abbrev pub put_policy : Resources → Key → Policy → Resources
+put_policy R (key.Item k) p = R
+put_policy R (key.Profile name) p = R
+put_policy R (key.Tier name) p = R
+put_policy R (key.Policy id) p = record R { policies = map.insert R.policies id p }
+
 abbrev pub after_put : Resources → Key → Item → Resources
-after_put R (key.Item (item_key.Endpoint ns name)) (item.Endpoint e) = record R { endpoints = map.insert R.endpoints (item_key.Endpoint ns name) e }
-after_put R (key.Item (item_key.Endpoint ns name)) (item.Profile p) = R
-after_put R (key.Item (item_key.NetSet ns name)) (item.Endpoint e) = R
-after_put R (key.Item (item_key.NetSet ns name)) (item.Profile p) = R
-after_put R (key.Profile name) (item.Endpoint e) = R
-after_put R (key.Profile name) (item.Profile p) = record R { profiles = map.insert R.profiles name p }
+after_put R k (item.Endpoint e) = put_endpoint R k e
+after_put R k (item.Profile p) = put_profile R k p
+after_put R k (item.Tier t) = put_tier R k t
+after_put R k (item.Policy p) = put_policy R k p
 
 -- a delete; to delete what isn't there changes nothing
 abbrev pub after_delete : Resources → Key → Resources
 after_delete R (key.Item k) = record R { endpoints = map.remove R.endpoints k }
 after_delete R (key.Profile name) = record R { profiles = map.remove R.profiles name }
+after_delete R (key.Tier name) = record R { tiers = map.remove R.tiers name }
+after_delete R (key.Policy id) = record R { policies = map.remove R.policies id }
 
 -- the resources after an update
 abbrev pub after : Resources → Update → Resources

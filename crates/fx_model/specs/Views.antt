@@ -1,5 +1,5 @@
--- What a node needs of the resources. From Felix's documented calculation graph: the endpoints that run on the node, and
--- the profiles that they list, whether a profile is there or not.
+-- What a node needs of the resources. From Felix's documented calculation graph: the endpoints that run on the node, the policies
+-- that apply to them, and the profiles that they list, whether a profile is there or not.
 use Rattle.std.specs.Prelude.{ℕ, Bool, List, [], map, Option, Some, None, true, false}
 use Rattle.std.specs.List.{flat_map, list_any}
 use Rattle.std.specs.Ordering.{nat_cmp, eq_by_cmp}
@@ -8,9 +8,11 @@ use Rattle.std.specs.FinMap as maps
 use Rattle.fx_base.specs.Extended.{collected}
 use Rattle.fx_names.specs.Digests.{Digest}
 use Rattle.fx_names.specs.Names.{key_of}
-use Rattle.fx_names.specs.declared.prefix.Prefix.TheVariants.{ProfileIn}
+use Rattle.fx_names.specs.declared.prefix.Prefix.TheVariants.{PolicyIn, ProfileIn}
 use Rattle.fx_model.specs.declared.ids.ItemKey.{ItemKey}
 use Rattle.fx_model.specs.declared.ids.ItemKey.TheVariants as key
+use Rattle.fx_model.specs.declared.ids.PolicyId.{PolicyId}
+use Rattle.fx_model.specs.declared.policy.Policy.{Policy}
 use Rattle.fx_model.specs.declared.resources.Endpoint.{Endpoint}
 use Rattle.fx_model.specs.declared.resources.Profile.{Profile}
 use Rattle.fx_model.specs.declared.rules.Rule.{Rule}
@@ -20,9 +22,16 @@ use Rattle.fx_model.specs.declared.view.View.{View}
 use Rattle.fx_model.specs.declared.view_rule.ViewRule.{ViewRule}
 use Rattle.fx_model.specs.declared.view_rule.ViewSide.{ViewSide}
 use Rattle.fx_model.specs.declared.view_rule.ViewPort.TheVariants.{Range}
+use Rattle.fx_model.specs.declared.tier_order.PolicyPlace.{PolicyPlace}
+use Rattle.fx_model.specs.declared.view.ViewTier.{ViewTier}
+use Rattle.fx_model.specs.declared.view.ViewPolicy.{ViewPolicy}
 use Rattle.fx_model.specs.declared.view.ViewProfile.{ViewProfile}
 use Rattle.fx_model.specs.declared.view.ViewEndpoint.{ViewEndpoint}
+use Rattle.fx_model.specs.Directions.{Direction, Ingress, Egress}
+use Rattle.fx_model.specs.PolicyIdTexts.{policy_id_text}
 use Rattle.fx_model.specs.Resources.{served_endpoints}
+use Rattle.fx_model.specs.Active.{applying, active_policies}
+use Rattle.fx_model.specs.TierOrder.{place_in, tiers_of, view_tier}
 
 -- a rule as it is rendered: its criteria have no sets yet
 abbrev pub view_side : Side → ViewSide
@@ -55,10 +64,38 @@ abbrev pub view_profile : List ℕ → Option Profile → ViewProfile
 view_profile name None = record { name = name; missing = true; ingress = []; egress = [] }
 view_profile name (Some p) = record { name = name; missing = false; ingress = map view_rule p.ingress; egress = map view_rule p.egress }
 
--- an endpoint with its profiles; there are no policies yet, so no tier takes part
-abbrev pub view_endpoint : Digest → ItemKey → Endpoint → ViewEndpoint
-view_endpoint dg (key.Endpoint ns name) e = record { ns = ns; name = name; ingress = []; egress = []; profiles = map (profile_key dg) e.profiles }
-view_endpoint dg (key.NetSet ns name) e = record { ns = []; name = name; ingress = []; egress = []; profiles = map (profile_key dg) e.profiles }
+-- a policy's key: what stands behind the prefix in the names of both its chains
+abbrev pub policy_key : Digest → PolicyId → List ℕ
+policy_key dg id = key_of dg PolicyIn (policy_id_text id)
+
+abbrev pub view_policy : PolicyId → Policy → ViewPolicy
+view_policy id p = record { id = id; ingress = map view_rule p.ingress; egress = map view_rule p.egress }
+
+-- the tiers that take part for an endpoint: those of the policies that apply to it, by their keys
+abbrev pub key_in_place : Digest → Resources → PolicyId × Policy → PolicyPlace × List ℕ
+key_in_place dg R x = (place_in R.tiers x, policy_key dg x.0)
+
+abbrev pub view_tiers : Digest → Resources → Direction → Endpoint → List ViewTier
+view_tiers dg R d e = map view_tier (tiers_of (map (key_in_place dg R) (applying R d e)))
+
+abbrev pub namespace_of : ItemKey → List ℕ
+namespace_of (key.Endpoint ns name) = ns
+namespace_of (key.NetSet (Some ns) name) = ns
+namespace_of (key.NetSet None name) = []
+
+abbrev pub item_name : ItemKey → List ℕ
+item_name (key.Endpoint ns name) = name
+item_name (key.NetSet ns name) = name
+
+-- an endpoint with its tiers and its profiles
+abbrev pub view_endpoint : Digest → Resources → ItemKey → Endpoint → ViewEndpoint
+view_endpoint dg R k e = record {
+  ns = namespace_of k;
+  name = item_name k;
+  ingress = view_tiers dg R Ingress e;
+  egress = view_tiers dg R Egress e;
+  profiles = map (profile_key dg) e.profiles;
+}
 
 -- the names that served endpoints list
 abbrev pub active_profiles : Resources → List (List ℕ)
@@ -71,16 +108,19 @@ is_active_profile R name = list_any (eq_by_cmp (slice_cmp nat_cmp) name) (active
 abbrev pub profile_entry : Digest → Resources → List ℕ → List ℕ × ViewProfile
 profile_entry dg R name = (profile_key dg name, view_profile name (maps.get R.profiles name))
 
-abbrev pub endpoint_entry : Digest → ItemKey × Endpoint → List ℕ × ViewEndpoint
-endpoint_entry dg x = (x.1.iface, view_endpoint dg x.0 x.1)
+abbrev pub policy_entry : Digest → PolicyId × Policy → List ℕ × ViewPolicy
+policy_entry dg x = (policy_key dg x.0, view_policy x.0 x.1)
+
+abbrev pub endpoint_entry : Digest → Resources → ItemKey × Endpoint → List ℕ × ViewEndpoint
+endpoint_entry dg R x = (x.1.iface, view_endpoint dg R x.0 x.1)
 
 -- the view of the resources, with names by this digest
 abbrev pub view_of : Digest → Resources → View
 view_of dg R = record {
   sets = maps.empty;
-  policies = maps.empty;
+  policies = collected (map (policy_entry dg) (active_policies R));
   profiles = collected (map (profile_entry dg R) (active_profiles R));
-  endpoints = collected (map (endpoint_entry dg) (served_endpoints R));
+  endpoints = collected (map (endpoint_entry dg R) (served_endpoints R));
 }
 
 -- the view before anything was sent

@@ -3,6 +3,8 @@ ghost use Rattle.std.specs.Prelude.{◌≡◌, OnOk, OnErr};
 
 use crate::ids::{ItemKey, Key};
 use crate::item_map::ItemMap;
+use crate::policy::{Policy, Tier};
+use crate::policy_map::PolicyMap;
 use crate::rules::Rule;
 use fx_base::{Memory, Seq, Text, TextMap};
 use fx_selector::Labels;
@@ -42,6 +44,8 @@ impl Clone for Profile {
 pub enum Item {
     Endpoint(Endpoint),
     Profile(Profile),
+    Tier(Tier),
+    Policy(Policy),
 }
 
 /// A change of the resources. The item of a put is of its key's kind.
@@ -59,10 +63,12 @@ pub struct Resources {
     pub in_sync: bool,
     pub endpoints: ItemMap<Endpoint>,
     pub profiles: TextMap<Profile>,
+    pub tiers: TextMap<Tier>,
+    pub policies: PolicyMap<Policy>,
 }
 
 impl Resources {
-    ghost use Rattle.fx_model.specs.Resources.{empty_resources, after, after_put, after_delete, is_local, is_served};
+    ghost use Rattle.fx_model.specs.Resources.{empty_resources, after, after_put, put_endpoint, put_profile, put_tier, put_policy, after_delete, is_local, is_served};
 
     /// No resources yet, and not in sync.
     pub fn new(alloc: Global, node: Text) -> Resources
@@ -73,6 +79,8 @@ impl Resources {
             in_sync: false,
             endpoints: ItemMap::new(alloc),
             profiles: TextMap::new(alloc),
+            tiers: TextMap::new(alloc),
+            policies: PolicyMap::new(alloc),
         }
     }
 
@@ -101,11 +109,13 @@ impl Resources {
         match item {
             Item::Endpoint(endpoint) => self.put_endpoint(key, endpoint),
             Item::Profile(profile) => self.put_profile(key, profile),
+            Item::Tier(tier) => self.put_tier(key, tier),
+            Item::Policy(policy) => self.put_policy(key, policy),
         }
     }
 
     fn put_endpoint(&mut self, key: Key, endpoint: Endpoint) -> Result<(), Memory>
-        ensures ok { OnOk result (self.new ≡ after_put self.old key (Item.Endpoint endpoint)) }
+        ensures ok { OnOk result (self.new ≡ put_endpoint self.old key endpoint) }
         ensures err { OnErr result (self.new ≡ self.old) }
     {
         match key {
@@ -114,21 +124,41 @@ impl Resources {
                     .insert(ItemKey::Endpoint { ns, name }, endpoint)?;
                 Ok(())
             }
-            Key::Item(ItemKey::NetSet { .. }) | Key::Profile { .. } => Ok(()),
+            Key::Item(ItemKey::NetSet { .. })
+            | Key::Profile { .. }
+            | Key::Tier { .. }
+            | Key::Policy(_) => Ok(()),
         }
     }
 
     fn put_profile(&mut self, key: Key, profile: Profile) -> Result<(), Memory>
-        ensures ok { OnOk result (self.new ≡ after_put self.old key (Item.Profile profile)) }
+        ensures ok { OnOk result (self.new ≡ put_profile self.old key profile) }
         ensures err { OnErr result (self.new ≡ self.old) }
     {
-        match key {
-            Key::Item(_) => Ok(()),
-            Key::Profile { name } => {
-                self.profiles.insert(name, profile)?;
-                Ok(())
-            }
+        if let Key::Profile { name } = key {
+            self.profiles.insert(name, profile)?;
         }
+        Ok(())
+    }
+
+    fn put_tier(&mut self, key: Key, tier: Tier) -> Result<(), Memory>
+        ensures ok { OnOk result (self.new ≡ put_tier self.old key tier) }
+        ensures err { OnErr result (self.new ≡ self.old) }
+    {
+        if let Key::Tier { name } = key {
+            self.tiers.insert(name, tier)?;
+        }
+        Ok(())
+    }
+
+    fn put_policy(&mut self, key: Key, policy: Policy) -> Result<(), Memory>
+        ensures ok { OnOk result (self.new ≡ put_policy self.old key policy) }
+        ensures err { OnErr result (self.new ≡ self.old) }
+    {
+        if let Key::Policy(id) = key {
+            self.policies.insert(id, policy)?;
+        }
+        Ok(())
     }
 
     // To delete what isn't there changes nothing.
@@ -141,6 +171,12 @@ impl Resources {
             }
             Key::Profile { name } => {
                 self.profiles.remove(name);
+            }
+            Key::Tier { name } => {
+                self.tiers.remove(name);
+            }
+            Key::Policy(id) => {
+                self.policies.remove(id);
             }
         }
     }

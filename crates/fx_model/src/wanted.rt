@@ -3,13 +3,15 @@ ghost use Rattle.std.specs.Prelude.{◌≡◌, IfOk, OnOk, map};
 ghost use Rattle.std.specs.Option.{option_copied};
 ghost use Rattle.std.specs.FinMap as maps;
 ghost use Rattle.fx_base.specs.Extended.{extended};
-ghost use Rattle.fx_model.specs.Views.{view_of, view_rule, view_side, view_profile, view_endpoint, profile_entry, profile_key};
+ghost use Rattle.fx_model.specs.Views.{view_of, view_rule, view_side, view_profile, view_endpoint, namespace_of, item_name, profile_entry, profile_key};
 
 use crate::ids::ItemKey;
+use crate::labels::effective_labels;
 use crate::resources::{Endpoint, Profile, Resources};
 use crate::rules::{Rule, Side};
 use crate::view::{View, ViewEndpoint, ViewProfile};
 use crate::view_rule::{ViewPort, ViewRule, ViewSide};
+use crate::wanted_policies::{put_policies, view_tiers};
 use fx_base::{Memory, NameKey, NameMap, PortRange, Seq, Text};
 use fx_names::{DigestFunction, DigestRule, Namer, Prefix};
 use std::alloc::Global;
@@ -29,6 +31,7 @@ pub fn view_of<R: DigestRule, F: DigestFunction<R> + Drop>(
             put_served(alloc, resources, namer, key, endpoint, &mut view)?;
         }
     }
+    put_policies(alloc, resources, namer, &mut view.policies)?;
     Ok(view)
 }
 
@@ -44,7 +47,8 @@ fn put_served<R: DigestRule, F: DigestFunction<R> + Drop>(
     ensures profiles { OnOk result (view.new.profiles
         ≡ extended view.old.profiles (map (profile_entry R.digest_of resources.now) endpoint.now.profiles)) }
     ensures endpoint { OnOk result (view.new.endpoints
-        ≡ maps.insert view.old.endpoints endpoint.now.iface (view_endpoint R.digest_of key.now endpoint.now)) }
+        ≡ maps.insert view.old.endpoints endpoint.now.iface
+        (view_endpoint R.digest_of resources.now key.now endpoint.now)) }
     ensures others { (view.new.sets ≡ view.old.sets) × (view.new.policies ≡ view.old.policies) }
 {
     put_profiles(
@@ -54,7 +58,7 @@ fn put_served<R: DigestRule, F: DigestFunction<R> + Drop>(
         &endpoint.profiles,
         &mut view.profiles,
     )?;
-    let wanted = view_endpoint(alloc, namer, key, endpoint)?;
+    let wanted = view_endpoint(alloc, resources, namer, key, endpoint)?;
     view.endpoints.insert(endpoint.iface.clone()?, wanted)?;
     Ok(())
 }
@@ -100,7 +104,7 @@ fn view_profile(
     }
 }
 
-fn view_rules(alloc: Global, rules: &Seq<Rule>) -> Result<Seq<ViewRule>, Memory>
+pub(crate) fn view_rules(alloc: Global, rules: &Seq<Rule>) -> Result<Seq<ViewRule>, Memory>
     ensures { IfOk result (λ rs. rs ≡ map view_rule rules.now) }
 {
     let mut wanted = Seq::new(alloc);
@@ -150,23 +154,40 @@ fn view_ports(alloc: Global, ports: &Seq<PortRange>) -> Result<Seq<ViewPort>, Me
 
 fn view_endpoint<R: DigestRule, F: DigestFunction<R> + Drop>(
     alloc: Global,
+    resources: &Resources,
     namer: &Namer<R, F>,
     key: &ItemKey,
     endpoint: &Endpoint,
 ) -> Result<ViewEndpoint, Memory>
-    ensures { IfOk result (λ e. e ≡ view_endpoint R.digest_of key.now endpoint.now) }
+    ensures { IfOk result (λ e. e ≡ view_endpoint R.digest_of resources.now key.now endpoint.now) }
 {
-    let (ns, name) = match key {
-        ItemKey::Endpoint { ns, name } => (ns.clone()?, name.clone()?),
-        ItemKey::NetSet { name, .. } => (Text::from_vec(Vec::new(alloc)), name.clone()?),
-    };
+    let parents = endpoint.profiles.as_slice();
+    let labels = effective_labels(alloc, resources, &endpoint.labels, parents)?;
     Ok(ViewEndpoint {
-        ns,
-        name,
-        ingress: Seq::new(alloc),
-        egress: Seq::new(alloc),
+        ns: namespace_of(alloc, key)?,
+        name: item_name(key)?,
+        ingress: view_tiers(alloc, resources, namer, endpoint, &labels, true)?,
+        egress: view_tiers(alloc, resources, namer, endpoint, &labels, false)?,
         profiles: keys_of(alloc, namer, &endpoint.profiles)?,
     })
+}
+
+fn namespace_of(alloc: Global, key: &ItemKey) -> Result<Text, Memory>
+    ensures { IfOk result (λ ns. ns ≡ namespace_of key.now) }
+{
+    match key {
+        ItemKey::Endpoint { ns, .. } => Ok(ns.clone()?),
+        ItemKey::NetSet { ns: Some(ns), .. } => Ok(ns.clone()?),
+        ItemKey::NetSet { ns: None, .. } => Ok(Text::from_vec(Vec::new(alloc))),
+    }
+}
+
+fn item_name(key: &ItemKey) -> Result<Text, Memory>
+    ensures { IfOk result (λ name. name ≡ item_name key.now) }
+{
+    match key {
+        ItemKey::Endpoint { name, .. } | ItemKey::NetSet { name, .. } => Ok(name.clone()?),
+    }
 }
 
 // The keys of profiles.

@@ -4,7 +4,8 @@ use Rattle.std.specs.Prelude.{ℕ, List, [], ◌++◌, Option, Some, None, codes
 use Rattle.fx_base.specs.KernelName.{kernel_bytes}
 use Rattle.fx_json.specs.declared.refusal.Refusal.{Refusal}
 use Rattle.fx_json.specs.declared.refusal.Refusal.TheVariants.{Read, BadJson, BadLine, Taken}
-use Rattle.fx_json.specs.Faults.{path_of}
+use Rattle.fx_json.specs.declared.fault.ReadFault.{ReadFault}
+use Rattle.fx_json.specs.Faults.{path_of, place_of}
 use Rattle.fx_json.specs.Refusals.{refusal_number, refusal_name}
 
 -- a space and the path, where there is one
@@ -12,9 +13,17 @@ abbrev pub path_text : Option (List ℕ) → List ℕ
 path_text None = []
 path_text (Some path) = codes " " ++ path
 
--- what follows the name: a path, or the name in the kernel that is taken and its holder
+-- a space and the place in a selector's text, where there is one
+abbrev pub place_text : Option ℕ → List ℕ
+place_text None = []
+place_text (Some at) = codes " " ++ decimal at
+
+abbrev pub fault_text : ReadFault → List ℕ
+fault_text fault = path_text (path_of fault) ++ place_text (place_of fault)
+
+-- what follows the name: a path and a place behind it, or the name in the kernel that is taken and its holder
 abbrev pub detail_of : Refusal → List ℕ
-detail_of (Read fault) = path_text (path_of fault)
+detail_of (Read fault) = fault_text fault
 detail_of BadJson = []
 detail_of BadLine = []
 detail_of (Taken name holder) = codes " " ++ (kernel_bytes name ++ (codes " " ++ holder))

@@ -78,6 +78,13 @@ fn refusals(rt: HostRuntime) -> Result<(), Fail> {
         Refusal::Read(ReadFault::BadField { path }),
         b"refused 10 3 BadField spec.order\n",
     )?;
+    let path = text(alloc, b"spec.selector")?;
+    refuses(
+        &rt,
+        alloc,
+        Refusal::Read(ReadFault::BadSelector { path, at: 65536 }),
+        b"refused 10 4 BadSelector spec.selector 65536\n",
+    )?;
     let path = text(alloc, b"spec.node")?;
     refuses(
         &rt,

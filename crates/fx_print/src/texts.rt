@@ -1,7 +1,7 @@
 //! Numbers and plain answers as text.
 ghost use Rattle.std.specs.Prelude.{◌≡◌, ◌++◌, ◌∷◌, OnOk, IfOk, decimal};
 ghost use Rattle.fx_json.specs.Faults.{path_of};
-ghost use Rattle.fx_print.specs.Texts.{path_text, detail_of, refusal_line, flushed_line};
+ghost use Rattle.fx_print.specs.Texts.{path_text, place_text, fault_text, detail_of, refusal_line, flushed_line};
 
 use fx_base::{Memory, Text};
 use fx_json::{ReadFault, Refusal};
@@ -35,7 +35,7 @@ fn push_detail(line: &mut Vec<u8>, refusal: &Refusal) -> Result<(), Memory>
     ensures { OnOk result (line.new.items ≡ line.old.items ++ detail_of refusal.now) }
 {
     match refusal {
-        Refusal::Read(fault) => push_path(line, fault),
+        Refusal::Read(fault) => push_fault(line, fault),
         Refusal::BadJson | Refusal::BadLine => Ok(()),
         Refusal::Taken { name, holder } => {
             push_word(line, name.bytes())?;
@@ -44,11 +44,31 @@ fn push_detail(line: &mut Vec<u8>, refusal: &Refusal) -> Result<(), Memory>
     }
 }
 
+fn push_fault(line: &mut Vec<u8>, fault: &ReadFault) -> Result<(), Memory>
+    ensures { OnOk result (line.new.items ≡ line.old.items ++ fault_text fault.now) }
+{
+    push_path(line, fault)?;
+    push_place(line, fault.place())?;
+    Ok(())
+}
+
 fn push_path(line: &mut Vec<u8>, fault: &ReadFault) -> Result<(), Memory>
     ensures { OnOk result (line.new.items ≡ line.old.items ++ path_text (path_of fault.now)) }
 {
     match fault.path() {
         Some(path) => push_word(line, path.bytes()),
+        None => Ok(()),
+    }
+}
+
+fn push_place(line: &mut Vec<u8>, place: Option<u32>) -> Result<(), Memory>
+    ensures { OnOk result (line.new.items ≡ line.old.items ++ place_text place) }
+{
+    match place {
+        Some(at) => {
+            line.extend_from_slice(b" ")?;
+            push_decimal(line, u64::from(at))
+        }
         None => Ok(()),
     }
 }

@@ -3,9 +3,10 @@ ghost use Rattle.std.specs.Prelude.{◌≡◌};
 ghost use Rattle.std.specs.FinMap as map;
 ghost use Rattle.fx_base.specs.Set as set;
 
-use fx_base::{Memory, Text, TextMap};
+use fx_base::{Memory, NameKey, NameMap, Text, TextMap};
 use fx_model::{
     ActiveSink, ItemKey, MatchSink, PairSet, Policy, PolicyId, PolicyMap, PolicyPairSet, Profile,
+    ViewEndpoint, ViewPolicy, ViewProfile, ViewSink,
 };
 use std::alloc::Global;
 
@@ -99,6 +100,66 @@ impl ActiveSink for RecordActive {
 
     fn pair_off(&mut self, id: &PolicyId, item: &ItemKey) -> Result<(), Memory> {
         self.pairs.remove(&(id.clone()?, item.clone()?));
+        Ok(())
+    }
+}
+
+/// A view but for its sets.
+#[derive(Drop)]
+pub struct RecordView {
+    pub policies: NameMap<ViewPolicy>,
+    pub profiles: NameMap<ViewProfile>,
+    pub endpoints: TextMap<ViewEndpoint>,
+}
+
+impl RecordView {
+    pub fn new(alloc: Global) -> Self
+        ensures policies { result.policies ≡ map.empty }
+        ensures profiles { result.profiles ≡ map.empty }
+        ensures endpoints { result.endpoints ≡ map.empty }
+    {
+        RecordView {
+            policies: NameMap::new(alloc),
+            profiles: NameMap::new(alloc),
+            endpoints: TextMap::new(alloc),
+        }
+    }
+}
+
+impl ViewSink for RecordView {
+    ghost policies = { λ a. a.policies };
+
+    ghost profiles = { λ a. a.profiles };
+
+    ghost endpoints = { λ a. a.endpoints };
+
+    fn policy_put(&mut self, key: NameKey, policy: ViewPolicy) -> Result<(), Memory> {
+        self.policies.insert(&key, policy)?;
+        Ok(())
+    }
+
+    fn policy_gone(&mut self, key: NameKey) -> Result<(), Memory> {
+        self.policies.remove(&key);
+        Ok(())
+    }
+
+    fn profile_put(&mut self, key: NameKey, profile: ViewProfile) -> Result<(), Memory> {
+        self.profiles.insert(&key, profile)?;
+        Ok(())
+    }
+
+    fn profile_gone(&mut self, key: NameKey) -> Result<(), Memory> {
+        self.profiles.remove(&key);
+        Ok(())
+    }
+
+    fn endpoint_put(&mut self, iface: &Text, endpoint: ViewEndpoint) -> Result<(), Memory> {
+        self.endpoints.insert(iface.clone()?, endpoint)?;
+        Ok(())
+    }
+
+    fn endpoint_gone(&mut self, iface: &Text) -> Result<(), Memory> {
+        self.endpoints.remove(iface);
         Ok(())
     }
 }

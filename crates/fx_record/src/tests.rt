@@ -1,9 +1,12 @@
 //! The recording sinks, each call once.
 #![tactic(auto, using(fx_base::proofs::AtKey::reads))]
 
-use crate::{RecordActive, RecordMatches};
-use fx_base::{Memory, Seq, Text};
-use fx_model::{ActiveSink, ItemKey, MatchSink, Policy, PolicyId, Profile};
+use crate::{RecordActive, RecordMatches, RecordView};
+use fx_base::{Memory, NameKey, Seq, Text};
+use fx_model::{
+    ActiveSink, ItemKey, MatchSink, Policy, PolicyId, Profile, ViewEndpoint, ViewPolicy,
+    ViewProfile, ViewSink,
+};
 use fx_selector::{Labels, Selector};
 use std::alloc::Global;
 use std::test::Fail;
@@ -74,6 +77,54 @@ fn listed_profiles_are_recorded(rt: HostRuntime) -> Result<(), Fail> {
     }
     sink.profile_off(&name)?;
     assert!(rt; sink.profiles.get(&name).is_none());
+    Ok(())
+}
+
+#[test]
+fn endpoints_of_a_view_are_recorded(rt: HostRuntime) -> Result<(), Fail> {
+    let a = rt.alloc();
+    let iface = Text::new(a, b"cali1")?;
+    let endpoint = ViewEndpoint {
+        ns: Text::new(a, b"shop")?,
+        name: Text::new(a, b"web")?,
+        ingress: Seq::new(a),
+        egress: Seq::new(a),
+        profiles: Seq::new(a),
+    };
+    let mut sink = RecordView::new(a);
+    sink.endpoint_put(&iface, endpoint)?;
+    assert!(rt; sink.endpoints.contains_key(&iface));
+    sink.endpoint_gone(&iface)?;
+    assert!(rt; !sink.endpoints.contains_key(&iface));
+    Ok(())
+}
+
+#[test]
+fn policies_and_profiles_of_a_view_are_recorded(rt: HostRuntime) -> Result<(), Fail> {
+    let a = rt.alloc();
+    let key = NameKey::new(b"gnp/p");
+    let policy = ViewPolicy {
+        id: PolicyId::Global {
+            name: Text::new(a, b"p")?,
+        },
+        ingress: Seq::new(a),
+        egress: Seq::new(a),
+    };
+    let profile = ViewProfile {
+        name: Text::new(a, b"p")?,
+        missing: true,
+        ingress: Seq::new(a),
+        egress: Seq::new(a),
+    };
+    let mut sink = RecordView::new(a);
+    sink.policy_put(key, policy)?;
+    sink.profile_put(NameKey::new(b"p"), profile)?;
+    assert_eq!(rt; sink.policies.len(), 1);
+    assert_eq!(rt; sink.profiles.len(), 1);
+    sink.policy_gone(key)?;
+    sink.profile_gone(NameKey::new(b"p"))?;
+    assert_eq!(rt; sink.policies.len(), 0);
+    assert_eq!(rt; sink.profiles.len(), 0);
     Ok(())
 }
 

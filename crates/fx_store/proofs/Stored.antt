@@ -62,5 +62,5 @@ module _ (dg : Digest) (R : Resources) (k : Key) (r : Registry) where
           (subst (HoldsClaims s) (ap (λ l. rest ++ l) none ∙ append-nil rest) (swapped rest (without h) (ap (first_clash rest) none)))
 
 -- no resources claim nothing
-pub keeps_none : (dg : Digest) (R : Resources) (r : Registry) → R.endpoints ≡ maps.empty → R.profiles ≡ maps.empty → HoldsClaims r [] → HoldsClaims r (all_claims dg R)
-keeps_none dg R r endpoints profiles h = HoldsClaims-same r [] (all_claims dg R) h (λ c. sym (none_claimed dg R endpoints profiles c))
+pub keeps_none : (dg : Digest) (R : Resources) (r : Registry) → R.endpoints ≡ maps.empty → R.profiles ≡ maps.empty → R.policies ≡ maps.empty → HoldsClaims r [] → HoldsClaims r (all_claims dg R)
+keeps_none dg R r endpoints profiles policies h = HoldsClaims-same r [] (all_claims dg R) h (λ c. sym (none_claimed dg R endpoints profiles policies c))

@@ -12,7 +12,11 @@ use Rattle.fx_store.specs.declared.store.Found.TheVariants as found
 abbrev pub item_at : Resources → Key → Option Item
 item_at R (key.Item k) = option_map item.Endpoint (map.get R.endpoints k)
 item_at R (key.Profile name) = option_map item.Profile (map.get R.profiles name)
+item_at R (key.Tier name) = option_map item.Tier (map.get R.tiers name)
+item_at R (key.Policy id) = option_map item.Policy (map.get R.policies id)
 
 abbrev pub item_found : Found → Item
 item_found (found.Endpoint e) = item.Endpoint e.now
 item_found (found.Profile p) = item.Profile p.now
+item_found (found.Tier t) = item.Tier t.now
+item_found (found.Policy p) = item.Policy p.now

@@ -3,10 +3,10 @@ ghost use Rattle.std.specs.Prelude.{◌≡◌, [], ◌∷◌, ◌++◌, IfOk, On
 ghost use Rattle.std.specs.List.{flat_map};
 ghost use Rattle.fx_base.specs.declared.kernel_name.KernelName.TheVariants.{Chain};
 ghost use Rattle.fx_names.specs.Names.{chain_name_of};
-ghost use Rattle.fx_model.specs.Claims.{item_text, profile_claims, interface_claims, endpoint_claims, claims_of, claims_at};
+ghost use Rattle.fx_model.specs.Claims.{item_text, profile_claims, policy_claims, interface_claims, endpoint_claims, claims_of, claims_at};
 
 use fx_base::{KernelName, Memory, Seq, Text};
-use fx_model::{Endpoint, Item, ItemKey, Key, Resources};
+use fx_model::{Endpoint, Item, ItemKey, Key, PolicyId, Resources};
 use fx_names::{Claim, DigestFunction, DigestRule, Namer, Prefix};
 use std::alloc::Global;
 
@@ -21,17 +21,15 @@ pub fn claims_of<R: DigestRule, F: DigestFunction<R> + Drop>(
     ensures { IfOk result (λ cs. cs.items ≡ claims_of R.digest_of node.now key.now item.now) }
 {
     let mut claims = Vec::new(alloc);
-    match key {
-        Key::Item(key) => match item {
-            Item::Endpoint(endpoint) => {
-                push_endpoint(alloc, node, key, endpoint, namer, &mut claims)?;
-            }
-            Item::Profile(_) => {}
-        },
-        Key::Profile { name } => match item {
-            Item::Endpoint(_) => {}
-            Item::Profile(_) => push_profile(alloc, name, namer, &mut claims)?,
-        },
+    match (key, item) {
+        (Key::Item(key), Item::Endpoint(endpoint)) => {
+            push_endpoint(alloc, node, key, endpoint, namer, &mut claims)?;
+        }
+        (Key::Profile { name }, Item::Profile(_)) => {
+            push_profile(alloc, name, namer, &mut claims)?;
+        }
+        (Key::Policy(id), Item::Policy(_)) => push_policy(alloc, id, namer, &mut claims)?,
+        _ => {}
     }
     Ok(claims)
 }
@@ -55,6 +53,12 @@ pub fn claims_at<R: DigestRule, F: DigestFunction<R> + Drop>(
         Key::Profile { name } => {
             if resources.profiles.contains_key(name) {
                 push_profile(alloc, name, namer, &mut claims)?;
+            }
+        }
+        Key::Tier { .. } => {}
+        Key::Policy(id) => {
+            if resources.policies.get(id).is_some() {
+                push_policy(alloc, id, namer, &mut claims)?;
             }
         }
     }
@@ -124,6 +128,22 @@ fn push_profile<R: DigestRule, F: DigestFunction<R> + Drop>(
     Ok(())
 }
 
+fn push_policy<R: DigestRule, F: DigestFunction<R> + Drop>(
+    alloc: Global,
+    id: &PolicyId,
+    namer: &Namer<R, F>,
+    claims: &mut Vec<Claim>,
+) -> Result<(), Memory>
+    ensures { OnOk result (claims.new.items ≡ claims.old.items ++ policy_claims R.digest_of id.now) }
+{
+    let text = id.text(alloc)?;
+    let holder = policy_holder(alloc, &text)?;
+    let suffix = text.bytes();
+    push_claim(Prefix::PolicyIn, suffix, holder.clone()?, namer, claims)?;
+    push_claim(Prefix::PolicyOut, suffix, holder, namer, claims)?;
+    Ok(())
+}
+
 // A claim on a chain.
 fn push_claim<R: DigestRule, F: DigestFunction<R> + Drop>(
     prefix: Prefix,
@@ -141,6 +161,15 @@ fn push_claim<R: DigestRule, F: DigestFunction<R> + Drop>(
     let name = KernelName::Chain(namer.chain_name(prefix, suffix));
     claims.push(Claim { name, holder })?;
     Ok(())
+}
+
+// `policy ID`
+fn policy_holder(alloc: Global, id: &Text) -> Result<Text, Memory>
+    ensures { IfOk result (λ text. text ≡ codes "policy " ++ id.now) }
+{
+    let mut text = Vec::from_slice(alloc, b"policy ")?;
+    text.extend_from_slice(id.bytes())?;
+    Ok(Text::from_vec(text))
 }
 
 // `profile NAME`

@@ -13,7 +13,7 @@ use crate::checking::check_claims;
 use crate::claims::{claims_at, claims_of};
 use crate::fault::CheckFault;
 use fx_base::{Memory, Text};
-use fx_model::{Endpoint, Item, Key, Profile, Resources, Update};
+use fx_model::{Endpoint, Item, Key, Policy, Profile, Resources, Tier, Update};
 use fx_names::{DigestFunction, DigestRule, Namer, Registry};
 use std::alloc::Global;
 
@@ -30,6 +30,8 @@ pub struct Store {
 pub enum Found<'a> {
     Endpoint(&'a Endpoint),
     Profile(&'a Profile),
+    Tier(&'a Tier),
+    Policy(&'a Policy),
 }
 
 impl Store {
@@ -57,6 +59,8 @@ impl Store {
         match key {
             Key::Item(key) => self.resources.endpoints.get(key).map(Found::Endpoint),
             Key::Profile { name } => self.resources.profiles.get(name).map(Found::Profile),
+            Key::Tier { name } => self.resources.tiers.get(name).map(Found::Tier),
+            Key::Policy(id) => self.resources.policies.get(id).map(Found::Policy),
         }
     }
 

@@ -6,9 +6,9 @@ ghost use Rattle.fx_store.specs.Keeping.{KeepsClaims};
 
 use crate::{CheckFault, Found, Store};
 use fx_base::{Memory, Seq, Text};
-use fx_model::{Item, Key, Profile, Update};
+use fx_model::{Item, Key, Policy, PolicyId, Profile, Update};
 use fx_names::{Namer, PlainRule};
-use fx_selector::Labels;
+use fx_selector::{Labels, Selector};
 use std::alloc::Global;
 use std::test::Fail;
 
@@ -80,6 +80,45 @@ fn a_clash_tells_the_name_and_its_holder(rt: HostRuntime) -> Result<(), Fail> {
     let tried = put(alloc, b"aaaaaaaaaaaaaaaaaaaa2")?;
     let answer = store.check(&tried, &plain());
     assert!(rt; answer.is_err_and(|fault| is_taken(&fault)));
+    Ok(())
+}
+
+// A policy that selects all, by its name.
+fn policy(alloc: Global, name: &[u8]) -> Result<Update, Fail>
+    ensures { IfOk result (λ u. is_formed u ≡ true) }
+{
+    let name = Text::new(alloc, name)?;
+    let item = Item::Policy(Policy {
+        tier: Text::new(alloc, b"default")?,
+        order: None,
+        selector: Selector::parse(alloc, b"all()")?,
+        on_ingress: true,
+        on_egress: true,
+        ingress: Seq::new(alloc),
+        egress: Seq::new(alloc),
+    });
+    let key = Key::Policy(PolicyId::Global { name });
+    Ok(Update::Put { key, item })
+}
+
+fn policy_is_taken(fault: &CheckFault) -> bool {
+    match fault {
+        CheckFault::Taken { name, holder } => {
+            name.bytes() == b"cali-pi-_Z25wL2FhYWFhYWFhYWF".as_slice()
+                && holder.bytes() == b"policy gnp/aaaaaaaaaaaaaaaaaaaa1".as_slice()
+        }
+        CheckFault::Memory => false,
+    }
+}
+
+#[test]
+fn policies_claim_their_chains(rt: HostRuntime) -> Result<(), Fail> {
+    let alloc = rt.alloc();
+    let mut store = Store::new(alloc, Text::new(alloc, b"here")?);
+    make(&mut store, policy(alloc, b"aaaaaaaaaaaaaaaaaaaa1")?)?;
+    let tried = policy(alloc, b"aaaaaaaaaaaaaaaaaaaa2")?;
+    let answer = store.check(&tried, &plain());
+    assert!(rt; answer.is_err_and(|fault| policy_is_taken(&fault)));
     Ok(())
 }
 

@@ -32,7 +32,7 @@ no_slash_first b bs h e =
     cc
 
 -- what stands before the first `/` and what stands behind it
-parted : (ns ms n m : List ℕ) → is_formed_namespace ns ≡ true → is_formed_namespace ms ≡ true → ns ++ 47 ∷ n ≡ ms ++ 47 ∷ m → (ns ≡ ms) × (n ≡ m)
+pub parted : (ns ms n m : List ℕ) → is_formed_namespace ns ≡ true → is_formed_namespace ms ≡ true → ns ++ 47 ∷ n ≡ ms ++ 47 ∷ m → (ns ≡ ms) × (n ≡ m)
 parted [] [] n m g h e = (refl, cc)
 parted [] (b ∷ ms) n m g h e = no_slash_first b ms h (cc)
 parted (a ∷ ns) [] n m g h e = no_slash_first a ns g (cc)

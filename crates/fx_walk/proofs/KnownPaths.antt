@@ -9,6 +9,9 @@ use Rattle.fx_base.proofs.Entries.{entries-empty}
 use Rattle.fx_base.proofs.AtKey.{get_insert_same}
 use Rattle.fx_model.proofs.Orders.{item_total}
 use Rattle.fx_model.specs.contracts.ids.ItemKeyOrd.TheImpl.{cmp-value}
+use Rattle.fx_model.specs.contracts.ids.PolicyIdOrd.TheImpl as policy_cmp
+use Rattle.fx_model.specs.contracts.tier_order.PolicyPlaceOrd.TheImpl as place_cmp
+use Rattle.fx_model.specs.declared.tier_order.PolicyPlace.{PolicyPlace}
 use Rattle.fx_model.specs.declared.ids.ItemKey.{ItemKey}
 use Rattle.fx_model.specs.declared.ids.ItemKey.TheVariants as key
 use Rattle.fx_model.specs.declared.packet.State.{State}
@@ -25,10 +28,12 @@ use Rattle.fx_model.specs.declared.resources.Endpoint.{Endpoint}
 use Rattle.fx_model.specs.declared.resources.Profile.{Profile}
 use Rattle.fx_model.specs.declared.resources.Resources.{Resources}
 use Rattle.fx_model.specs.declared.view.ViewEndpoint.{ViewEndpoint}
-use Rattle.fx_model.specs.Directions.{Ingress, Egress}
+use Rattle.fx_model.specs.Directions.{Direction, Ingress, Egress}
 use Rattle.fx_model.specs.Resources.{is_served, served_endpoints}
 use Rattle.fx_names.specs.Digests.{Digest, plain_digest}
-use Rattle.fx_model.specs.Views.{view_of, view_profile, view_endpoint, endpoint_entry, profile_entry}
+use Rattle.fx_model.specs.Views.{view_of, view_profile, view_endpoint, view_tiers, namespace_of, item_name, profile_key, endpoint_entry, policy_entry, profile_entry, key_in_place}
+use Rattle.fx_model.specs.Active.{applies, is_active}
+use Rattle.fx_model.specs.TierOrder.{tier_by_tier, tiers_of, view_tier}
 use Rattle.fx_model.specs.Tables.{ChainName, Chains, forward, forward_rules, root_of, dispatch_rules, dispatch_chains, policy_chains, profile_chains, endpoint_chains, chains_of, tables_of}
 use Rattle.fx_model.specs.Machine.{Test, Notes, Trace, holds, hops_and_reasons, last_reason, nothing_noted, rules_found, rules_in}
 use Rattle.fx_model.specs.Walk.{Onward, Ended, Accepted, Dropped, Through, over_rule, over_rules, over_chain}
@@ -63,7 +68,7 @@ abbrev open_profile : Profile
 open_profile = record { labels = maps.empty; ingress = allow_all ∷ []; egress = allow_all ∷ [] }
 
 abbrev node : maps.FinMap (slice_cmp nat_cmp) Profile → Resources
-node profiles = record { node = codes "n1"; in_sync = true; endpoints = maps.insert maps.empty endpoint_key endpoint; profiles = profiles }
+node profiles = record { node = codes "n1"; in_sync = true; endpoints = maps.insert maps.empty endpoint_key endpoint; profiles = profiles; tiers = maps.empty; policies = maps.empty }
 
 one_endpoint : maps.entries (maps.insert (maps.empty {X = Endpoint} {R = cmp-value.it}) endpoint_key endpoint) ≡ (endpoint_key, endpoint) ∷ []
 one_endpoint = maps.entries-insert item_total maps.empty endpoint_key endpoint ∙ ap (maps.put cmp-value.it endpoint_key endpoint) (entries-empty cmp-value.it)
@@ -78,10 +83,27 @@ module _ (dg : Digest) (profiles : maps.FinMap (slice_cmp nat_cmp) Profile) (o :
   served : served_endpoints R ≡ (endpoint_key, endpoint) ∷ []
   served = ap (filter (λ x. is_served R x.1)) one_endpoint
 
-  endpoints_are : maps.entries (view_of dg R).endpoints ≡ (codes "cali1", view_endpoint dg endpoint_key endpoint) ∷ []
+  policies_are : maps.entries (view_of dg R).policies ≡ []
+  policies_are =
+      ap (λ es. maps.entries (collected {R = slice_cmp nat_cmp} (map (policy_entry dg) (filter (λ x. is_active R x.1) es)))) (entries-empty policy_cmp.cmp-value.it)
+      ∙ entries-empty (slice_cmp nat_cmp)
+
+  no_tiers : (d : Direction) → view_tiers dg R d endpoint ≡ []
+  no_tiers d =
+      ap (λ es. map view_tier (tiers_of (map (key_in_place dg R) (filter (λ x. applies R d x.1 endpoint) es)))) (entries-empty policy_cmp.cmp-value.it)
+      ∙ ap (λ (es : List (PolicyPlace × List ℕ)). map view_tier (tier_by_tier es)) (entries-empty place_cmp.cmp-value.it)
+
+  abbrev shown : ViewEndpoint
+  shown = record { ns = namespace_of endpoint_key; name = item_name endpoint_key; ingress = []; egress = []; profiles = map (profile_key dg) endpoint.profiles }
+
+  shown_is : view_endpoint dg R endpoint_key endpoint ≡ shown
+  shown_is = λ i. record { ns = namespace_of endpoint_key; name = item_name endpoint_key; ingress = no_tiers Ingress i; egress = no_tiers Egress i; profiles = map (profile_key dg) endpoint.profiles }
+
+  endpoints_are : maps.entries (view_of dg R).endpoints ≡ (codes "cali1", shown) ∷ []
   endpoints_are =
-      ap (λ es. maps.entries (collected {R = slice_cmp nat_cmp} (map (endpoint_entry dg) es))) served
-      ∙ one_entry (codes "cali1") (view_endpoint dg endpoint_key endpoint)
+      ap (λ es. maps.entries (collected {R = slice_cmp nat_cmp} (map (endpoint_entry dg R) es))) served
+      ∙ one_entry (codes "cali1") (view_endpoint dg R endpoint_key endpoint)
+      ∙ ap (λ (e : ViewEndpoint). (codes "cali1", e) ∷ []) shown_is
 
   profiles_are : maps.entries (view_of dg R).profiles ≡ (codes "open", view_profile (codes "open") o) ∷ []
   profiles_are =
@@ -91,12 +113,12 @@ module _ (dg : Digest) (profiles : maps.FinMap (slice_cmp nat_cmp) Profile) (o :
 
   abbrev known : List (ChainName × List ChainRule)
   known =
-      profile_chains (codes "open", view_profile (codes "open") o) ++ (endpoint_chains (codes "cali1", view_endpoint dg endpoint_key endpoint)
+      profile_chains (codes "open", view_profile (codes "open") o) ++ (endpoint_chains (codes "cali1", shown)
       ++ ((root_of Ingress, dispatch_rules Ingress (codes "cali1" ∷ [])) ∷ (root_of Egress, dispatch_rules Egress (codes "cali1" ∷ [])) ∷ (forward, forward_rules) ∷ []))
 
   known_chains : chains_of (view_of dg R) ≡ known
   known_chains =
-      ap (λ ps. flat_map policy_chains ps ++ (flat_map profile_chains (maps.entries (view_of dg R).profiles) ++ (flat_map endpoint_chains (maps.entries (view_of dg R).endpoints) ++ dispatch_chains (view_of dg R)))) (entries-empty (slice_cmp nat_cmp))
+      ap (λ ps. flat_map policy_chains ps ++ (flat_map profile_chains (maps.entries (view_of dg R).profiles) ++ (flat_map endpoint_chains (maps.entries (view_of dg R).endpoints) ++ dispatch_chains (view_of dg R)))) policies_are
       ∙ ap (λ fs. flat_map profile_chains fs ++ (flat_map endpoint_chains (maps.entries (view_of dg R).endpoints) ++ dispatch_chains (view_of dg R))) profiles_are
       ∙ ap (λ (es : List (List ℕ × ViewEndpoint)). profile_chains (codes "open", view_profile (codes "open") o) ++ (flat_map endpoint_chains es
       ++ ((root_of Ingress, dispatch_rules Ingress (map (λ e. e.0) es)) ∷ (root_of Egress, dispatch_rules Egress (map (λ e. e.0) es)) ∷ (forward, forward_rules) ∷ []))) endpoints_are

@@ -10,9 +10,12 @@ pub mod Lookups
 pub mod Families
 pub mod Sides
 pub mod FirstPackets
+pub mod TierLists
+pub mod WantedTiers
 pub mod Wanted
 pub mod Agree
 pub mod Whole
 mod KnownPaths
 mod Interfaces
+mod PolicyKeys
 pub mod Servable

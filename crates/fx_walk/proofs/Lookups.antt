@@ -1,10 +1,12 @@
 -- What maps that were collected from entries have at a key.
-use Rattle.std.proofs.Common.{◌≡◌, Bool, true, false, cond, ◌&&◌, List, [], ◌∷◌, ◌++◌, Option, Some, None, refl, sym, ap, ◌∙◌, subst}
+use Rattle.std.proofs.Common.{◌≡◌, ℕ, Bool, true, false, cond, ◌&&◌, List, [], ◌∷◌, ◌++◌, Option, Some, None, refl, sym, ap, ◌∙◌, subst}
 use Rattle.std.specs.Prelude.{T}
 use Rattle.std.specs.declared.cmp.Ordering.{Ordering}
 use Rattle.std.specs.declared.cmp.Ordering.TheVariants.{Less, Equal, Greater}
-use Rattle.std.specs.Ordering.{eq_by_cmp, is_eq, is_lt}
-use Rattle.std.specs.Cmp.{IsTotalOrder}
+use Rattle.std.specs.Ordering.{nat_cmp, eq_by_cmp, is_eq, is_lt}
+use Rattle.std.specs.Cmp.{IsTotalOrder, tied_itself}
+use Rattle.std.specs.Cmp.Lexicographic.{slice_cmp, nat_list_cmp_total, texts_ties}
+use Rattle.fx_base.specs.Same.{same_bytes}
 use Rattle.std.specs.FinMap.{FinMap, find, is_sorted, entries, entries_sorted, get, get-entries, get-insert, get-empty, insert}
 use Rattle.std.specs.FinMap.Entries.{below_all}
 use Rattle.fx_base.specs.Extended.{extended, collected}
@@ -63,3 +65,16 @@ module _ {K X : Type 0} {R : K → K → Ordering} (o : IsTotalOrder R) where
 
   pub last-entries : (m : FinMap R X) (q : K) → last_at R (entries m) q None ≡ get m q
   last-entries m q = last-find (entries m) q (entries_sorted m) ∙ sym (get-entries m q)
+
+-- keys of bytes are one
+abbrev pub is : List ℕ → List ℕ → Bool
+is q k = eq_by_cmp (slice_cmp nat_cmp) q k
+
+abbrev pub last : {X : Type 0} → List (List ℕ × X) → List ℕ → Option X → Option X
+last xs q o = last_at (slice_cmp nat_cmp) xs q o
+
+pub is_itself : (q : List ℕ) → is q q ≡ true
+is_itself q = ap is_eq (tied_itself nat_list_cmp_total q)
+
+pub is_same : (q k : List ℕ) → is q k ≡ true → q ≡ k
+is_same q k e = same_bytes q k (texts_ties q k ∙ e)

@@ -7,16 +7,20 @@ use Rattle.fx_base.specs.Same.{both_pass}
 use Rattle.fx_base.proofs.Found.{of_entries}
 use Rattle.fx_base.proofs.KeyCases.{bytes_exact}
 use Rattle.fx_laws.proofs.ClaimsOfKeys.{keys_apart}
-use Rattle.fx_model.proofs.Orders.{item_total, exact_item}
+use Rattle.fx_laws.proofs.FormedLemmas.{endpoints_formed, profiles_formed, policies_formed}
+use Rattle.fx_model.proofs.Orders.{item_total, exact_item, policy_total, exact_policy}
 use Rattle.fx_model.specs.declared.ids.ItemKey.{ItemKey}
+use Rattle.fx_model.specs.declared.ids.PolicyId.{PolicyId}
+use Rattle.fx_model.specs.declared.policy.Policy.{Policy}
 use Rattle.fx_model.specs.declared.resources.Endpoint.{Endpoint}
 use Rattle.fx_model.specs.declared.resources.Profile.{Profile}
 use Rattle.fx_model.specs.declared.resources.Resources.{Resources}
 use Rattle.fx_model.specs.Resources.{is_local}
 use Rattle.fx_model.specs.Policy.{is_workload}
-use Rattle.fx_model.specs.Formed.{implies, is_formed_endpoint_entry, is_formed_profile, are_formed, has_workload_interface, have_workload_interfaces}
+use Rattle.fx_model.specs.Formed.{implies, is_formed_endpoint_entry, is_formed_profile, is_formed_policy, is_formed_policy_id, is_formed_policy_entry, are_formed, has_workload_interface, have_workload_interfaces}
 use Rattle.fx_walk.specs.Serving.{ServedEndpointsAreApart}
 use Rattle.fx_walk.proofs.Interfaces.{same_key, one_interface}
+use Rattle.fx_walk.proofs.PolicyKeys.{policies_apart}
 
 each : {A : Type 0} (p : A → Bool) (xs : List A) → list_all p xs ≡ true → AllByRecursion (λ x. p x ≡ true) xs
 each p [] h = tt
@@ -27,12 +31,13 @@ entry_passes : (p : ItemKey × Endpoint → Bool) (R : Resources) → list_all p
 entry_passes p R all k e at = of_entries item_total exact_item (λ x. p x ≡ true) R.endpoints k e (each p (maps.entries R.endpoints) all) at
 
 module _ (R : Resources) (formed : are_formed R ≡ true) where
-  parts : (list_all is_formed_endpoint_entry (maps.entries R.endpoints) ≡ true) × (list_all (λ x. is_formed_profile x.1) (maps.entries R.profiles) ≡ true)
-  parts = both_pass (list_all is_formed_endpoint_entry (maps.entries R.endpoints)) (list_all (λ x. is_formed_profile x.1) (maps.entries R.profiles)) formed
-
   rules_formed : (name : List ℕ) (p : Profile) → maps.get R.profiles name ≡ Some p → is_formed_profile p ≡ true
   rules_formed name p at =
-      of_entries nat_list_cmp_total bytes_exact (λ x. is_formed_profile x.1 ≡ true) R.profiles name p (each (λ x. is_formed_profile x.1) (maps.entries R.profiles) parts.1) at
+      of_entries nat_list_cmp_total bytes_exact (λ x. is_formed_profile x.1 ≡ true) R.profiles name p (each (λ x. is_formed_profile x.1) (maps.entries R.profiles) (profiles_formed R formed)) at
+
+  policy_formed : (id : PolicyId) (p : Policy) → maps.get R.policies id ≡ Some p → (is_formed_policy_id id ≡ true) × (is_formed_policy p ≡ true)
+  policy_formed id p at =
+      both_pass _ _ (of_entries policy_total exact_policy (λ x. is_formed_policy_entry x ≡ true) R.policies id p (each is_formed_policy_entry (maps.entries R.policies) (policies_formed R formed)) at)
 
 -- a local endpoint's interface
 local_workload : (R : Resources) → have_workload_interfaces R ≡ true → (k : ItemKey) (e : Endpoint) → maps.get R.endpoints k ≡ Some e → is_local R e ≡ true → is_workload e.iface ≡ true
@@ -44,8 +49,10 @@ served_apart dg R servable = record {
   rules = rules_formed R servable.formed;
   on_workloads = λ k e at s. local_workload R servable.on_workloads k e at (both_pass R.in_sync (is_local R e) s).1;
   apart = λ k l e f at there s t same.
-      let entry = parts R servable.formed in
-      same_key k l e f (entry_passes is_formed_endpoint_entry R entry.0 k e at) (entry_passes is_formed_endpoint_entry R entry.0 l f there)
+      let entries = endpoints_formed R servable.formed in
+      same_key k l e f (entry_passes is_formed_endpoint_entry R entries k e at) (entry_passes is_formed_endpoint_entry R entries l f there)
       (one_interface dg R servable.clash_free k l e f at there (both_pass R.in_sync (is_local R e) s).1 (both_pass R.in_sync (is_local R f) t).1 same);
+  policies = λ id p at. (policy_formed R servable.formed id p at).1;
+  policies_apart = λ a b p q at there. policies_apart dg R servable.clash_free a b p q at there (policy_formed R servable.formed a p at).0 (policy_formed R servable.formed b q there).0;
   keys_apart = keys_apart dg R servable.clash_free;
 }

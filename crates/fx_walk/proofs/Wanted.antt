@@ -14,10 +14,12 @@ use Rattle.std.specs.FinMap.Entries.{below_all}
 use Rattle.std.proofs.lemmas.List.Folds.{list_any-append}
 use Rattle.std.proofs.lemmas.Bool.{or_left, or_right}
 use Rattle.fx_base.specs.Same.{same_bytes, both_pass}
-use Rattle.fx_model.proofs.Orders.{item_total}
+use Rattle.fx_model.proofs.Orders.{item_total, policy_total}
+use Rattle.fx_laws.proofs.TiersClosed.{activates}
 use Rattle.fx_model.specs.contracts.ids.ItemKeyOrd.TheImpl.{cmp-value}
 use Rattle.fx_model.specs.declared.ids.ItemKey.{ItemKey}
-use Rattle.fx_model.specs.declared.ids.ItemKey.TheVariants as item_key
+use Rattle.fx_model.specs.declared.ids.PolicyId.{PolicyId}
+use Rattle.fx_model.specs.declared.policy.Policy.{Policy}
 use Rattle.fx_model.specs.declared.packet.Packet.{Packet}
 use Rattle.fx_model.specs.declared.chain.Reason.{Reason}
 use Rattle.fx_model.specs.declared.chain.Reason.TheVariants as reason
@@ -31,34 +33,24 @@ use Rattle.fx_model.specs.declared.resources.Endpoint.{Endpoint}
 use Rattle.fx_model.specs.declared.resources.Profile.{Profile}
 use Rattle.fx_model.specs.declared.resources.Resources.{Resources}
 use Rattle.fx_model.specs.declared.view.ViewEndpoint.{ViewEndpoint}
+use Rattle.fx_model.specs.declared.view.ViewPolicy.{ViewPolicy}
 use Rattle.fx_model.specs.declared.view.ViewProfile.{ViewProfile}
 use Rattle.fx_model.specs.Directions.{Direction, Ingress, Egress}
 use Rattle.fx_model.specs.Resources.{is_served, served_endpoints}
 use Rattle.fx_model.specs.Criteria.{address_at, port_at, proto_is, proto_is_not, lies_in, lies_in_given, holds_port, icmp_is, icmp_is_not}
-use Rattle.fx_model.specs.Formed.{implies, is_given, has_port_protocol, has_icmp_protocol, lists_ports, lists_view_ports, passes, is_formed_profile_rule, is_formed_profile, is_formed_view_profile_rule}
-use Rattle.fx_model.specs.Tables.{profile_side}
+use Rattle.fx_model.specs.Formed.{implies, is_given, has_port_protocol, has_icmp_protocol, lists_ports, lists_view_ports, passes, is_formed_rule, is_formed_policy, is_formed_profile_rule, is_formed_profile, is_formed_view_rule, is_formed_view_profile_rule}
+use Rattle.fx_model.specs.Tables.{policy_side, profile_side}
 use Rattle.fx_names.specs.Digests.{Digest}
-use Rattle.fx_model.specs.Views.{view_of, view_side, view_rule, profile_key, is_active_profile, view_profile, profile_entry, view_endpoint, endpoint_entry, active_profiles}
-use Rattle.fx_model.specs.Policy.{some_port, some_port_given, side_matches, rule_matches, There, met_rules, there_or_missing, listed_profile, profiles_verdict, endpoint_verdict, with_iface, endpoint_at, verdict_at, side_verdict, both_sides, packet_verdict}
-use Rattle.fx_model.specs.ViewPolicy.{some_view_port, some_view_port_given, view_side_matches, view_rule_matches, HasFormedRules, met_view_rules, listed_of, view_listed, view_endpoint_verdict, view_verdict_at, view_verdict}
+use Rattle.fx_model.specs.Views.{view_of, view_side, view_rule, profile_key, is_active_profile, view_policy, view_profile, policy_entry, profile_entry, view_tiers, view_endpoint, endpoint_entry, active_profiles}
+use Rattle.fx_model.specs.Active.{applies, is_active, active_policies}
+use Rattle.fx_model.specs.Policy.{some_port, some_port_given, side_matches, rule_matches, There, met_rules, there_or_missing, listed_profile, tiers_verdict, profiles_verdict, tiers_for, endpoint_verdict, with_iface, endpoint_at, verdict_at, side_verdict, both_sides, packet_verdict}
+use Rattle.fx_model.specs.ViewPolicy.{some_view_port, some_view_port_given, view_side_matches, view_rule_matches, HasFormedRules, met_view_rules, listed_of, view_tier, view_listed, view_endpoint_verdict, view_verdict_at, view_verdict}
 use Rattle.fx_walk.specs.Serving.{IsServedApart}
-use Rattle.fx_walk.proofs.Lookups.{last_at, get-collected, first, second}
-
--- keys are one
-abbrev is : List ℕ → List ℕ → Bool
-is q k = eq_by_cmp (slice_cmp nat_cmp) q k
-
-abbrev last : {X : Type 0} → List (List ℕ × X) → List ℕ → Option X → Option X
-last xs q o = last_at (slice_cmp nat_cmp) xs q o
+use Rattle.fx_walk.proofs.Lookups.{is, last, is_itself, is_same, get-collected, first, second}
+use Rattle.fx_walk.proofs.WantedTiers.{tiers_same}
 
 abbrev is_among : List ℕ → List (List ℕ) → Bool
 is_among q names = list_any (is q) names
-
-is_itself : (q : List ℕ) → is q q ≡ true
-is_itself q = ap is_eq (tied_itself nat_list_cmp_total q)
-
-is_same : (q k : List ℕ) → is q k ≡ true → q ≡ k
-is_same q k e = same_bytes q k (texts_ties q k ∙ e)
 
 -- the map has each of these entries
 abbrev AllThere : maps.FinMap cmp-value.it Endpoint → List (ItemKey × Endpoint) → Type 0
@@ -78,14 +70,22 @@ module _ (dg : Digest) (R : Resources) where
       ∙ ap (λ b. (is_given r.source.ports || is_given r.source.not_ports) || (b || is_given (map Range r.destination.not_ports))) (given_ranges r.destination.ports)
       ∙ ap (λ b. (is_given r.source.ports || is_given r.source.not_ports) || (is_given r.destination.ports || b)) (given_ranges r.destination.not_ports)
 
-  formed_same : (r : Rule) → is_formed_view_profile_rule (view_rule r) ≡ is_formed_profile_rule r
-  formed_same r =
-      ap (λ b. (implies b (has_port_protocol r.protocol) && implies (is_some r.icmp || is_some r.not_icmp) (has_icmp_protocol r.protocol)) && not (passes r.action)) (lists_same r)
+  formed_same : (r : Rule) → is_formed_view_rule (view_rule r) ≡ is_formed_rule r
+  formed_same r = ap (λ b. implies b (has_port_protocol r.protocol) && implies (is_some r.icmp || is_some r.not_icmp) (has_icmp_protocol r.protocol)) (lists_same r)
 
-  all_formed : (rs : List Rule) → list_all is_formed_view_profile_rule (map view_rule rs) ≡ list_all is_formed_profile_rule rs
+  all_formed : (rs : List Rule) → list_all is_formed_view_rule (map view_rule rs) ≡ list_all is_formed_rule rs
   all_formed [] = refl
   all_formed (r ∷ rs) =
-      ap (λ b. b && list_all is_formed_view_profile_rule (map view_rule rs)) (formed_same r) ∙ ap (λ b. is_formed_profile_rule r && b) (all_formed rs)
+      ap (λ b. b && list_all is_formed_view_rule (map view_rule rs)) (formed_same r) ∙ ap (λ b. is_formed_rule r && b) (all_formed rs)
+
+  all_profile_formed : (rs : List Rule) → list_all is_formed_view_profile_rule (map view_rule rs) ≡ list_all is_formed_profile_rule rs
+  all_profile_formed [] = refl
+  all_profile_formed (r ∷ rs) =
+      ap (λ b. (b && not (passes r.action)) && list_all is_formed_view_profile_rule (map view_rule rs)) (formed_same r) ∙ ap (λ b. is_formed_profile_rule r && b) (all_profile_formed rs)
+
+  policy_formed : (id : PolicyId) (p : Policy) → is_formed_policy p ≡ true → (d : Direction) → list_all is_formed_view_rule (policy_side d (view_policy id p)) ≡ true
+  policy_formed id p h Ingress = all_formed p.ingress ∙ (both_pass (list_all is_formed_rule p.ingress) (list_all is_formed_rule p.egress) h).0
+  policy_formed id p h Egress = all_formed p.egress ∙ (both_pass (list_all is_formed_rule p.ingress) (list_all is_formed_rule p.egress) h).1
 
   -- each side of the profile has formed rules
   abbrev HasFormedSides : ViewProfile → Type 0
@@ -94,12 +94,24 @@ module _ (dg : Digest) (R : Resources) where
   profile_formed : (name : List ℕ) (o : Option Profile) → ((p : Profile) → o ≡ Some p → is_formed_profile p ≡ true) → HasFormedSides (view_profile name o)
   profile_formed name None h Ingress = refl
   profile_formed name None h Egress = refl
-  profile_formed name (Some p) h Ingress = all_formed p.ingress ∙ (both_pass (list_all is_formed_profile_rule p.ingress) (list_all is_formed_profile_rule p.egress) (h p refl)).0
-  profile_formed name (Some p) h Egress = all_formed p.egress ∙ (both_pass (list_all is_formed_profile_rule p.ingress) (list_all is_formed_profile_rule p.egress) (h p refl)).1
+  profile_formed name (Some p) h Ingress = all_profile_formed p.ingress ∙ (both_pass (list_all is_formed_profile_rule p.ingress) (list_all is_formed_profile_rule p.egress) (h p refl)).0
+  profile_formed name (Some p) h Egress = all_profile_formed p.egress ∙ (both_pass (list_all is_formed_profile_rule p.ingress) (list_all is_formed_profile_rule p.egress) (h p refl)).1
 
   entries_formed : IsServedApart dg R → (names : List (List ℕ)) → AllByRecursion (λ e. HasFormedSides e.1) (map (profile_entry dg R) names)
   entries_formed servable [] = tt
   entries_formed servable (name ∷ names) = (profile_formed name (maps.get R.profiles name) (servable.rules name), entries_formed servable names)
+
+  abbrev HasFormedPolicySides : ViewPolicy → Type 0
+  HasFormedPolicySides p = (d : Direction) → list_all is_formed_view_rule (policy_side d p) ≡ true
+
+  policies_formed : IsServedApart dg R → (xs : List (PolicyId × Policy)) → AllByRecursion (λ x. maps.get R.policies x.0 ≡ Some x.1) xs → AllByRecursion (λ e. HasFormedPolicySides e.1) (map (policy_entry dg) (filter (λ x. is_active R x.1) xs))
+  policies_formed servable [] there = tt
+  policies_formed servable (x ∷ xs) there =
+      let left = filter (λ (y : PolicyId × Policy). is_active R y.1) xs in
+      elim (is_active R x.1) as (λ b. AllByRecursion (λ (e : List ℕ × ViewPolicy). HasFormedPolicySides e.1) (map (policy_entry dg) (cond b (x ∷ left) left))) [
+        | true ↦ (policy_formed x.0 x.1 (servable.policies x.0 x.1 there.0), policies_formed servable xs there.1)
+        | false ↦ policies_formed servable xs there.1
+      ]
 
   nothing_there : {X A : Type 0} (q : List ℕ) (x : X) → maps.get (maps.empty {X = X} {R = slice_cmp nat_cmp}) q ≡ Some x → A
   nothing_there q x e = absurd (none (sym (get_empty q) ∙ e))
@@ -109,7 +121,7 @@ module _ (dg : Digest) (R : Resources) where
 
   pub formed_rules : IsServedApart dg R → HasFormedRules (view_of dg R)
   formed_rules servable = record {
-    policies = λ d key p e. nothing_there key p e;
+    policies = λ d key p e. at_extended (λ _ q. HasFormedPolicySides q) maps.empty (map (policy_entry dg) (active_policies R)) (λ q x is. nothing_there q x is) (policies_formed servable (maps.entries R.policies) (entries_found policy_total R.policies)) key p e d;
     profiles = λ d key p e. at_extended (λ _ q. HasFormedSides q) maps.empty (map (profile_entry dg R) (active_profiles R)) (λ q x is. nothing_there q x is) (entries_formed servable (active_profiles R)) key p e d;
   }
 
@@ -205,11 +217,22 @@ module _ (dg : Digest) (R : Resources) (a : Packet) where
 
   -- ---- endpoints
 
-  endpoint_same : AreApart → (d : Direction) (k : ItemKey) (e : Endpoint) → Within e.profiles → view_endpoint_verdict (view_of dg R) d (view_endpoint dg k e) a ≡ endpoint_verdict R d e a
-  endpoint_same apart Ingress (item_key.Endpoint ns name) e within = ap profiles_verdict (all_listed apart Ingress e.profiles within)
-  endpoint_same apart Egress (item_key.Endpoint ns name) e within = ap profiles_verdict (all_listed apart Egress e.profiles within)
-  endpoint_same apart Ingress (item_key.NetSet ns name) e within = ap profiles_verdict (all_listed apart Ingress e.profiles within)
-  endpoint_same apart Egress (item_key.NetSet ns name) e within = ap profiles_verdict (all_listed apart Egress e.profiles within)
+  -- policies that apply to the endpoint are active
+  abbrev Activates : Endpoint → Type 0
+  Activates e = (d : Direction) (p : Policy) → applies R d p e ≡ true → is_active R p ≡ true
+
+  endpoint_same : IsServedApart dg R → (d : Direction) (k : ItemKey) (e : Endpoint) → Within e.profiles → Activates e → view_endpoint_verdict (view_of dg R) d (view_endpoint dg R k e) a ≡ endpoint_verdict R d e a
+  endpoint_same servable d k e within active = by_direction d
+    where
+      tiers : (d : Direction) → map (view_tier (view_of dg R) d a) (view_tiers dg R d e) ≡ tiers_for R d e a
+      tiers d = tiers_same dg R servable.policies_apart d e (active d) a met_same
+
+      joined : (d : Direction) → tiers_verdict (map (view_tier (view_of dg R) d a) (view_tiers dg R d e)) (profiles_verdict (map (view_listed (view_of dg R) d a) (map (profile_key dg) e.profiles))) ≡ endpoint_verdict R d e a
+      joined d = λ i. tiers_verdict (tiers d i) (profiles_verdict (all_listed servable.keys_apart d e.profiles within i))
+
+      by_direction : (c : Direction) → view_endpoint_verdict (view_of dg R) c (view_endpoint dg R k e) a ≡ endpoint_verdict R c e a
+      by_direction Ingress = joined Ingress
+      by_direction Egress = joined Egress
 
   abbrev served : List (ItemKey × Endpoint) → List (ItemKey × Endpoint)
   served es = filter (λ x. is_served R x.1) es
@@ -219,48 +242,48 @@ module _ (dg : Digest) (R : Resources) (a : Packet) where
 
   -- of these endpoints the view and the resources say one at an interface
   abbrev IsAlikeAt : Direction → List ℕ → List (ItemKey × Endpoint) → Type 0
-  IsAlikeAt d iface xs = Within (names_of xs) → view_verdict_at (view_of dg R) d a (last (map (endpoint_entry dg) xs) iface None) ≡ verdict_at R d a (with_iface xs iface)
+  IsAlikeAt d iface xs = Within (names_of xs) → AllByRecursion (λ x. Activates x.1) xs → view_verdict_at (view_of dg R) d a (last (map (endpoint_entry dg R) xs) iface None) ≡ verdict_at R d a (with_iface xs iface)
 
   module _ (servable : IsServedApart dg R) where
     not_itself : (k l : ItemKey) → k ≡ l → T (is_lt (cmp-value.it k l)) → ⊥
     not_itself k l e below = absurd (subst (λ r. T (is_lt r)) (ap (cmp-value.it k) (sym e) ∙ tied_itself item_total k) below)
 
     -- no endpoint behind another has its interface
-    none_alike : (k : ItemKey) (e : Endpoint) (es : List (ItemKey × Endpoint)) (p : Option ViewEndpoint) → maps.get R.endpoints k ≡ Some e → is_served R e ≡ true → T (below_all cmp-value.it k es) → AllThere R.endpoints es → last (map (endpoint_entry dg) (served es)) e.iface p ≡ p
+    none_alike : (k : ItemKey) (e : Endpoint) (es : List (ItemKey × Endpoint)) (p : Option ViewEndpoint) → maps.get R.endpoints k ≡ Some e → is_served R e ≡ true → T (below_all cmp-value.it k es) → AllThere R.endpoints es → last (map (endpoint_entry dg R) (served es)) e.iface p ≡ p
     none_alike k e [] p at s below there = refl
     none_alike k e (x ∷ es) p at s below there = by_served (none_alike k e es p at s (second _ _ below) there.1) (is_served R x.1) refl
       where
-        by_iface : last (map (endpoint_entry dg) (served es)) e.iface p ≡ p → is_served R x.1 ≡ true → (b : Bool) → is e.iface x.1.iface ≡ b → last (map (endpoint_entry dg) (served es)) e.iface (cond b (Some (view_endpoint dg x.0 x.1)) p) ≡ p
+        by_iface : last (map (endpoint_entry dg R) (served es)) e.iface p ≡ p → is_served R x.1 ≡ true → (b : Bool) → is e.iface x.1.iface ≡ b → last (map (endpoint_entry dg R) (served es)) e.iface (cond b (Some (view_endpoint dg R x.0 x.1)) p) ≡ p
         by_iface rest t true same = absurd (not_itself k x.0 (servable.apart k x.0 e x.1 at there.0 s t (is_same e.iface x.1.iface same)) (first _ _ below))
         by_iface rest t false same = rest
 
-        by_served : last (map (endpoint_entry dg) (served es)) e.iface p ≡ p → (b : Bool) → is_served R x.1 ≡ b → last (map (endpoint_entry dg) (cond b (x ∷ served es) (served es))) e.iface p ≡ p
+        by_served : last (map (endpoint_entry dg R) (served es)) e.iface p ≡ p → (b : Bool) → is_served R x.1 ≡ b → last (map (endpoint_entry dg R) (cond b (x ∷ served es) (served es))) e.iface p ≡ p
         by_served rest true t = by_iface rest t (is e.iface x.1.iface) refl
         by_served rest false t = rest
 
     -- the endpoint at an interface, in the view and among the resources
     alike_at : (d : Direction) (iface : List ℕ) (es : List (ItemKey × Endpoint)) → T (maps.is_sorted cmp-value.it es) → AllThere R.endpoints es → IsAlikeAt d iface (served es)
-    alike_at d iface [] sorted there within = refl
-    alike_at d iface (x ∷ es) sorted there within = by_served (λ w. alike_at d iface es (second _ _ sorted) there.1 w) (is_served R x.1) refl within
+    alike_at d iface [] sorted there within active = refl
+    alike_at d iface (x ∷ es) sorted there within active = by_served (λ w v. alike_at d iface es (second _ _ sorted) there.1 w v) (is_served R x.1) refl within active
       where
-        by_iface : IsAlikeAt d iface (served es) → is_served R x.1 ≡ true → Within (x.1.profiles ++ names_of (served es)) → (b : Bool) → bytes_eq iface x.1.iface ≡ b → view_verdict_at (view_of dg R) d a (last (map (endpoint_entry dg) (served es)) iface (cond b (Some (view_endpoint dg x.0 x.1)) None)) ≡ verdict_at R d a (elim b [ true ↦ Some x.1 | false ↦ with_iface (served es) iface ])
-        by_iface rest t within true same =
-            ap (view_verdict_at (view_of dg R) d a) (ap (λ i. last (map (endpoint_entry dg) (served es)) i (Some (view_endpoint dg x.0 x.1))) (same_bytes iface x.1.iface same)
-            ∙ none_alike x.0 x.1 es (Some (view_endpoint dg x.0 x.1)) there.0 t (first _ _ sorted) there.1)
-            ∙ ap Some (endpoint_same servable.keys_apart d x.0 x.1 (λ q h. within q (list_any-append (is q) x.1.profiles (names_of (served es)) ∙ or_left (is_among q x.1.profiles) (is_among q (names_of (served es))) h)))
-        by_iface rest t within false same =
-            rest (λ q h. within q (list_any-append (is q) x.1.profiles (names_of (served es)) ∙ or_right (is_among q x.1.profiles) (is_among q (names_of (served es))) h))
+        by_iface : IsAlikeAt d iface (served es) → is_served R x.1 ≡ true → Within (x.1.profiles ++ names_of (served es)) → Activates x.1 → AllByRecursion (λ y. Activates y.1) (served es) → (b : Bool) → bytes_eq iface x.1.iface ≡ b → view_verdict_at (view_of dg R) d a (last (map (endpoint_entry dg R) (served es)) iface (cond b (Some (view_endpoint dg R x.0 x.1)) None)) ≡ verdict_at R d a (elim b [ true ↦ Some x.1 | false ↦ with_iface (served es) iface ])
+        by_iface rest t within here active true same =
+            ap (view_verdict_at (view_of dg R) d a) (ap (λ i. last (map (endpoint_entry dg R) (served es)) i (Some (view_endpoint dg R x.0 x.1))) (same_bytes iface x.1.iface same)
+            ∙ none_alike x.0 x.1 es (Some (view_endpoint dg R x.0 x.1)) there.0 t (first _ _ sorted) there.1)
+            ∙ ap Some (endpoint_same servable d x.0 x.1 (λ q h. within q (list_any-append (is q) x.1.profiles (names_of (served es)) ∙ or_left (is_among q x.1.profiles) (is_among q (names_of (served es))) h)) here)
+        by_iface rest t within here active false same =
+            rest (λ q h. within q (list_any-append (is q) x.1.profiles (names_of (served es)) ∙ or_right (is_among q x.1.profiles) (is_among q (names_of (served es))) h)) active
 
         by_served : IsAlikeAt d iface (served es) → (b : Bool) → is_served R x.1 ≡ b → IsAlikeAt d iface (cond b (x ∷ served es) (served es))
-        by_served rest true t within =
-            ap (λ b. view_verdict_at (view_of dg R) d a (last (map (endpoint_entry dg) (served es)) iface (cond b (Some (view_endpoint dg x.0 x.1)) None))) (sym (texts_ties iface x.1.iface))
-            ∙ by_iface rest t within (bytes_eq iface x.1.iface) refl
-        by_served rest false t within = rest within
+        by_served rest true t within active =
+            ap (λ b. view_verdict_at (view_of dg R) d a (last (map (endpoint_entry dg R) (served es)) iface (cond b (Some (view_endpoint dg R x.0 x.1)) None))) (sym (texts_ties iface x.1.iface))
+            ∙ by_iface rest t within active.0 active.1 (bytes_eq iface x.1.iface) refl
+        by_served rest false t within active = rest within active
 
     at_iface : (d : Direction) (iface : List ℕ) → view_verdict_at (view_of dg R) d a (maps.get (view_of dg R).endpoints iface) ≡ verdict_at R d a (endpoint_at R iface)
     at_iface d iface =
-        ap (view_verdict_at (view_of dg R) d a) (get-collected nat_list_cmp_total (map (endpoint_entry dg) (served_endpoints R)) iface)
-        ∙ alike_at d iface (maps.entries R.endpoints) (maps.entries_sorted R.endpoints) (entries_found item_total R.endpoints) (λ q h. h)
+        ap (view_verdict_at (view_of dg R) d a) (get-collected nat_list_cmp_total (map (endpoint_entry dg R) (served_endpoints R)) iface)
+        ∙ alike_at d iface (maps.entries R.endpoints) (maps.entries_sorted R.endpoints) (entries_found item_total R.endpoints) (λ q h. h) (activates R (served_endpoints R) (λ p h. h))
 
     -- the wanted view's answer is the policy reference's
     pub view_is_policy : view_verdict (view_of dg R) a ≡ packet_verdict R a

@@ -4,21 +4,25 @@ use Rattle.std.specs.Prelude.{◌≡◌, ℕ, List, true, Some}
 use Rattle.std.specs.FinMap as maps
 use Rattle.fx_names.specs.Digests.{Digest}
 use Rattle.fx_model.specs.declared.ids.ItemKey.{ItemKey}
+use Rattle.fx_model.specs.declared.ids.PolicyId.{PolicyId}
+use Rattle.fx_model.specs.declared.policy.Policy.{Policy}
 use Rattle.fx_model.specs.declared.resources.Endpoint.{Endpoint}
 use Rattle.fx_model.specs.declared.resources.Profile.{Profile}
 use Rattle.fx_model.specs.declared.resources.Resources.{Resources}
-use Rattle.fx_model.specs.Formed.{is_formed_profile}
+use Rattle.fx_model.specs.Formed.{is_formed_profile, is_formed_policy}
 use Rattle.fx_model.specs.Policy.{is_workload}
 use Rattle.fx_model.specs.Resources.{is_served}
 use Rattle.fx_model.specs.ViewPolicy.{IsServable}
-use Rattle.fx_model.specs.Views.{is_active_profile, profile_key}
+use Rattle.fx_model.specs.Views.{is_active_profile, profile_key, policy_key}
 
--- served endpoints stand on workloads' interfaces, each on its own; the rules of profiles are formed, and the profiles that served
--- endpoints list have each its own key
+-- served endpoints stand on workloads' interfaces, each on its own; the rules of profiles and policies are formed; the profiles that
+-- served endpoints list have each its own key, and so have policies
 pub record IsServedApart (dg : Digest) (R : Resources) : Type 0 where
   pub rules : (name : List ℕ) (p : Profile) → maps.get R.profiles name ≡ Some p → is_formed_profile p ≡ true
   pub on_workloads : (k : ItemKey) (e : Endpoint) → maps.get R.endpoints k ≡ Some e → is_served R e ≡ true → is_workload e.iface ≡ true
   pub apart : (k l : ItemKey) (e f : Endpoint) → maps.get R.endpoints k ≡ Some e → maps.get R.endpoints l ≡ Some f → is_served R e ≡ true → is_served R f ≡ true → e.iface ≡ f.iface → k ≡ l
+  pub policies : (id : PolicyId) (p : Policy) → maps.get R.policies id ≡ Some p → is_formed_policy p ≡ true
+  pub policies_apart : (a b : PolicyId) (p q : Policy) → maps.get R.policies a ≡ Some p → maps.get R.policies b ≡ Some q → policy_key dg a ≡ policy_key dg b → a ≡ b
   pub keys_apart : (a b : List ℕ) → is_active_profile R a ≡ true → is_active_profile R b ≡ true → profile_key dg a ≡ profile_key dg b → a ≡ b
 
 -- whatever resources have that are read and whose updates are let through, however many endpoints run here

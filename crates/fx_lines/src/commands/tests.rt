@@ -23,10 +23,14 @@ fn answered_update(update: &Update) -> &'static str {
         Update::Put { key: _, item } => match item {
             Item::Profile(_) => "profile",
             Item::Endpoint(_) => "endpoint",
+            Item::Tier(_) => "tier",
+            Item::Policy(_) => "policy",
         },
         Update::Delete { key } => match key {
             Key::Profile { .. } => "no profile",
             Key::Item(_) => "no endpoint",
+            Key::Tier { .. } => "no tier",
+            Key::Policy(_) => "no policy",
         },
     }
 }
@@ -37,7 +41,8 @@ fn answered_fault(fault: &ReadFault) -> &'static str {
         ReadFault::MissingField { .. } => "missing field",
         ReadFault::BadField { .. } => "bad field",
         ReadFault::Memory => "memory",
-        ReadFault::Unsupported { .. }
+        ReadFault::BadSelector { .. }
+        | ReadFault::Unsupported { .. }
         | ReadFault::PortsWithoutProtocol { .. }
         | ReadFault::IcmpWithoutProtocol { .. }
         | ReadFault::PassInProfile { .. } => "another fault",

@@ -1,7 +1,7 @@
-//! Labels, activity and the view of a node with one endpoint. What is wanted follows from Calico's resource reference.
+//! Labels, activity, tiers and the view of a node with one endpoint. What is wanted follows from Calico's resource reference.
 use crate::{
-    Endpoint, Item, ItemKey, Key, Policy, Profile, Resources, Update, View, applies,
-    effective_labels, is_active, next_message, place_of, take_at, view_of,
+    Endpoint, Item, ItemKey, Key, Policy, PolicyId, Profile, Resources, Tier, Update, View,
+    ViewEndpoint, applies, effective_labels, is_active, next_message, place_of, take_at, view_of,
 };
 use fx_base::{Counter, Memory, NameKey, Seq, Text};
 use fx_names::{DigestFunction, DigestRule, Namer};
@@ -143,5 +143,94 @@ fn messages_lead_to_the_view(rt: HostRuntime) -> Result<(), Fail> {
         }
     }
     assert!(rt; sent == wanted);
+    Ok(())
+}
+
+// A tier and its order.
+const TIERS: [(&[u8], i64); 2] = [(b"late", 5), (b"early", 5)];
+
+// A policy's namespace, which is empty where it is global, its name, its tier and its order there.
+const POLICIES: [(&[u8], &[u8], &[u8], Option<i64>); 5] = [
+    (b"", b"d", b"nowhere", Some(1)),
+    (b"", b"c", b"late", None),
+    (b"", b"e", b"late", Some(-7)),
+    (b"a", b"z", b"early", Some(1)),
+    (b"a-b", b"c", b"early", Some(1)),
+];
+
+fn put_tier(alloc: Global, all: &mut Resources, name: &[u8], order: i64) -> Result<(), Fail> {
+    let name = Text::new(alloc, name)?;
+    let item = Item::Tier(Tier { order: Some(order) });
+    let key = Key::Tier { name };
+    all.apply(Update::Put { key, item })?;
+    Ok(())
+}
+
+fn policy_id(alloc: Global, ns: &[u8], name: &[u8]) -> Result<PolicyId, Fail> {
+    let name = Text::new(alloc, name)?;
+    if ns.is_empty() {
+        return Ok(PolicyId::Global { name });
+    }
+    let ns = Text::new(alloc, ns)?;
+    Ok(PolicyId::Namespaced { ns, name })
+}
+
+// Puts a policy on the packets to all.
+fn put_policy(
+    alloc: Global,
+    all: &mut Resources,
+    id: PolicyId,
+    tier: &[u8],
+    order: Option<i64>,
+) -> Result<(), Fail> {
+    let mut wanted = policy(alloc, b"all()")?;
+    wanted.tier = Text::new(alloc, tier)?;
+    wanted.order = order;
+    let item = Item::Policy(wanted);
+    let key = Key::Policy(id);
+    all.apply(Update::Put { key, item })?;
+    Ok(())
+}
+
+// The tiers of packets to the endpoint: each tier's name, and its policies' keys, each behind a mark.
+fn tiers_text(alloc: Global, endpoint: &ViewEndpoint) -> Result<Vec<u8>, Fail> {
+    let mut text = Vec::new(alloc);
+    for tier in endpoint.ingress.as_slice() {
+        text.extend_from_slice(tier.name.bytes())?;
+        for key in tier.policies.as_slice() {
+            text.push(b' ')?;
+            text.extend_from_slice(key.bytes())?;
+        }
+        text.push(b';')?;
+    }
+    Ok(text)
+}
+
+// Two tiers of one order, policies of one order, one without, and two namespaces of which one begins as the other.
+fn with_tiers(alloc: Global) -> Result<Resources, Fail> {
+    let mut all = filled(alloc)?;
+    for (name, order) in TIERS {
+        put_tier(alloc, &mut all, name, order)?;
+    }
+    for (ns, name, tier, order) in POLICIES {
+        let id = policy_id(alloc, ns, name)?;
+        put_policy(alloc, &mut all, id, tier, order)?;
+    }
+    Ok(all)
+}
+
+#[test]
+fn tiers_and_policies_stand_in_order(rt: HostRuntime) -> Result<(), Fail> {
+    let a = rt.alloc();
+    let view = view_of(a, &with_tiers(a)?, &Namer::new(Flat))?;
+    let endpoint = view
+        .endpoints
+        .get(&Text::new(a, b"cali1")?)
+        .ok_or("no endpoint")?;
+    let text = tiers_text(a, endpoint)?;
+    let want = b"early np/a-b/c np/a/z;late gnp/e gnp/c;nowhere gnp/d;".as_slice();
+    assert_eq!(rt; text.as_slice(), want);
+    assert!(rt; endpoint.egress.as_slice().is_empty());
+    assert_eq!(rt; view.policies.len(), 5);
     Ok(())
 }

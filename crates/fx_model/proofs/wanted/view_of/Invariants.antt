@@ -11,5 +11,5 @@ invariant-loop-key g l = record {
   sets : l.view.sets ≡ empty_view.sets;
   policies : l.view.policies ≡ empty_view.policies;
   profiles : extended l.view.profiles (map (profile_entry g.R.DigestRule.digest_of l.resources) (flat_map (λ x. x.1.profiles) (filter (λ x. is_served l.resources x.1) l.key-iterator))) ≡ (view_of g.R.DigestRule.digest_of l.resources).profiles;
-  endpoints : extended l.view.endpoints (map (endpoint_entry g.R.DigestRule.digest_of) (filter (λ x. is_served l.resources x.1) l.key-iterator)) ≡ (view_of g.R.DigestRule.digest_of l.resources).endpoints;
+  endpoints : extended l.view.endpoints (map (endpoint_entry g.R.DigestRule.digest_of l.resources) (filter (λ x. is_served l.resources x.1) l.key-iterator)) ≡ (view_of g.R.DigestRule.digest_of l.resources).endpoints;
 }

@@ -1,0 +1,10 @@
+//! The chains of endpoints as rules of iptables(8), and the names of chains.
+#![tactic(auto)]
+
+pub use endpoint::endpoint_chain;
+pub use names::{endpoint_name, policy_name, profile_name};
+
+mod endpoint;
+mod names;
+#[cfg(test)]
+mod tests;

@@ -1,0 +1,66 @@
+-- A namespace that is read holds no `/`, and may stand in a selector.
+use Rattle.std.proofs.Common.{◌≡◌, ℕ, List, [], ◌∷◌, Bool, true, false, ◌==◌, not, Ok, IfOk, refl, subst, arith}
+use Rattle.std.specs.Prelude.{codes}
+use Rattle.std.specs.List.{list_all}
+use Rattle.std.proofs.lemmas.Bool.{eqb-true, false≢true}
+use Rattle.std.proofs.lemmas.Bool.Decides.{nat_tests}
+use Rattle.serde_json.specs.Data.{Data}
+use Rattle.fx_selector.specs.Tree.{IsString}
+use Rattle.fx_selector.proofs.Literals.{string_test, literal_string}
+use Rattle.fx_model.specs.Formed.{is_formed_namespace}
+use Rattle.fx_json.specs.declared.names.NamespacedName.{NamespacedName}
+use Rattle.fx_json.specs.declared.texts.TextForm.TheVariants.{Namespace}
+use Rattle.fx_json.specs.Forms.{is_namespace_byte, has_length, is_namespace, text}
+use Rattle.fx_json.specs.Fields.{required, section}
+use Rattle.fx_json.specs.Names.{name_at, namespaced_name, namespaced_name_in}
+use Rattle.fx_json.proofs.FormedRules.{then-if, read-if, required-if, both, first_of, second_of, text-formed}
+
+pub all_pass : (p q : ℕ → Bool) → ((b : ℕ) → p b ≡ true → q b ≡ true) → (s : List ℕ) → list_all p s ≡ true → list_all q s ≡ true
+all_pass p q each [] e = refl
+all_pass p q each (b ∷ s) e =
+    both (q b) (list_all q s) (each b (first_of (p b) (list_all p s) e)) (all_pass p q each s (second_of (p b) (list_all p s) e))
+
+bytes_of : (s : List ℕ) → is_namespace s ≡ true → list_all is_namespace_byte s ≡ true
+bytes_of s e = second_of (has_length 1 63 s) (list_all is_namespace_byte s) e
+
+no_slash : (b : ℕ) → is_namespace_byte b ≡ true → not (b == 47) ≡ true
+no_slash b e = by (b == 47) refl
+  where
+    by : (t : Bool) → (b == 47) ≡ t → not t ≡ true
+    by true f = (let wrong : false ≡ true = subst (λ (c : ℕ). is_namespace_byte c ≡ true) (eqb-true b 47 f) e in absurd (false≢true wrong))
+    by false f = refl
+
+namespace-formed : (s : List ℕ) → is_namespace s ≡ true → is_formed_namespace s ≡ true
+namespace-formed s e = all_pass is_namespace_byte (λ b. not (b == 47)) no_slash s (bytes_of s e)
+
+plain_byte : (b : ℕ) → is_namespace_byte b ≡ true → string_test b ≡ true
+plain_byte b e = grind (arith, nat_tests)
+
+namespace-string : (s : List ℕ) → is_namespace s ≡ true → IsString s
+namespace-string s e = literal_string s (all_pass is_namespace_byte string_test plain_byte s (bytes_of s e))
+
+-- ---- of a name that was read
+
+abbrev IsNamespaced : NamespacedName → Type 0
+IsNamespaced named = is_namespace named.ns ≡ true
+
+namespaced_name-if : (path : List ℕ) (d : Data) → IfOk (namespaced_name path d) IsNamespaced
+unfolding namespaced_name
+namespaced_name-if path d =
+    then-if IsNamespaced (name_at path d) _ (λ name _.
+    then-if IsNamespaced (required (text Namespace) path (codes "namespace") d) _ (λ ns ns_read.
+    read-if (λ (s : List ℕ). is_namespace s ≡ true) (required (text Namespace) path (codes "namespace") d) ns (required-if (λ s. is_namespace s ≡ true) (text Namespace) (text-formed Namespace) path (codes "namespace") d) ns_read))
+
+namespaced_name_in-if : (d : Data) → IfOk (namespaced_name_in d) IsNamespaced
+unfolding namespaced_name_in
+namespaced_name_in-if d =
+    then-if IsNamespaced (section (codes "metadata") (codes "metadata") d) _ (λ metadata _. namespaced_name-if (codes "metadata") metadata)
+
+pub named-formed : (path : List ℕ) (d : Data) (named : NamespacedName) → namespaced_name path d ≡ Ok named → is_formed_namespace named.ns ≡ true
+named-formed path d named is = namespace-formed named.ns (read-if IsNamespaced (namespaced_name path d) named (namespaced_name-if path d) is)
+
+pub named_in-formed : (d : Data) (named : NamespacedName) → namespaced_name_in d ≡ Ok named → is_formed_namespace named.ns ≡ true
+named_in-formed d named is = namespace-formed named.ns (read-if IsNamespaced (namespaced_name_in d) named (namespaced_name_in-if d) is)
+
+pub named_in_string : (d : Data) (named : NamespacedName) → namespaced_name_in d ≡ Ok named → IsString named.ns
+named_in_string d named is = namespace-string named.ns (read-if IsNamespaced (namespaced_name_in d) named (namespaced_name_in-if d) is)

@@ -1,0 +1,15 @@
+pub mod Sorted
+pub mod Keyed
+pub mod SameKnown
+pub mod TierIndex
+pub mod PairLemmas
+pub mod ListLemmas
+pub mod Moves
+pub mod Placing
+pub mod RowLemmas
+pub mod OrderLemmas
+pub mod EndpointLemmas
+pub mod Keeping
+pub mod Resolving
+pub mod Examples
+pub mod Alone

@@ -1,0 +1,213 @@
+//! All that the node holds.
+ghost use Rattle.std.specs.Prelude.{◌≡◌, OnOk, true, false};
+ghost use Rattle.std.specs.FinMap as map;
+ghost use Rattle.fx_base.specs.Set as set;
+ghost use Rattle.fx_resolver.specs.Kept.{IsKeptState};
+ghost use Rattle.fx_resolver.specs.Resolved.{HaveOwnInterfaces};
+
+use crate::changes::{change_pair, change_policy, put_row, remove_row};
+use crate::inputs::Inputs;
+use crate::known::{KnownEndpoint, KnownPolicy};
+use crate::orders::change_order;
+use crate::rows::Rows;
+use fx_base::{Memory, Text};
+use fx_model::{ItemKey, Order, PolicyId, Tier, ViewSink};
+use std::alloc::Global;
+
+/// What the node is told, and what it makes of that.
+#[derive(Drop)]
+pub struct State {
+    pub inputs: Inputs,
+    pub rows: Rows,
+}
+
+impl State {
+    pub fn new(alloc: Global) -> State
+        ensures inputs { result.inputs
+            ≡ record { tiers = map.empty; policies = map.empty; endpoints = map.empty; pairs = set.empty } }
+        ensures kept { IsKeptState result }
+    {
+        State {
+            inputs: Inputs::new(alloc),
+            rows: Rows::new(alloc),
+        }
+    }
+
+    pub fn put_tier<S: ViewSink>(
+        &mut self,
+        alloc: Global,
+        name: &Text,
+        tier: Tier,
+        sink: &mut S,
+    ) -> Result<(), Memory>
+        requires kept { IsKeptState self.old }
+        requires sink { S.endpoints sink.old ≡ self.old.rows.told }
+        ensures inputs { OnOk result (self.new.inputs ≡ record self.old.inputs {
+          tiers = map.insert self.old.inputs.tiers name.now tier;
+        }) }
+        ensures kept { OnOk result (IsKeptState self.new) }
+        ensures endpoints { OnOk result (S.endpoints sink.new ≡ self.new.rows.told) }
+        ensures policies { OnOk result (S.policies sink.new ≡ S.policies sink.old) }
+        ensures profiles { OnOk result (S.profiles sink.new ≡ S.profiles sink.old) }
+    {
+        let after = Order::of_tier(Some(&tier));
+        change_order(alloc, &self.inputs, name, after, &mut self.rows, sink)?;
+        self.inputs.tiers.insert(name.clone()?, tier)?;
+        Ok(())
+    }
+
+    pub fn remove_tier<S: ViewSink>(
+        &mut self,
+        alloc: Global,
+        name: &Text,
+        sink: &mut S,
+    ) -> Result<(), Memory>
+        requires kept { IsKeptState self.old }
+        requires sink { S.endpoints sink.old ≡ self.old.rows.told }
+        ensures inputs { OnOk result (self.new.inputs ≡ record self.old.inputs {
+          tiers = map.remove self.old.inputs.tiers name.now;
+        }) }
+        ensures kept { OnOk result (IsKeptState self.new) }
+        ensures endpoints { OnOk result (S.endpoints sink.new ≡ self.new.rows.told) }
+        ensures policies { OnOk result (S.policies sink.new ≡ S.policies sink.old) }
+        ensures profiles { OnOk result (S.profiles sink.new ≡ S.profiles sink.old) }
+    {
+        let after = Order::of_tier(None);
+        change_order(alloc, &self.inputs, name, after, &mut self.rows, sink)?;
+        self.inputs.tiers.remove(name);
+        Ok(())
+    }
+
+    pub fn put_policy<S: ViewSink>(
+        &mut self,
+        alloc: Global,
+        id: &PolicyId,
+        policy: KnownPolicy,
+        sink: &mut S,
+    ) -> Result<(), Memory>
+        requires kept { IsKeptState self.old }
+        requires sink { S.endpoints sink.old ≡ self.old.rows.told }
+        ensures inputs { OnOk result (self.new.inputs ≡ record self.old.inputs {
+          policies = map.insert self.old.inputs.policies id.now policy;
+        }) }
+        ensures kept { OnOk result (IsKeptState self.new) }
+        ensures endpoints { OnOk result (S.endpoints sink.new ≡ self.new.rows.told) }
+        ensures policies { OnOk result (S.policies sink.new ≡ S.policies sink.old) }
+        ensures profiles { OnOk result (S.profiles sink.new ≡ S.profiles sink.old) }
+    {
+        let rows = &mut self.rows;
+        change_policy(alloc, &self.inputs, id, Some(&policy), rows, sink)?;
+        self.inputs.policies.put(id, policy)?;
+        Ok(())
+    }
+
+    pub fn remove_policy<S: ViewSink>(
+        &mut self,
+        alloc: Global,
+        id: &PolicyId,
+        sink: &mut S,
+    ) -> Result<(), Memory>
+        requires kept { IsKeptState self.old }
+        requires sink { S.endpoints sink.old ≡ self.old.rows.told }
+        ensures inputs { OnOk result (self.new.inputs ≡ record self.old.inputs {
+          policies = map.remove self.old.inputs.policies id.now;
+        }) }
+        ensures kept { OnOk result (IsKeptState self.new) }
+        ensures endpoints { OnOk result (S.endpoints sink.new ≡ self.new.rows.told) }
+        ensures policies { OnOk result (S.policies sink.new ≡ S.policies sink.old) }
+        ensures profiles { OnOk result (S.profiles sink.new ≡ S.profiles sink.old) }
+    {
+        change_policy(alloc, &self.inputs, id, None, &mut self.rows, sink)?;
+        self.inputs.policies.remove(id)?;
+        Ok(())
+    }
+
+    pub fn put_endpoint<S: ViewSink>(
+        &mut self,
+        alloc: Global,
+        item: &ItemKey,
+        endpoint: KnownEndpoint,
+        sink: &mut S,
+    ) -> Result<(), Memory>
+        requires apart { HaveOwnInterfaces (map.insert self.old.inputs.endpoints item.now endpoint) }
+        requires kept { IsKeptState self.old }
+        requires sink { S.endpoints sink.old ≡ self.old.rows.told }
+        ensures inputs { OnOk result (self.new.inputs ≡ record self.old.inputs {
+          endpoints = map.insert self.old.inputs.endpoints item.now endpoint;
+        }) }
+        ensures kept { OnOk result (IsKeptState self.new) }
+        ensures endpoints { OnOk result (S.endpoints sink.new ≡ self.new.rows.told) }
+        ensures policies { OnOk result (S.policies sink.new ≡ S.policies sink.old) }
+        ensures profiles { OnOk result (S.profiles sink.new ≡ S.profiles sink.old) }
+    {
+        put_row(alloc, &self.inputs, item, &endpoint, &mut self.rows, sink)?;
+        self.inputs.endpoints.insert(item.clone()?, endpoint)?;
+        Ok(())
+    }
+
+    pub fn remove_endpoint<S: ViewSink>(
+        &mut self,
+        item: &ItemKey,
+        sink: &mut S,
+    ) -> Result<(), Memory>
+        requires kept { IsKeptState self.old }
+        requires sink { S.endpoints sink.old ≡ self.old.rows.told }
+        ensures inputs { OnOk result (self.new.inputs ≡ record self.old.inputs {
+          endpoints = map.remove self.old.inputs.endpoints item.now;
+        }) }
+        ensures kept { OnOk result (IsKeptState self.new) }
+        ensures endpoints { OnOk result (S.endpoints sink.new ≡ self.new.rows.told) }
+        ensures policies { OnOk result (S.policies sink.new ≡ S.policies sink.old) }
+        ensures profiles { OnOk result (S.profiles sink.new ≡ S.profiles sink.old) }
+    {
+        remove_row(&self.inputs, item, &mut self.rows, sink)?;
+        self.inputs.endpoints.remove(item);
+        Ok(())
+    }
+
+    pub fn add_pair<S: ViewSink>(
+        &mut self,
+        alloc: Global,
+        id: &PolicyId,
+        item: &ItemKey,
+        sink: &mut S,
+    ) -> Result<(), Memory>
+        requires absent { set.contains self.old.inputs.pairs (id.now, item.now) ≡ false }
+        requires kept { IsKeptState self.old }
+        requires sink { S.endpoints sink.old ≡ self.old.rows.told }
+        ensures inputs { OnOk result (self.new.inputs ≡ record self.old.inputs {
+          pairs = set.insert self.old.inputs.pairs (id.now, item.now);
+        }) }
+        ensures kept { OnOk result (IsKeptState self.new) }
+        ensures endpoints { OnOk result (S.endpoints sink.new ≡ self.new.rows.told) }
+        ensures policies { OnOk result (S.policies sink.new ≡ S.policies sink.old) }
+        ensures profiles { OnOk result (S.profiles sink.new ≡ S.profiles sink.old) }
+    {
+        change_pair(alloc, &self.inputs, id, item, true, &mut self.rows, sink)?;
+        self.inputs.pairs.insert(id, item)?;
+        Ok(())
+    }
+
+    pub fn remove_pair<S: ViewSink>(
+        &mut self,
+        alloc: Global,
+        id: &PolicyId,
+        item: &ItemKey,
+        sink: &mut S,
+    ) -> Result<(), Memory>
+        requires present { set.contains self.old.inputs.pairs (id.now, item.now) ≡ true }
+        requires kept { IsKeptState self.old }
+        requires sink { S.endpoints sink.old ≡ self.old.rows.told }
+        ensures inputs { OnOk result (self.new.inputs ≡ record self.old.inputs {
+          pairs = set.remove self.old.inputs.pairs (id.now, item.now);
+        }) }
+        ensures kept { OnOk result (IsKeptState self.new) }
+        ensures endpoints { OnOk result (S.endpoints sink.new ≡ self.new.rows.told) }
+        ensures policies { OnOk result (S.policies sink.new ≡ S.policies sink.old) }
+        ensures profiles { OnOk result (S.profiles sink.new ≡ S.profiles sink.old) }
+    {
+        change_pair(alloc, &self.inputs, id, item, false, &mut self.rows, sink)?;
+        self.inputs.pairs.remove(id, item)?;
+        Ok(())
+    }
+}
