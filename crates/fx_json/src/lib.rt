@@ -22,7 +22,5 @@ mod resources;
 mod rules;
 mod selectors;
 mod sides;
-#[cfg(test)]
-mod tests;
 mod texts;
 mod values;

@@ -42,8 +42,6 @@ mod policy_pairs;
 mod resources;
 mod rules;
 mod sinks;
-#[cfg(test)]
-mod tests;
 mod tier_order;
 mod view;
 mod view_rule;

@@ -22,8 +22,6 @@ mod node;
 mod rewriting;
 mod selector;
 mod strings;
-#[cfg(test)]
-mod tests;
 mod tokens;
 mod truth;
 mod whole;

@@ -1,6 +1,6 @@
 //! Rows are typed by hand from the language's public grammar.
-use crate::{Labels, Selector, SelectorFault};
 use fx_base::{Counter, Memory, Text};
+use fx_selector::{Labels, Selector, SelectorFault};
 use std::alloc::{AllocError, Global};
 use std::test::Fail;
 

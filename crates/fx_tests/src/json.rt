@@ -1,4 +1,4 @@
-use crate::{ReadFault, read_delete, read_packet, read_resource};
+use fx_json::{ReadFault, read_delete, read_packet, read_resource};
 use fx_model::{Item, Policy, Update};
 use serde_json::Value;
 use std::alloc::Global;

@@ -1,9 +1,9 @@
 //! Labels, activity, tiers and the view of a node with one endpoint. What is wanted follows from Calico's resource reference.
-use crate::{
+use fx_base::{Counter, Memory, NameKey, Seq, Text};
+use fx_model::{
     Endpoint, Item, ItemKey, Key, Policy, PolicyId, Profile, Resources, Tier, Update, View,
     ViewEndpoint, applies, effective_labels, is_active, next_message, place_of, take_at, view_of,
 };
-use fx_base::{Counter, Memory, NameKey, Seq, Text};
 use fx_names::{DigestFunction, DigestRule, Namer};
 use fx_selector::{Labels, Selector};
 use std::alloc::Global;

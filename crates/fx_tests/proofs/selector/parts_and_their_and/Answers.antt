@@ -1,7 +1,7 @@
 use Rattle.std.proofs.Common.{[], ◌∷◌, refl, lit<}
 use Rattle.fx_selector.specs.Tree.{AreStrings}
 use Rattle.fx_selector.proofs.Literals.{literal_key, literal_string}
-use Rattle.fx_selector.proofs.tests.parts_and_their_and.Goals as goal
+use Rattle.fx_tests.proofs.selector.parts_and_their_and.Goals as goal
 
 pub equal-requires-clause-key : goal.equal-requires-clause-key
 equal-requires-clause-key g c = literal_key (107 ∷ []) refl (lit< tt)

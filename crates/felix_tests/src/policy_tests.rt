@@ -1,8 +1,8 @@
 //! Which policy decides a packet, from the bytes in to the bytes out, each packet by a run of its own.
-use crate::Status;
 use crate::policy_rows::ROWS;
 use crate::rule_tests::push;
-use crate::tests::replayed;
+use crate::run_tests::replayed;
+use felix_replay::Status;
 use std::alloc::Global;
 use std::test::Fail;
 

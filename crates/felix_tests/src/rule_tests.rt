@@ -1,7 +1,7 @@
 //! What becomes of packets under a profile's rule, from the bytes in to the bytes out, each packet by a run of its own.
-use crate::Status;
 use crate::rule_rows::ROWS;
-use crate::tests::replayed;
+use crate::run_tests::replayed;
+use felix_replay::Status;
 use std::alloc::Global;
 use std::test::Fail;
 

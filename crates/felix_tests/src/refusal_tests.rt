@@ -1,7 +1,7 @@
 //! Lines and their refusals, each line by a run of its own.
-use crate::Status;
 use crate::refusal_rows::ROWS;
-use crate::tests::replayed;
+use crate::run_tests::replayed;
+use felix_replay::Status;
 use std::alloc::Global;
 use std::test::Fail;
 

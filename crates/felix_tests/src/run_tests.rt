@@ -1,6 +1,6 @@
 //! Whole runs, from the bytes of a source to the bytes of a sink.
 use crate::run_rows::RUNS;
-use crate::{Status, felix_replay};
+use felix_replay::{Status, felix_replay};
 use fx_base::{MemSink, MemSource, SureSource, Text};
 use fx_names::{Namer, PlainRule};
 use std::alloc::Global;

@@ -1,0 +1,19 @@
+//! The tests of `felix_replay`. They stand beside it, as a crate's own tests prove all its functions again.
+#![tactic(auto)]
+
+#[cfg(test)]
+mod policy_rows;
+#[cfg(test)]
+mod policy_tests;
+#[cfg(test)]
+mod refusal_rows;
+#[cfg(test)]
+mod refusal_tests;
+#[cfg(test)]
+mod rule_rows;
+#[cfg(test)]
+mod rule_tests;
+#[cfg(test)]
+mod run_rows;
+#[cfg(test)]
+mod run_tests;

@@ -1,0 +1,9 @@
+//! The tests of `fx_selector`, `fx_model` and `fx_json`. They stand beside these crates, as a crate's own tests prove all its functions again.
+#![tactic(auto)]
+
+#[cfg(test)]
+mod json;
+#[cfg(test)]
+mod model;
+#[cfg(test)]
+mod selector;
