@@ -9,6 +9,8 @@ use Rattle.fx_model.specs.declared.view.ViewPolicy.{ViewPolicy}
 use Rattle.fx_model.specs.declared.view.ViewProfile.{ViewProfile}
 use Rattle.fx_model.specs.Closed.{IsClosedView}
 use Rattle.fx_model.specs.Formed.{are_formed, have_workload_interfaces, is_formed_view}
+use Rattle.fx_model.specs.Messages.{Members}
+use Rattle.fx_model.specs.Shapes.{AreOfKinds}
 use Rattle.fx_model.specs.Views.{empty_view}
 use Rattle.fx_model.specs.contracts.ids.ItemKeyOrd.TheImpl as item_cmp
 use Rattle.fx_model.specs.contracts.ids.PolicyIdOrd.TheImpl as policy_cmp
@@ -30,6 +32,12 @@ empty_view-closed = record {
   policies = λ d key p is. no_policy p (sym (get_empty key) ∙ is);
   profiles = λ d key p is. no_profile p (sym (get_empty key) ∙ is);
 }
+
+no_set : {A : Type 0} (ms : Members) → None ≡ Some ms → A
+no_set ms is = cc
+
+pub empty_view-kinds : AreOfKinds empty_view.sets
+empty_view-kinds name ms is = no_set ms (sym (get_empty name) ∙ is)
 
 pub empty_view-formed : is_formed_view empty_view ≡ true
 empty_view-formed = rw (entries-empty (slice_cmp nat_cmp), entries-empty (slice_cmp nat_cmp)) refl

@@ -1,4 +1,5 @@
 pub mod Writing
+pub mod SetWriting
 pub mod Runs
 pub mod SendingLemmas
 pub mod Writings

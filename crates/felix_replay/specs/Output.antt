@@ -58,6 +58,7 @@ is_second_local R (update.Put (key.Item k) (item.Endpoint e)) = is_local R e && 
 is_second_local R (update.Put (key.Item k) (item.Profile p)) = false
 is_second_local R (update.Put (key.Item k) (item.Tier t)) = false
 is_second_local R (update.Put (key.Item k) (item.Policy p)) = false
+is_second_local R (update.Put (key.Item k) (item.NetSet s)) = false
 is_second_local R (update.Put (key.Profile name) x) = false
 is_second_local R (update.Put (key.Tier name) x) = false
 is_second_local R (update.Put (key.Policy id) x) = false

@@ -5,10 +5,12 @@ ghost use Rattle.std.specs.FinMap as maps;
 ghost use Rattle.fx_base.specs.Extended.{extended};
 ghost use Rattle.fx_model.specs.Closed.{IsClosedView};
 ghost use Rattle.fx_model.specs.Formed.{is_formed_view, is_formed_view_endpoint, is_formed_view_profile};
+ghost use Rattle.fx_model.specs.Shapes.{AreOfKinds};
 ghost use Rattle.fx_model.specs.Tables.{tables_of, policy_chains, profile_chains, endpoint_chains, dispatch_chains};
 ghost use Rattle.fx_model.specs.Writing.{CanBeWritten};
 
 use crate::chains::{dispatch_chain, forward_chain, forward_name, root_name};
+use crate::sets::write_sets;
 use fx_base::{Memory, NameKey, NameMap, Text, TextMap};
 use fx_chains::{endpoint_chain, endpoint_name, policy_name, profile_name};
 use fx_model::{View, ViewEndpoint, ViewPolicy, ViewProfile};
@@ -16,15 +18,16 @@ use fx_rules::{policy_chain, profile_chain};
 use fx_tables::Tables;
 use std::alloc::Global;
 
-/// The tables of a view that is closed. Each chain is written behind those that it leads to, so that every single
-/// operation leaves closed tables.
+/// The tables of a view that is closed. Sets come first, and each chain is written behind those that it leads to, so that every
+/// single operation leaves closed tables.
 pub fn tables_of(alloc: Global, view: &View) -> Result<Tables, Memory>
     requires closed { IsClosedView view.now }
     requires formed { is_formed_view view.now ≡ true }
-    requires no_sets { view.now.sets ≡ maps.empty }
+    requires kinds { AreOfKinds view.now.sets }
     ensures { IfOk result (λ tables. tables ≡ tables_of view.now) }
 {
     let mut tables = Tables::new(alloc);
+    write_sets(&view.sets, &mut tables)?;
     write_policies(alloc, &view.policies, &mut tables)?;
     write_profiles(alloc, &view.profiles, &mut tables)?;
     write_endpoints(alloc, &view.endpoints, &mut tables)?;

@@ -8,5 +8,6 @@ mod driver;
 mod engine;
 mod run_fault;
 mod sending;
+mod sets;
 mod top;
 mod words;

@@ -17,3 +17,7 @@ mod rule_tests;
 mod run_rows;
 #[cfg(test)]
 mod run_tests;
+#[cfg(test)]
+mod set_rows;
+#[cfg(test)]
+mod word_tests;

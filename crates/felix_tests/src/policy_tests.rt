@@ -1,7 +1,7 @@
 //! Which policy decides a packet, from the bytes in to the bytes out, each packet by a run of its own.
-use crate::policy_rows::ROWS;
 use crate::rule_tests::push;
 use crate::run_tests::replayed;
+use crate::{policy_rows, set_rows};
 use felix_replay::Status;
 use std::alloc::Global;
 use std::test::Fail;
@@ -32,18 +32,29 @@ fn answer(alloc: Global, why: &str, verdict: &str) -> Result<Vec<u8>, Fail> {
     Ok(want)
 }
 
+// Whether a row's packet is decided as it says.
+fn is_decided(alloc: Global, row: &str) -> Result<bool, Fail> {
+    let (_title, rest) = row.split_once(" => ").ok_or("no title")?;
+    let (resources, rest) = rest.split_once(" => ").ok_or("no resources")?;
+    let (packet, rest) = rest.split_once(" => ").ok_or("no packet")?;
+    let (why, verdict) = rest.split_once(" => ").ok_or("no reason")?;
+    let (status, held) = replayed(alloc, lines(alloc, resources, packet)?)?;
+    let want = answer(alloc, why, verdict)?;
+    Ok(held.ends_with(&want) && status == Status::Done)
+}
+
 #[test]
 fn policies_decide_in_their_order(rt: HostRuntime) -> Result<(), Fail> {
-    let alloc = rt.alloc();
-    for row in ROWS.lines() {
-        let (title, rest) = row.split_once(" => ").ok_or("no title")?;
-        let (resources, rest) = rest.split_once(" => ").ok_or("no resources")?;
-        let (packet, rest) = rest.split_once(" => ").ok_or("no packet")?;
-        let (why, verdict) = rest.split_once(" => ").ok_or("no reason")?;
-        let (status, held) = replayed(alloc, lines(alloc, resources, packet)?)?;
-        let want = answer(alloc, why, verdict)?;
-        assert!(rt; held.ends_with(&want), "{title}");
-        assert_eq!(rt; status, Status::Done, "{title}");
+    for row in policy_rows::ROWS.lines() {
+        assert!(rt; is_decided(rt.alloc(), row)?, "{row}");
+    }
+    Ok(())
+}
+
+#[test]
+fn sides_mean_what_they_select(rt: HostRuntime) -> Result<(), Fail> {
+    for row in set_rows::ROWS.lines() {
+        assert!(rt; is_decided(rt.alloc(), row)?, "{row}");
     }
     Ok(())
 }

@@ -14,13 +14,13 @@ pub const ROWS: &str = r##"# lines
 {"put":{"apiVersion":"projectcalico.org/v3","kind":"profile","metadata":{"name":"p"},"spec":{}}} => refused 1 1 UnknownKind
 {"put":{"apiVersion":"projectcalico.org/v1","kind":"Profile","metadata":{"name":"p"},"spec":{}}} => refused 1 1 UnknownKind
 {"put":{"apiVersion":"v1","kind":"Profile","metadata":{"name":"p"},"spec":{}}} => refused 1 1 UnknownKind
-{"put":{"apiVersion":"projectcalico.org/v3","kind":"NetworkSet","metadata":[],"spec":[]}} => refused 1 5 Unsupported kind
+{"put":{"apiVersion":"projectcalico.org/v3","kind":"NetworkSet","metadata":[],"spec":[]}} => refused 1 3 BadField metadata
 {"put":{"apiVersion":"networking.k8s.io/v1","kind":"NetworkPolicy","metadata":{"name":"p"},"spec":{}}} => refused 1 5 Unsupported kind
 {"put":{"apiVersion":"v1","kind":"NetworkPolicy","metadata":{"name":"p"},"spec":{}}} => refused 1 1 UnknownKind
 {"put":{"apiVersion":"v1","kind":"Namespace","metadata":{"name":"p"},"spec":{}}} => refused 1 5 Unsupported kind
 {"delete":{"apiVersion":"v1","kind":"ServiceAccount","metadata":{}}} => refused 1 5 Unsupported kind
-{"delete":{"apiVersion":"projectcalico.org/v3","kind":"NetworkSet","metadata":{}}} => refused 1 5 Unsupported kind
-{"delete":{"apiVersion":"projectcalico.org/v3","kind":"GlobalNetworkSet","metadata":{}}} => refused 1 5 Unsupported kind
+{"delete":{"apiVersion":"projectcalico.org/v3","kind":"NetworkSet","metadata":{}}} => refused 1 2 MissingField metadata.name
+{"delete":{"apiVersion":"projectcalico.org/v3","kind":"GlobalNetworkSet","metadata":{}}} => refused 1 2 MissingField metadata.name
 {"delete":{"apiVersion":"projectcalico.org/v3","kind":"HostEndpoint","metadata":{}}} => refused 1 1 UnknownKind
 # names and namespaces
 {"put":{"apiVersion":"projectcalico.org/v3","kind":"Tier","metadata":[],"spec":[]}} => refused 1 3 BadField metadata
@@ -171,25 +171,25 @@ pub const ROWS: &str = r##"# lines
 {"put":{"apiVersion":"projectcalico.org/v3","kind":"Profile","metadata":{"name":"p"},"spec":{"ingress":[{"action":"Allow","source":{"selector":null}}]}}}
 {"put":{"apiVersion":"projectcalico.org/v3","kind":"Profile","metadata":{"name":"p"},"spec":{"ingress":[{"action":"Allow","source":{"selector":""}}]}}}
 {"put":{"apiVersion":"projectcalico.org/v3","kind":"Profile","metadata":{"name":"p"},"spec":{"ingress":[{"action":"Allow","source":{"selector":7}}]}}} => refused 1 3 BadField spec.ingress[0].source.selector
-{"put":{"apiVersion":"projectcalico.org/v3","kind":"Profile","metadata":{"name":"p"},"spec":{"ingress":[{"action":"Allow","source":{"selector":"all()"}}]}}} => refused 1 5 Unsupported spec.ingress[0].source.selector
+{"put":{"apiVersion":"projectcalico.org/v3","kind":"Profile","metadata":{"name":"p"},"spec":{"ingress":[{"action":"Allow","source":{"selector":"all()"}}]}}}
 {"put":{"apiVersion":"projectcalico.org/v3","kind":"Profile","metadata":{"name":"p"},"spec":{"ingress":[{"action":"Allow","source":{"notSelector":null}}]}}}
 {"put":{"apiVersion":"projectcalico.org/v3","kind":"Profile","metadata":{"name":"p"},"spec":{"ingress":[{"action":"Allow","source":{"notSelector":""}}]}}}
 {"put":{"apiVersion":"projectcalico.org/v3","kind":"Profile","metadata":{"name":"p"},"spec":{"ingress":[{"action":"Allow","source":{"notSelector":7}}]}}} => refused 1 3 BadField spec.ingress[0].source.notSelector
-{"put":{"apiVersion":"projectcalico.org/v3","kind":"Profile","metadata":{"name":"p"},"spec":{"ingress":[{"action":"Allow","source":{"notSelector":"all()"}}]}}} => refused 1 5 Unsupported spec.ingress[0].source.notSelector
+{"put":{"apiVersion":"projectcalico.org/v3","kind":"Profile","metadata":{"name":"p"},"spec":{"ingress":[{"action":"Allow","source":{"notSelector":"all()"}}]}}}
 {"put":{"apiVersion":"projectcalico.org/v3","kind":"Profile","metadata":{"name":"p"},"spec":{"ingress":[{"action":"Allow","source":{"namespaceSelector":null}}]}}}
 {"put":{"apiVersion":"projectcalico.org/v3","kind":"Profile","metadata":{"name":"p"},"spec":{"ingress":[{"action":"Allow","source":{"namespaceSelector":""}}]}}}
 {"put":{"apiVersion":"projectcalico.org/v3","kind":"Profile","metadata":{"name":"p"},"spec":{"ingress":[{"action":"Allow","source":{"namespaceSelector":7}}]}}} => refused 1 3 BadField spec.ingress[0].source.namespaceSelector
-{"put":{"apiVersion":"projectcalico.org/v3","kind":"Profile","metadata":{"name":"p"},"spec":{"ingress":[{"action":"Allow","source":{"namespaceSelector":"all()"}}]}}} => refused 1 5 Unsupported spec.ingress[0].source.namespaceSelector
-{"put":{"apiVersion":"projectcalico.org/v3","kind":"Profile","metadata":{"name":"p"},"spec":{"ingress":[{"action":"Allow","source":{"selector":" "}}]}}} => refused 1 5 Unsupported spec.ingress[0].source.selector
-{"put":{"apiVersion":"projectcalico.org/v3","kind":"Profile","metadata":{"name":"p"},"spec":{"ingress":[{"action":"Allow","source":{"selector":"foo("}}]}}} => refused 1 5 Unsupported spec.ingress[0].source.selector
+{"put":{"apiVersion":"projectcalico.org/v3","kind":"Profile","metadata":{"name":"p"},"spec":{"ingress":[{"action":"Allow","source":{"namespaceSelector":"all()"}}]}}}
+{"put":{"apiVersion":"projectcalico.org/v3","kind":"Profile","metadata":{"name":"p"},"spec":{"ingress":[{"action":"Allow","source":{"selector":" "}}]}}}
+{"put":{"apiVersion":"projectcalico.org/v3","kind":"Profile","metadata":{"name":"p"},"spec":{"ingress":[{"action":"Allow","source":{"selector":"foo("}}]}}} => refused 1 4 BadSelector spec.ingress[0].source.selector 3
 {"put":{"apiVersion":"projectcalico.org/v3","kind":"Profile","metadata":{"name":"p"},"spec":{"ingress":[{"action":"Allow","source":{"serviceAccounts":{}}}]}}}
 {"put":{"apiVersion":"projectcalico.org/v3","kind":"Profile","metadata":{"name":"p"},"spec":{"ingress":[{"action":"Allow","source":{"serviceAccounts":{"names":null,"selector":""}}}]}}}
 {"put":{"apiVersion":"projectcalico.org/v3","kind":"Profile","metadata":{"name":"p"},"spec":{"ingress":[{"action":"Allow","source":{"serviceAccounts":[]}}]}}} => refused 1 3 BadField spec.ingress[0].source.serviceAccounts
 {"put":{"apiVersion":"projectcalico.org/v3","kind":"Profile","metadata":{"name":"p"},"spec":{"ingress":[{"action":"Allow","source":{"serviceAccounts":"a"}}]}}} => refused 1 3 BadField spec.ingress[0].source.serviceAccounts
-{"put":{"apiVersion":"projectcalico.org/v3","kind":"Profile","metadata":{"name":"p"},"spec":{"ingress":[{"action":"Allow","source":{"serviceAccounts":{"names":["a"]}}}]}}} => refused 1 5 Unsupported spec.ingress[0].source.serviceAccounts
-{"put":{"apiVersion":"projectcalico.org/v3","kind":"Profile","metadata":{"name":"p"},"spec":{"ingress":[{"action":"Allow","source":{"serviceAccounts":{"selector":"all()"}}}]}}} => refused 1 5 Unsupported spec.ingress[0].source.serviceAccounts
+{"put":{"apiVersion":"projectcalico.org/v3","kind":"Profile","metadata":{"name":"p"},"spec":{"ingress":[{"action":"Allow","source":{"serviceAccounts":{"names":["a"]}}}]}}}
+{"put":{"apiVersion":"projectcalico.org/v3","kind":"Profile","metadata":{"name":"p"},"spec":{"ingress":[{"action":"Allow","source":{"serviceAccounts":{"selector":"all()"}}}]}}}
 {"put":{"apiVersion":"projectcalico.org/v3","kind":"Profile","metadata":{"name":"p"},"spec":{"ingress":[{"action":"Allow","source":{"namespaceSelector":"all()","notSelector":7,"nets":["10.0.0.0/8"]}}]}}} => refused 1 3 BadField spec.ingress[0].source.notSelector
-{"put":{"apiVersion":"projectcalico.org/v3","kind":"Profile","metadata":{"name":"p"},"spec":{"ingress":[{"action":"Allow","source":{"selector":"all()","ports":[80]}}]}}} => refused 1 5 Unsupported spec.ingress[0].source.selector
+{"put":{"apiVersion":"projectcalico.org/v3","kind":"Profile","metadata":{"name":"p"},"spec":{"ingress":[{"action":"Allow","source":{"selector":"all()","ports":[80]}}]}}} => refused 1 6 PortsWithoutProtocol spec.ingress[0].source.ports
 # ports of sides
 {"put":{"apiVersion":"projectcalico.org/v3","kind":"Profile","metadata":{"name":"p"},"spec":{"ingress":[{"action":"Allow","source":{"ports":[]}}]}}}
 {"put":{"apiVersion":"projectcalico.org/v3","kind":"Profile","metadata":{"name":"p"},"spec":{"ingress":[{"action":"Allow","source":{"ports":{}}}]}}} => refused 1 3 BadField spec.ingress[0].source.ports
@@ -220,13 +220,13 @@ pub const ROWS: &str = r##"# lines
 {"put":{"apiVersion":"projectcalico.org/v3","kind":"Profile","metadata":{"name":"p"},"spec":{"ingress":[{"action":"Allow","protocol":"TCP","source":{"ports":[80,"a b"]}}]}}} => refused 1 3 BadField spec.ingress[0].source.ports[1]
 {"put":{"apiVersion":"projectcalico.org/v3","kind":"Profile","metadata":{"name":"p"},"spec":{"ingress":[{"action":"Allow","protocol":"TCP","source":{"ports":[80,"aaaaaaaaaaaaaaaaaaaaaaaaaaaaaaaaaaaaaaaaaaaaaaaaaaaaaaaaaaaaaaaaaaaaaaaaaaaaaaaaaaaaaaaaaaaaaaaaaaaaaaaaaaaaaaaaaaaaaaaaaaaaaaaaa"]}}]}}} => refused 1 3 BadField spec.ingress[0].source.ports[1]
 {"put":{"apiVersion":"projectcalico.org/v3","kind":"Profile","metadata":{"name":"p"},"spec":{"ingress":[{"action":"Allow","protocol":"TCP","source":{"ports":[80,"80:http"]}}]}}} => refused 1 3 BadField spec.ingress[0].source.ports[1]
-{"put":{"apiVersion":"projectcalico.org/v3","kind":"Profile","metadata":{"name":"p"},"spec":{"ingress":[{"action":"Allow","protocol":"TCP","source":{"ports":["http"]}}]}}} => refused 1 5 Unsupported spec.ingress[0].source.ports[0]
-{"put":{"apiVersion":"projectcalico.org/v3","kind":"Profile","metadata":{"name":"p"},"spec":{"ingress":[{"action":"Allow","protocol":"TCP","source":{"ports":["8o"]}}]}}} => refused 1 5 Unsupported spec.ingress[0].source.ports[0]
-{"put":{"apiVersion":"projectcalico.org/v3","kind":"Profile","metadata":{"name":"p"},"spec":{"ingress":[{"action":"Allow","protocol":"TCP","source":{"ports":["-"]}}]}}} => refused 1 5 Unsupported spec.ingress[0].source.ports[0]
-{"put":{"apiVersion":"projectcalico.org/v3","kind":"Profile","metadata":{"name":"p"},"spec":{"ingress":[{"action":"Allow","protocol":"TCP","source":{"ports":["1.2"]}}]}}} => refused 1 5 Unsupported spec.ingress[0].source.ports[0]
-{"put":{"apiVersion":"projectcalico.org/v3","kind":"Profile","metadata":{"name":"p"},"spec":{"ingress":[{"action":"Allow","protocol":"TCP","source":{"ports":["aaaaaaaaaaaaaaaaaaaaaaaaaaaaaaaaaaaaaaaaaaaaaaaaaaaaaaaaaaaaaaaaaaaaaaaaaaaaaaaaaaaaaaaaaaaaaaaaaaaaaaaaaaaaaaaaaaaaaaaaaaaaaaaa"]}}]}}} => refused 1 5 Unsupported spec.ingress[0].source.ports[0]
+{"put":{"apiVersion":"projectcalico.org/v3","kind":"Profile","metadata":{"name":"p"},"spec":{"ingress":[{"action":"Allow","protocol":"TCP","source":{"ports":["http"]}}]}}}
+{"put":{"apiVersion":"projectcalico.org/v3","kind":"Profile","metadata":{"name":"p"},"spec":{"ingress":[{"action":"Allow","protocol":"TCP","source":{"ports":["8o"]}}]}}}
+{"put":{"apiVersion":"projectcalico.org/v3","kind":"Profile","metadata":{"name":"p"},"spec":{"ingress":[{"action":"Allow","protocol":"TCP","source":{"ports":["-"]}}]}}}
+{"put":{"apiVersion":"projectcalico.org/v3","kind":"Profile","metadata":{"name":"p"},"spec":{"ingress":[{"action":"Allow","protocol":"TCP","source":{"ports":["1.2"]}}]}}}
+{"put":{"apiVersion":"projectcalico.org/v3","kind":"Profile","metadata":{"name":"p"},"spec":{"ingress":[{"action":"Allow","protocol":"TCP","source":{"ports":["aaaaaaaaaaaaaaaaaaaaaaaaaaaaaaaaaaaaaaaaaaaaaaaaaaaaaaaaaaaaaaaaaaaaaaaaaaaaaaaaaaaaaaaaaaaaaaaaaaaaaaaaaaaaaaaaaaaaaaaaaaaaaaaa"]}}]}}}
 {"put":{"apiVersion":"projectcalico.org/v3","kind":"Profile","metadata":{"name":"p"},"spec":{"ingress":[{"action":"Allow","protocol":"TCP","source":{"notPorts":[1,2,"3:4","5:4"]}}]}}} => refused 1 3 BadField spec.ingress[0].source.notPorts[3]
-{"put":{"apiVersion":"projectcalico.org/v3","kind":"Profile","metadata":{"name":"p"},"spec":{"ingress":[{"action":"Allow","protocol":"TCP","destination":{"notPorts":["x"]}}]}}} => refused 1 5 Unsupported spec.ingress[0].destination.notPorts[0]
+{"put":{"apiVersion":"projectcalico.org/v3","kind":"Profile","metadata":{"name":"p"},"spec":{"ingress":[{"action":"Allow","protocol":"TCP","destination":{"notPorts":["x"]}}]}}}
 {"put":{"apiVersion":"projectcalico.org/v3","kind":"Profile","metadata":{"name":"p"},"spec":{"ingress":[{"action":"Allow","protocol":"TCP","source":{"notPorts":[70000]},"destination":5}]}}} => refused 1 3 BadField spec.ingress[0].source.notPorts[0]
 # what a rule may not have yet
 {"put":{"apiVersion":"projectcalico.org/v3","kind":"Profile","metadata":{"name":"p"},"spec":{"ingress":[{"action":"Allow","source":{"services":null}}]}}}
@@ -343,7 +343,7 @@ pub const ROWS: &str = r##"# lines
 {"put":{"apiVersion":"projectcalico.org/v3","kind":"GlobalNetworkPolicy","metadata":{"name":"x"},"spec":{"ingress":[{"action":"Pass"}],"egress":[{"action":"Log"},{"action":"Pass"}]}}}
 {"put":{"apiVersion":"projectcalico.org/v3","kind":"GlobalNetworkPolicy","metadata":{"name":"x"},"spec":{"ingress":[{"action":"Allow","destination":{"ports":[80]}}]}}} => refused 1 6 PortsWithoutProtocol spec.ingress[0].destination.ports
 {"put":{"apiVersion":"projectcalico.org/v3","kind":"GlobalNetworkPolicy","metadata":{"name":"x"},"spec":{"types":["Egress"],"ingress":[{"action":"Allow","icmp":{"type":8}}]}}} => refused 1 7 IcmpWithoutProtocol spec.ingress[0].icmp
-{"put":{"apiVersion":"projectcalico.org/v3","kind":"GlobalNetworkPolicy","metadata":{"name":"x"},"spec":{"egress":[{"action":"Pass","source":{"selector":"all()"}}]}}} => refused 1 5 Unsupported spec.egress[0].source.selector
+{"put":{"apiVersion":"projectcalico.org/v3","kind":"GlobalNetworkPolicy","metadata":{"name":"x"},"spec":{"egress":[{"action":"Pass","source":{"selector":"all()"}}]}}}
 {"put":{"apiVersion":"projectcalico.org/v3","kind":"GlobalNetworkPolicy","metadata":{"name":"x"},"spec":{"egress":[{"action":"Next"}],"doNotTrack":true}}} => refused 1 3 BadField spec.egress[0].action
 {"put":{"apiVersion":"projectcalico.org/v3","kind":"GlobalNetworkPolicy","metadata":{"name":"x"},"spec":{"doNotTrack":true,"preDNAT":7}}} => refused 1 5 Unsupported spec.doNotTrack
 {"put":{"apiVersion":"projectcalico.org/v3","kind":"GlobalNetworkPolicy","metadata":{"name":"x"},"spec":{"doNotTrack":"false"}}} => refused 1 3 BadField spec.doNotTrack
@@ -400,4 +400,27 @@ pub const ROWS: &str = r##"# lines
 {"put":{"kind":"Profile","kind":null}} => refused 1 1 UnknownKind
 {"put":{"apiVersion":"projectcalico.org/v3","kind":"Profile","metadata":{"name":"p","x":[[[[[[[[[[[[[[[[[[[[[[[[[[[[[[[[[[[[[[[[[[[[[[[[[[[[[[[[[[[[[[[[[[[[[[[[[[[[[[[[[[[[[[[[[[[[[[[[[[[[[[[[[[[[[[[[[[[[[[[[]]]]]]]]]]]]]]]]]]]]]]]]]]]]]]]]]]]]]]]]]]]]]]]]]]]]]]]]]]]]]]]]]]]]]]]]]]]]]]]]]]]]]]]]]]]]]]]]]]]]]]]]]]]]]]]]]]]]]]]]},"spec":{}}}
 [[[[[[[[[[[[[[[[[[[[[[[[[[[[[[[[[[[[[[[[[[[[[[[[[[[[[[[[[[[[[[[[[[[[[[[[[[[[[[[[[[[[[[[[[[[[[[[[[[[[[[[[[[[[[[[[[[[[[[[[[[[[[[[]]]]]]]]]]]]]]]]]]]]]]]]]]]]]]]]]]]]]]]]]]]]]]]]]]]]]]]]]]]]]]]]]]]]]]]]]]]]]]]]]]]]]]]]]]]]]]]]]]]]]]]]]]]]]]]]]]]]]]]]]]]]]]] => refused 1 22 BadLine
-[[[[[[[[[[[[[[[[[[[[[[[[[[[[[[[[[[[[[[[[[[[[[[[[[[[[[[[[[[[[[[[[[[[[[[[[[[[[[[[[[[[[[[[[[[[[[[[[[[[[[[[[[[[[[[[[[[[[[[[[[[[[[[[[]]]]]]]]]]]]]]]]]]]]]]]]]]]]]]]]]]]]]]]]]]]]]]]]]]]]]]]]]]]]]]]]]]]]]]]]]]]]]]]]]]]]]]]]]]]]]]]]]]]]]]]]]]]]]]]]]]]]]]]]]]]]]]]] => refused 1 21 BadJson"##;
+[[[[[[[[[[[[[[[[[[[[[[[[[[[[[[[[[[[[[[[[[[[[[[[[[[[[[[[[[[[[[[[[[[[[[[[[[[[[[[[[[[[[[[[[[[[[[[[[[[[[[[[[[[[[[[[[[[[[[[[[[[[[[[[[]]]]]]]]]]]]]]]]]]]]]]]]]]]]]]]]]]]]]]]]]]]]]]]]]]]]]]]]]]]]]]]]]]]]]]]]]]]]]]]]]]]]]]]]]]]]]]]]]]]]]]]]]]]]]]]]]]]]]]]]]]]]]]]] => refused 1 21 BadJson
+# places of faults in sides
+{"put":{"apiVersion":"projectcalico.org/v3","kind":"Profile","metadata":{"name":"p"},"spec":{"ingress":[{"action":"Allow","source":{"notSelector":"a =="}}]}}} => refused 1 4 BadSelector spec.ingress[0].source.notSelector 4
+{"put":{"apiVersion":"projectcalico.org/v3","kind":"Profile","metadata":{"name":"p"},"spec":{"ingress":[{"action":"Allow","source":{"namespaceSelector":"a &&"}}]}}} => refused 1 4 BadSelector spec.ingress[0].source.namespaceSelector 2
+{"put":{"apiVersion":"projectcalico.org/v3","kind":"Profile","metadata":{"name":"p"},"spec":{"ingress":[{"action":"Allow","source":{"serviceAccounts":{"selector":"!"}}}]}}} => refused 1 4 BadSelector spec.ingress[0].source.serviceAccounts.selector 1
+{"put":{"apiVersion":"projectcalico.org/v3","kind":"Profile","metadata":{"name":"p"},"spec":{"ingress":[{"action":"Allow","source":{"serviceAccounts":{"names":"a"}}}]}}} => refused 1 3 BadField spec.ingress[0].source.serviceAccounts.names
+{"put":{"apiVersion":"projectcalico.org/v3","kind":"Profile","metadata":{"name":"p"},"spec":{"ingress":[{"action":"Allow","source":{"serviceAccounts":{"names":["a","b/c"],"selector":"!"}}}]}}} => refused 1 3 BadField spec.ingress[0].source.serviceAccounts.names[1]
+{"put":{"apiVersion":"projectcalico.org/v3","kind":"Profile","metadata":{"name":"p"},"spec":{"ingress":[{"action":"Allow","source":{"selector":"a ==","notSelector":"b =="}}]}}} => refused 1 4 BadSelector spec.ingress[0].source.selector 4
+{"put":{"apiVersion":"projectcalico.org/v3","kind":"Profile","metadata":{"name":"p"},"spec":{"ingress":[{"action":"Allow","source":{"notNets":[7],"selector":"a =="}}]}}} => refused 1 3 BadField spec.ingress[0].source.notNets[0]
+{"put":{"apiVersion":"projectcalico.org/v3","kind":"Profile","metadata":{"name":"p"},"spec":{"ingress":[{"action":"Allow","source":{"namespaceSelector":"a ==","serviceAccounts":[]}}]}}} => refused 1 4 BadSelector spec.ingress[0].source.namespaceSelector 4
+{"put":{"apiVersion":"projectcalico.org/v3","kind":"Profile","metadata":{"name":"p"},"spec":{"ingress":[{"action":"Allow","source":{"serviceAccounts":[],"ports":[80]}}]}}} => refused 1 3 BadField spec.ingress[0].source.serviceAccounts
+# network sets
+{"put":{"apiVersion":"projectcalico.org/v3","kind":"NetworkSet","metadata":{"name":"s","namespace":"a"},"spec":{}}}
+{"put":{"apiVersion":"projectcalico.org/v3","kind":"GlobalNetworkSet","metadata":{"name":"s","namespace":7,"labels":null},"spec":{"nets":["10.0.0.0/8","fd00::/8","0.0.0.0/0"]}}}
+{"put":{"apiVersion":"projectcalico.org/v3","kind":"NetworkSet","metadata":{"name":"s"},"spec":[]}} => refused 1 2 MissingField metadata.namespace
+{"put":{"apiVersion":"projectcalico.org/v3","kind":"NetworkSet","metadata":{"name":"s","namespace":"A","labels":7},"spec":{}}} => refused 1 3 BadField metadata.namespace
+{"put":{"apiVersion":"projectcalico.org/v3","kind":"GlobalNetworkSet","metadata":{"name":"s","labels":{"a":7}},"spec":[]}} => refused 1 3 BadField metadata.labels
+{"put":{"apiVersion":"projectcalico.org/v3","kind":"GlobalNetworkSet","metadata":{"name":"s"},"spec":[]}} => refused 1 3 BadField spec
+{"put":{"apiVersion":"projectcalico.org/v3","kind":"GlobalNetworkSet","metadata":{"name":"s"},"spec":{"nets":"10.0.0.0/8"}}} => refused 1 3 BadField spec.nets
+{"put":{"apiVersion":"projectcalico.org/v3","kind":"NetworkSet","metadata":{"name":"s","namespace":"a"},"spec":{"nets":["10.0.0.0/8","10.0.0.0/33"]}}} => refused 1 3 BadField spec.nets[1]
+{"delete":{"apiVersion":"projectcalico.org/v3","kind":"NetworkSet","metadata":{"name":"s"}}} => refused 1 2 MissingField metadata.namespace
+{"delete":{"apiVersion":"projectcalico.org/v3","kind":"NetworkSet","metadata":{"name":"s","namespace":"a","labels":7}}}
+{"delete":{"apiVersion":"projectcalico.org/v3","kind":"GlobalNetworkSet","metadata":{"name":"s/t"}}} => refused 1 3 BadField metadata.name
+"##;

@@ -310,4 +310,110 @@ pub const RUNS: &str = r#"
 = a selector that does not parse is refused with its place
 > {"put":{"apiVersion":"projectcalico.org/v3","kind":"GlobalNetworkPolicy","metadata":{"name":"x"},"spec":{"selector":"foo("}}}
 < refused 1 4 BadSelector spec.selector 3
+= an address that two endpoints have stays while one does
+> {"put":{"apiVersion":"projectcalico.org/v3","kind":"Profile","metadata":{"name":"open"},"spec":{"ingress":[{"action":"Allow"}],"egress":[{"action":"Allow"}]}}}
+> {"put":{"apiVersion":"projectcalico.org/v3","kind":"WorkloadEndpoint","metadata":{"name":"w1","namespace":"a","labels":{"role":"a"}},"spec":{"node":"n1","interfaceName":"cali1","ipNetworks":["10.0.0.1/32"],"profiles":["open"]}}}
+> {"put":{"apiVersion":"projectcalico.org/v3","kind":"WorkloadEndpoint","metadata":{"name":"w2","namespace":"a","labels":{"role":"b"}},"spec":{"node":"n2","interfaceName":"cali2","ipNetworks":["10.0.0.9/32"]}}}
+> {"put":{"apiVersion":"projectcalico.org/v3","kind":"WorkloadEndpoint","metadata":{"name":"w3","namespace":"a","labels":{"role":"b"}},"spec":{"node":"n2","interfaceName":"cali3","ipNetworks":["10.0.0.9/32"]}}}
+> {"put":{"apiVersion":"projectcalico.org/v3","kind":"GlobalNetworkPolicy","metadata":{"name":"g"},"spec":{"selector":"role == 'a'","ingress":[{"action":"Allow","source":{"selector":"role == 'b'"}}]}}}
+> {"inSync":true}
+> {"flush":{}}
+> {"delete":{"apiVersion":"projectcalico.org/v3","kind":"WorkloadEndpoint","metadata":{"name":"w2","namespace":"a"}}}
+> {"flush":{}}
+> {"delete":{"apiVersion":"projectcalico.org/v3","kind":"WorkloadEndpoint","metadata":{"name":"w3","namespace":"a"}}}
+> {"flush":{}}
+< set-add cali40s:cm9sZSA9PSAiYiIAAAAAAAA hash:net 10.0.0.9/32
+< policy gnp/g gnp/g in 1 out 0
+< profile open open in 1 out 1
+< endpoint cali1 a/w1 in default(gnp/g) out - profiles open
+< flushed 4
+< flushed 0
+< set-delta cali40s:cm9sZSA9PSAiYiIAAAAAAAA -10.0.0.9/32
+< flushed 1
+= two network sets share a half of all addresses
+> {"put":{"apiVersion":"projectcalico.org/v3","kind":"Profile","metadata":{"name":"open"},"spec":{"ingress":[{"action":"Allow"}],"egress":[{"action":"Allow"}]}}}
+> {"put":{"apiVersion":"projectcalico.org/v3","kind":"WorkloadEndpoint","metadata":{"name":"w1","namespace":"a","labels":{"role":"a"}},"spec":{"node":"n1","interfaceName":"cali1","ipNetworks":["10.0.0.1/32"],"profiles":["open"]}}}
+> {"put":{"apiVersion":"projectcalico.org/v3","kind":"GlobalNetworkPolicy","metadata":{"name":"g"},"spec":{"selector":"role == 'a'","ingress":[{"action":"Allow","source":{"selector":"role == 'b'"}}]}}}
+> {"put":{"apiVersion":"projectcalico.org/v3","kind":"GlobalNetworkSet","metadata":{"name":"s1","labels":{"role":"b"}},"spec":{"nets":["0.0.0.0/0"]}}}
+> {"put":{"apiVersion":"projectcalico.org/v3","kind":"GlobalNetworkSet","metadata":{"name":"s2","labels":{"role":"b"}},"spec":{"nets":["0.0.0.0/1"]}}}
+> {"inSync":true}
+> {"flush":{}}
+> {"delete":{"apiVersion":"projectcalico.org/v3","kind":"GlobalNetworkSet","metadata":{"name":"s1"}}}
+> {"flush":{}}
+< set-add cali40s:cm9sZSA9PSAiYiIAAAAAAAA hash:net 0.0.0.0/1 128.0.0.0/1
+< policy gnp/g gnp/g in 1 out 0
+< profile open open in 1 out 1
+< endpoint cali1 a/w1 in default(gnp/g) out - profiles open
+< flushed 4
+< set-delta cali40s:cm9sZSA9PSAiYiIAAAAAAAA -128.0.0.0/1
+< flushed 1
+= what changes and changes back is not sent
+> {"put":{"apiVersion":"projectcalico.org/v3","kind":"Profile","metadata":{"name":"open"},"spec":{"ingress":[{"action":"Allow"}],"egress":[{"action":"Allow"}]}}}
+> {"put":{"apiVersion":"projectcalico.org/v3","kind":"WorkloadEndpoint","metadata":{"name":"w1","namespace":"a","labels":{"role":"a"}},"spec":{"node":"n1","interfaceName":"cali1","ipNetworks":["10.0.0.1/32"],"profiles":["open"]}}}
+> {"put":{"apiVersion":"projectcalico.org/v3","kind":"WorkloadEndpoint","metadata":{"name":"w2","namespace":"a","labels":{"role":"b"}},"spec":{"node":"n2","interfaceName":"cali2","ipNetworks":["10.0.0.9/32"]}}}
+> {"put":{"apiVersion":"projectcalico.org/v3","kind":"WorkloadEndpoint","metadata":{"name":"w3","namespace":"a","labels":{"role":"b"}},"spec":{"node":"n2","interfaceName":"cali3","ipNetworks":["10.0.0.9/32"]}}}
+> {"put":{"apiVersion":"projectcalico.org/v3","kind":"GlobalNetworkPolicy","metadata":{"name":"g"},"spec":{"selector":"role == 'a'","ingress":[{"action":"Allow","source":{"selector":"role == 'b'"}}]}}}
+> {"inSync":true}
+> {"flush":{}}
+> {"put":{"apiVersion":"projectcalico.org/v3","kind":"WorkloadEndpoint","metadata":{"name":"w1","namespace":"a","labels":{"role":"z"}},"spec":{"node":"n1","interfaceName":"cali1","ipNetworks":["10.0.0.1/32"],"profiles":["open"]}}}
+> {"put":{"apiVersion":"projectcalico.org/v3","kind":"WorkloadEndpoint","metadata":{"name":"w1","namespace":"a","labels":{"role":"a"}},"spec":{"node":"n1","interfaceName":"cali1","ipNetworks":["10.0.0.1/32"],"profiles":["open"]}}}
+> {"flush":{}}
+< set-add cali40s:cm9sZSA9PSAiYiIAAAAAAAA hash:net 10.0.0.9/32
+< policy gnp/g gnp/g in 1 out 0
+< profile open open in 1 out 1
+< endpoint cali1 a/w1 in default(gnp/g) out - profiles open
+< flushed 4
+< flushed 0
+= a set that is used no more goes after the policy that named it
+> {"put":{"apiVersion":"projectcalico.org/v3","kind":"Profile","metadata":{"name":"open"},"spec":{"ingress":[{"action":"Allow"}],"egress":[{"action":"Allow"}]}}}
+> {"put":{"apiVersion":"projectcalico.org/v3","kind":"WorkloadEndpoint","metadata":{"name":"w1","namespace":"a","labels":{"role":"a"}},"spec":{"node":"n1","interfaceName":"cali1","ipNetworks":["10.0.0.1/32"],"profiles":["open"]}}}
+> {"put":{"apiVersion":"projectcalico.org/v3","kind":"WorkloadEndpoint","metadata":{"name":"w2","namespace":"a","labels":{"role":"b"}},"spec":{"node":"n2","interfaceName":"cali2","ipNetworks":["10.0.0.9/32"]}}}
+> {"put":{"apiVersion":"projectcalico.org/v3","kind":"WorkloadEndpoint","metadata":{"name":"w3","namespace":"a","labels":{"role":"b"}},"spec":{"node":"n2","interfaceName":"cali3","ipNetworks":["10.0.0.9/32"]}}}
+> {"put":{"apiVersion":"projectcalico.org/v3","kind":"GlobalNetworkPolicy","metadata":{"name":"g"},"spec":{"selector":"role == 'a'","ingress":[{"action":"Allow","source":{"selector":"role == 'b'"}}]}}}
+> {"inSync":true}
+> {"flush":{}}
+> {"put":{"apiVersion":"projectcalico.org/v3","kind":"GlobalNetworkPolicy","metadata":{"name":"g"},"spec":{"selector":"role == 'a'","ingress":[{"action":"Allow","source":{"selector":"role == 'c'"}}]}}}
+> {"flush":{}}
+< set-add cali40s:cm9sZSA9PSAiYiIAAAAAAAA hash:net 10.0.0.9/32
+< policy gnp/g gnp/g in 1 out 0
+< profile open open in 1 out 1
+< endpoint cali1 a/w1 in default(gnp/g) out - profiles open
+< flushed 4
+< set-add cali40s:cm9sZSA9PSAiYyIAAAAAAAA hash:net
+< policy gnp/g gnp/g in 1 out 0
+< set-remove cali40s:cm9sZSA9PSAiYiIAAAAAAAA
+< flushed 3
+= endpoints go before profiles, policies and sets
+> {"put":{"apiVersion":"projectcalico.org/v3","kind":"Profile","metadata":{"name":"open"},"spec":{"ingress":[{"action":"Allow"}],"egress":[{"action":"Allow"}]}}}
+> {"put":{"apiVersion":"projectcalico.org/v3","kind":"WorkloadEndpoint","metadata":{"name":"w1","namespace":"a","labels":{"role":"a"}},"spec":{"node":"n1","interfaceName":"cali1","ipNetworks":["10.0.0.1/32"],"profiles":["open"]}}}
+> {"put":{"apiVersion":"projectcalico.org/v3","kind":"WorkloadEndpoint","metadata":{"name":"w2","namespace":"a","labels":{"role":"b"}},"spec":{"node":"n2","interfaceName":"cali2","ipNetworks":["10.0.0.9/32"]}}}
+> {"put":{"apiVersion":"projectcalico.org/v3","kind":"WorkloadEndpoint","metadata":{"name":"w3","namespace":"a","labels":{"role":"b"}},"spec":{"node":"n2","interfaceName":"cali3","ipNetworks":["10.0.0.9/32"]}}}
+> {"put":{"apiVersion":"projectcalico.org/v3","kind":"GlobalNetworkPolicy","metadata":{"name":"g"},"spec":{"selector":"role == 'a'","ingress":[{"action":"Allow","source":{"selector":"role == 'b'"}}]}}}
+> {"inSync":true}
+> {"flush":{}}
+> {"delete":{"apiVersion":"projectcalico.org/v3","kind":"GlobalNetworkPolicy","metadata":{"name":"g"}}}
+> {"delete":{"apiVersion":"projectcalico.org/v3","kind":"WorkloadEndpoint","metadata":{"name":"w1","namespace":"a"}}}
+> {"delete":{"apiVersion":"projectcalico.org/v3","kind":"Profile","metadata":{"name":"open"}}}
+> {"flush":{}}
+< set-add cali40s:cm9sZSA9PSAiYiIAAAAAAAA hash:net 10.0.0.9/32
+< policy gnp/g gnp/g in 1 out 0
+< profile open open in 1 out 1
+< endpoint cali1 a/w1 in default(gnp/g) out - profiles open
+< flushed 4
+< endpoint-remove cali1
+< profile-remove open
+< policy-remove gnp/g
+< set-remove cali40s:cm9sZSA9PSAiYiIAAAAAAAA
+< flushed 4
+= a named port is one of any endpoint that has it
+> {"put":{"apiVersion":"projectcalico.org/v3","kind":"WorkloadEndpoint","metadata":{"name":"w1","namespace":"a","labels":{"role":"a"}},"spec":{"node":"n1","interfaceName":"cali1","ipNetworks":["10.0.0.1/32"],"profiles":["open"]}}}
+> {"put":{"apiVersion":"projectcalico.org/v3","kind":"WorkloadEndpoint","metadata":{"name":"db","namespace":"a"},"spec":{"node":"n2","interfaceName":"cali7","ipNetworks":["10.0.0.5"],"ports":[{"name":"pg","port":5432}]}}}
+> {"put":{"apiVersion":"projectcalico.org/v3","kind":"GlobalNetworkPolicy","metadata":{"name":"e"},"spec":{"egress":[{"action":"Allow","protocol":"TCP","destination":{"ports":["pg"]}}]}}}
+> {"inSync":true}
+> {"flush":{}}
+< set-add cali40n:dGNwLHBnLGFsbCgpAAAAAAA hash:ip,port 10.0.0.5,tcp:5432
+< policy gnp/e gnp/e in 0 out 1
+< profile open open missing
+< endpoint cali1 a/w1 in - out default(gnp/e) profiles open
+< flushed 4
 "#;

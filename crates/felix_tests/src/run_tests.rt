@@ -6,8 +6,6 @@ use fx_names::{Namer, PlainRule};
 use std::alloc::Global;
 use std::test::Fail;
 
-const USAGE: &[u8] = b"usage: felix-replay --node NAME [--soak SEED --count N]\n";
-
 fn node_words(alloc: Global) -> Result<Vec<Text>, Fail> {
     Ok(vec![in alloc; Text::new(alloc, b"--node")?, Text::new(alloc, b"n1")?]?)
 }
@@ -44,17 +42,6 @@ fn runs_write_what_is_stored(rt: HostRuntime) -> Result<(), Fail> {
         assert_eq!(rt; status == Status::Refused, is_refused, "run {row}");
         assert_eq!(rt; status == Status::Done, !is_refused, "run {row}");
     }
-    Ok(())
-}
-
-#[test]
-fn no_words_are_a_usage_fault(rt: HostRuntime) -> Result<(), Fail> {
-    let alloc = rt.alloc();
-    let mut source = SureSource::new(Vec::new(alloc), 4096);
-    let mut sink = MemSink::new(alloc, 1000, Vec::new(alloc))?;
-    let status = felix_replay(alloc, &[], &mut source, &mut sink, Namer::new(PlainRule));
-    assert_eq!(rt; status, Status::Usage);
-    assert_eq!(rt; sink.held(), USAGE);
     Ok(())
 }
 

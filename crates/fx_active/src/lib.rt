@@ -14,5 +14,3 @@ mod matches;
 mod pairs;
 mod policies;
 mod reach;
-#[cfg(test)]
-mod tests;

@@ -22,3 +22,6 @@ pub mod SetAt
 pub mod CountIn
 pub mod AnyIn
 pub mod SumOver
+pub mod FilledLemmas
+pub mod AnyCollected
+pub mod NetLemmas

@@ -1,5 +1,5 @@
 -- A finite map with more entries put in.
-use Rattle.std.specs.Prelude.{List, [], ◌∷◌, Option, Some, None}
+use Rattle.std.specs.Prelude.{List, [], ◌∷◌, Option, Some, None, if◌then◌else◌}
 use Rattle.std.specs.declared.cmp.Ordering.{Ordering}
 use Rattle.std.specs.FinMap as map
 
@@ -7,6 +7,11 @@ use Rattle.std.specs.FinMap as map
 abbrev pub extended : {K X : Type 0} {R : K → K → Ordering} → map.FinMap R X → List (K × X) → map.FinMap R X
 extended m [] = m
 extended m (e ∷ es) = extended (map.insert m e.0 e.1) es
+
+-- these entries are put in one after another where their keys are absent, as by Rust's `entry(..).or_insert(..)`
+abbrev pub filled : {K X : Type 0} {R : K → K → Ordering} → map.FinMap R X → List (K × X) → map.FinMap R X
+filled m [] = m
+filled m (e ∷ es) = filled (if map.contains_key m e.0 then m else map.insert m e.0 e.1) es
 
 -- the map of these entries; of those with one key the last
 abbrev pub collected : {K X : Type 0} {R : K → K → Ordering} → List (K × X) → map.FinMap R X

@@ -5,6 +5,7 @@ pub mod Keyed
 pub mod KernelName
 pub mod MemSink
 pub mod MemSource
+pub mod Nets
 pub mod Padded
 pub mod PortTexts
 pub mod Protocols

@@ -4,7 +4,7 @@ ghost use Rattle.fx_base.specs.Forms.{Leaves};
 
 use crate::address_text::dotted;
 use crate::memory::BadText;
-use crate::net::{Net, NetText};
+use crate::net::{Ipv4, Net, NetText};
 
 impl Net {
     ghost use Rattle.fx_base.specs.Addresses.{IsNet, IsReadAs};
@@ -22,7 +22,7 @@ impl Net {
             return Ok(NetText::V6);
         }
         match dotted(text, 0, 3, true) {
-            Ok((address, len)) => Ok(NetText::V4(Net::of(address, len as u8))),
+            Ok((address, len)) => Ok(NetText::V4(Net::around(Ipv4(address), len as u8))),
             Err(at) => Err(BadText { at: at as u32 }),
         }
     }

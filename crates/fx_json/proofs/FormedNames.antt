@@ -1,19 +1,20 @@
--- A namespace that is read holds no `/`, and may stand in a selector.
+-- A namespace that is read holds no `/`, and it and names may stand in a selector. A port's name holds no comma.
 use Rattle.std.proofs.Common.{◌≡◌, ℕ, List, [], ◌∷◌, Bool, true, false, ◌==◌, not, Ok, IfOk, refl, subst, arith}
-use Rattle.std.specs.Prelude.{codes}
+use Rattle.std.specs.Prelude.{codes, ◌&&◌}
 use Rattle.std.specs.List.{list_all}
+use Rattle.std.specs.Char.{is_ascii_digit}
 use Rattle.std.proofs.lemmas.Bool.{eqb-true, false≢true}
 use Rattle.std.proofs.lemmas.Bool.Decides.{nat_tests}
 use Rattle.serde_json.specs.Data.{Data}
-use Rattle.fx_selector.specs.Tree.{IsString}
+use Rattle.fx_selector.specs.Tree.{IsString, AreStrings}
 use Rattle.fx_selector.proofs.Literals.{string_test, literal_string}
-use Rattle.fx_model.specs.Formed.{is_formed_namespace}
+use Rattle.fx_model.specs.Formed.{is_formed_namespace, is_formed_port_name}
 use Rattle.fx_json.specs.declared.names.NamespacedName.{NamespacedName}
 use Rattle.fx_json.specs.declared.texts.TextForm.TheVariants.{Namespace}
-use Rattle.fx_json.specs.Forms.{is_namespace_byte, has_length, is_namespace, text}
+use Rattle.fx_json.specs.Forms.{is_name_byte, is_namespace_byte, has_length, is_name, is_namespace, is_port_name, text}
 use Rattle.fx_json.specs.Fields.{required, section}
 use Rattle.fx_json.specs.Names.{name_at, namespaced_name, namespaced_name_in}
-use Rattle.fx_json.proofs.FormedRules.{then-if, read-if, required-if, both, first_of, second_of, text-formed}
+use Rattle.fx_json.proofs.Readings.{then-if, read-if, required-if, both, first_of, second_of, text-formed}
 
 pub all_pass : (p q : ℕ → Bool) → ((b : ℕ) → p b ≡ true → q b ≡ true) → (s : List ℕ) → list_all p s ≡ true → list_all q s ≡ true
 all_pass p q each [] e = refl
@@ -38,6 +39,32 @@ plain_byte b e = grind (arith, nat_tests)
 
 namespace-string : (s : List ℕ) → is_namespace s ≡ true → IsString s
 namespace-string s e = literal_string s (all_pass is_namespace_byte string_test plain_byte s (bytes_of s e))
+
+-- ---- names
+
+plain_name_byte : (b : ℕ) → is_name_byte b ≡ true → string_test b ≡ true
+plain_name_byte b e = grind (arith, nat_tests)
+
+name-string : (s : List ℕ) → is_name s ≡ true → IsString s
+name-string s e =
+    literal_string s (all_pass is_name_byte string_test plain_name_byte s (second_of (has_length 1 253 s) (list_all is_name_byte s) e))
+
+pub names-strings : (names : List (List ℕ)) → list_all is_name names ≡ true → AreStrings names
+names-strings [] e = tt
+names-strings (s ∷ ss) e =
+    (name-string s (first_of (is_name s) (list_all is_name ss) e), names-strings ss (second_of (is_name s) (list_all is_name ss) e))
+
+no_comma : (b : ℕ) → is_name_byte b ≡ true → not (b == 44) ≡ true
+no_comma b e = by (b == 44) refl
+  where
+    by : (t : Bool) → (b == 44) ≡ t → not t ≡ true
+    by true f = (let wrong : false ≡ true = subst (λ (c : ℕ). is_name_byte c ≡ true) (eqb-true b 44 f) e in absurd (false≢true wrong))
+    by false f = refl
+
+pub port_name-formed : (s : List ℕ) → is_port_name s ≡ true → is_formed_port_name s ≡ true
+port_name-formed s e =
+    let named = first_of (has_length 1 128 s && list_all is_name_byte s) (not (list_all is_ascii_digit s)) e in
+    all_pass is_name_byte (λ b. not (b == 44)) no_comma s (second_of (has_length 1 128 s) (list_all is_name_byte s) named)
 
 -- ---- of a name that was read
 

@@ -3,19 +3,23 @@ use Rattle.std.proofs.Common.{◌≡◌, ℕ, List, Bool, true, false, IfOk, ref
 use Rattle.std.specs.Prelude.{codes}
 use Rattle.std.specs.List.{list_all}
 use Rattle.serde_json.specs.Data.{Data}
+use Rattle.fx_selector.specs.Tree.{IsString}
 use Rattle.fx_model.specs.declared.rules.Rule.{Rule}
 use Rattle.fx_model.specs.declared.policy.Policy.{Policy}
 use Rattle.fx_model.specs.declared.resources.Update.{Update}
 use Rattle.fx_model.specs.Formed.{is_given, is_formed_rule, is_formed_policy, is_formed_namespace, is_formed, puts_workload_interface}
 use Rattle.fx_json.specs.Fields.{items, section}
 use Rattle.fx_json.specs.Rules.{rule}
-use Rattle.fx_json.specs.declared.rules.RuleForm.TheVariants.{OfPolicy}
+use Rattle.fx_json.specs.declared.rule_form.RuleForm.{RuleForm}
+use Rattle.fx_json.specs.declared.rule_form.RuleForm.TheVariants.{OfPolicy, OfNamespace}
 use Rattle.fx_json.specs.declared.policies.PolicyRules.{PolicyRules}
 use Rattle.fx_json.specs.Names.{name_in, namespaced_name_in}
 use Rattle.fx_json.specs.Selectors.{global_selector, namespaced_selector}
 use Rattle.fx_json.specs.Policies.{place_of, policy_type, directions_of, kept, rules_of, flags, global_policy, namespaced_policy, tier_in, tier_put, global_policy_in, global_policy_put, namespaced_policy_in, namespaced_policy_put}
-use Rattle.fx_json.proofs.FormedRules.{then-if, read-if, both, items-each, policy_rule-formed}
-use Rattle.fx_json.proofs.FormedNames.{named_in-formed}
+use Rattle.fx_json.proofs.Readings.{then-if, read-if, both, items-each}
+use Rattle.fx_json.proofs.FormedNames.{named_in-formed, named_in_string}
+use Rattle.fx_json.proofs.FormedSides.{IsForm}
+use Rattle.fx_json.proofs.FormedRules.{policy_rule-formed}
 
 -- an update that may be taken in
 abbrev pub IsTakable : Update → Type 0
@@ -30,16 +34,16 @@ kept-formed false rules e = refl
 abbrev AreFormed : PolicyRules → Type 0
 AreFormed r = (list_all is_formed_rule r.ingress ≡ true) × (list_all is_formed_rule r.egress ≡ true)
 
-rules_of-formed : (path : List ℕ) (d : Data) → IfOk (rules_of path d) AreFormed
+rules_of-formed : (form : RuleForm) → IsForm form → (path : List ℕ) (d : Data) → IfOk (rules_of form path d) AreFormed
 unfolding rules_of
-rules_of-formed path d =
+rules_of-formed form stands path d =
     then-if AreFormed (items policy_type path (codes "types") d) _ (λ types _.
-    then-if AreFormed (items (rule OfPolicy) path (codes "ingress") d) _ (λ ingress ingress_read.
-    then-if AreFormed (items (rule OfPolicy) path (codes "egress") d) _ (λ egress egress_read. (
+    then-if AreFormed (items (rule form) path (codes "ingress") d) _ (λ ingress ingress_read.
+    then-if AreFormed (items (rule form) path (codes "egress") d) _ (λ egress egress_read. (
       kept-formed (directions_of types (is_given ingress) (is_given egress)).on_ingress ingress
-          (read-if Q (items (rule OfPolicy) path (codes "ingress") d) ingress (items-each is_formed_rule (rule OfPolicy) policy_rule-formed path (codes "ingress") d) ingress_read),
+          (read-if Q (items (rule form) path (codes "ingress") d) ingress (items-each is_formed_rule (rule form) (policy_rule-formed form stands) path (codes "ingress") d) ingress_read),
       kept-formed (directions_of types (is_given ingress) (is_given egress)).on_egress egress
-          (read-if Q (items (rule OfPolicy) path (codes "egress") d) egress (items-each is_formed_rule (rule OfPolicy) policy_rule-formed path (codes "egress") d) egress_read),
+          (read-if Q (items (rule form) path (codes "egress") d) egress (items-each is_formed_rule (rule form) (policy_rule-formed form stands) path (codes "egress") d) egress_read),
     ))))
   where
     Q : List Rule → Type 0
@@ -55,18 +59,18 @@ unfolding global_policy
 global_policy-formed path d =
     then-if IsFormedPolicy (place_of path d) _ (λ place _.
     then-if IsFormedPolicy (global_selector path d) _ (λ selector _.
-    then-if IsFormedPolicy (rules_of path d) _ (λ rules rules_read.
+    then-if IsFormedPolicy (rules_of OfPolicy path d) _ (λ rules rules_read.
     then-if IsFormedPolicy (flags path d) _ (λ unset _.
-    let formed : AreFormed rules = read-if AreFormed (rules_of path d) rules (rules_of-formed path d) rules_read in
+    let formed : AreFormed rules = read-if AreFormed (rules_of OfPolicy path d) rules (rules_of-formed OfPolicy tt path d) rules_read in
     both (list_all is_formed_rule rules.ingress) (list_all is_formed_rule rules.egress) formed.0 formed.1))))
 
-namespaced_policy-formed : (ns path : List ℕ) (d : Data) → IfOk (namespaced_policy ns path d) IsFormedPolicy
+namespaced_policy-formed : (ns : List ℕ) → IsString ns → (path : List ℕ) (d : Data) → IfOk (namespaced_policy ns path d) IsFormedPolicy
 unfolding namespaced_policy
-namespaced_policy-formed ns path d =
+namespaced_policy-formed ns string path d =
     then-if IsFormedPolicy (place_of path d) _ (λ place _.
     then-if IsFormedPolicy (namespaced_selector ns path d) _ (λ selector _.
-    then-if IsFormedPolicy (rules_of path d) _ (λ rules rules_read.
-    let formed : AreFormed rules = read-if AreFormed (rules_of path d) rules (rules_of-formed path d) rules_read in
+    then-if IsFormedPolicy (rules_of (OfNamespace ns) path d) _ (λ rules rules_read.
+    let formed : AreFormed rules = read-if AreFormed (rules_of (OfNamespace ns) path d) rules (rules_of-formed (OfNamespace ns) string path d) rules_read in
     both (list_all is_formed_rule rules.ingress) (list_all is_formed_rule rules.egress) formed.0 formed.1)))
 
 -- ---- puts
@@ -89,10 +93,10 @@ global_policy_put-formed d =
     then-if IsTakable (global_policy_in d) _ (λ policy policy_read.
     (read-if IsFormedPolicy (global_policy_in d) policy (global_policy_in-formed d) policy_read, λ node. refl)))
 
-namespaced_policy_in-formed : (ns : List ℕ) (d : Data) → IfOk (namespaced_policy_in ns d) IsFormedPolicy
+namespaced_policy_in-formed : (ns : List ℕ) → IsString ns → (d : Data) → IfOk (namespaced_policy_in ns d) IsFormedPolicy
 unfolding namespaced_policy_in
-namespaced_policy_in-formed ns d =
-    then-if IsFormedPolicy (section (codes "spec") (codes "spec") d) _ (λ spec _. namespaced_policy-formed ns (codes "spec") spec)
+namespaced_policy_in-formed ns string d =
+    then-if IsFormedPolicy (section (codes "spec") (codes "spec") d) _ (λ spec _. namespaced_policy-formed ns string (codes "spec") spec)
 
 pub namespaced_policy_put-formed : (d : Data) → IfOk (namespaced_policy_put d) IsTakable
 unfolding namespaced_policy_put
@@ -101,6 +105,6 @@ namespaced_policy_put-formed d =
     then-if IsTakable (namespaced_policy_in named.ns d) _ (λ policy policy_read. (
       both (is_formed_namespace named.ns) (is_formed_policy policy)
           (named_in-formed d named named_read)
-          (read-if IsFormedPolicy (namespaced_policy_in named.ns d) policy (namespaced_policy_in-formed named.ns d) policy_read),
+          (read-if IsFormedPolicy (namespaced_policy_in named.ns d) policy (namespaced_policy_in-formed named.ns (named_in_string d named named_read) d) policy_read),
       λ node. refl,
     )))

@@ -1,37 +1,29 @@
 -- Each update that is read is formed: a namespace holds no `/`, and an item is of its key's kind. It puts no endpoint on an
 -- interface that isn't one of workloads, either.
-use Rattle.std.proofs.Common.{◌≡◌, ℕ, List, length, true, nat_eq, nat_le, Result, Ok, Err, IfOk, refl}
+use Rattle.std.proofs.Common.{◌≡◌, ℕ, List, true, Result, Ok, Err, IfOk, refl}
 use Rattle.std.specs.Prelude.{codes}
-use Rattle.std.specs.List.{list_all, starts_with}
-use Rattle.std.specs.Str.{bytes_eq}
+use Rattle.std.specs.List.{list_all}
 use Rattle.serde_json.specs.Data.{Data}
-use Rattle.fx_selector.specs.Truth.{LabelMap}
 use Rattle.fx_model.specs.declared.rules.Rule.{Rule}
-use Rattle.fx_model.specs.declared.resources.Endpoint.{Endpoint}
 use Rattle.fx_model.specs.declared.resources.Profile.{Profile}
-use Rattle.fx_model.specs.declared.resources.Item.TheVariants as item
 use Rattle.fx_model.specs.declared.resources.Update.{Update}
-use Rattle.fx_model.specs.declared.resources.Update.TheVariants as update
 use Rattle.fx_model.specs.declared.ids.Key.{Key}
-use Rattle.fx_model.specs.Policy.{is_workload}
-use Rattle.fx_model.specs.Formed.{is_formed_profile_rule, is_formed_profile, is_formed_namespace, is_formed_key, is_formed_endpoint, is_formed, puts_workload_interface}
+use Rattle.fx_model.specs.Formed.{is_formed_profile_rule, is_formed_profile, is_formed_key, is_formed, puts_workload_interface}
 use Rattle.fx_json.specs.declared.fault.ReadFault.{ReadFault}
 use Rattle.fx_json.specs.Faults.{IsAnswerOf}
-use Rattle.fx_json.specs.declared.names.NamespacedName.{NamespacedName}
 use Rattle.fx_json.specs.declared.resources.Kind.{Kind}
-use Rattle.fx_json.specs.declared.resources.Kind.TheVariants.{Profile as AProfile, WorkloadEndpoint, Tier as ATier, GlobalNetworkPolicy, NetworkPolicy}
-use Rattle.fx_json.specs.declared.resources.EndpointMetadata.{EndpointMetadata}
-use Rattle.fx_json.specs.declared.resources.Workload.{Workload}
-use Rattle.fx_json.specs.declared.texts.TextForm.TheVariants.{Name, WorkloadInterface}
-use Rattle.fx_json.specs.Forms.{is_name_byte, has_length, is_interface, is_workload_interface, text}
-use Rattle.fx_json.specs.Fields.{required, optional, items, section}
+use Rattle.fx_json.specs.declared.resources.Kind.TheVariants.{Profile as AProfile, WorkloadEndpoint, Tier as ATier, GlobalNetworkPolicy, NetworkPolicy, NetworkSet, GlobalNetworkSet}
+use Rattle.fx_json.specs.declared.rule_form.RuleForm.TheVariants.{OfProfile}
+use Rattle.fx_json.specs.Fields.{items, section}
+use Rattle.fx_json.specs.Labels.{labels_at}
 use Rattle.fx_json.specs.Rules.{rule}
-use Rattle.fx_json.specs.Resources.{labels_at, endpoint_key, profile_of, profile_put, endpoint_of, endpoint_put, kind_of, put_of, resource_of, key_of, delete_of, key_in, profile_in, metadata_in, metadata_of, endpoint_in, workload, endpoint_profiles}
-use Rattle.fx_json.specs.declared.rules.RuleForm.TheVariants.{OfProfile}
 use Rattle.fx_json.specs.Names.{name_at, namespaced_name, name_in}
-use Rattle.fx_json.proofs.FormedRules.{then-if, read-if, required-if, both, items-each, implied, first_of, second_of, text-formed, profile_rule-formed}
+use Rattle.fx_json.specs.Resources.{profile_of, profile_put, kind_of, put_of, resource_of, key_of, delete_of, key_in, profile_in}
+use Rattle.fx_json.proofs.Readings.{then-if, read-if, both, items-each}
 use Rattle.fx_json.proofs.FormedNames.{named-formed}
+use Rattle.fx_json.proofs.FormedRules.{profile_rule-formed}
 use Rattle.fx_json.proofs.FormedPolicies.{IsTakable, tier_put-formed, global_policy_put-formed, namespaced_policy_put-formed}
+use Rattle.fx_json.proofs.FormedItems.{endpoint_put-formed, net_set_put-formed, global_set_put-formed}
 
 -- ---- profiles
 
@@ -75,74 +67,12 @@ key_of-formed WorkloadEndpoint path d = then-if IsFormedKey (namespaced_name pat
 key_of-formed ATier path d = then-if IsFormedKey (name_at path d) _ (λ name _. refl)
 key_of-formed GlobalNetworkPolicy path d = then-if IsFormedKey (name_at path d) _ (λ name _. refl)
 key_of-formed NetworkPolicy path d = then-if IsFormedKey (namespaced_name path d) _ (λ named is. named-formed path d named is)
+key_of-formed NetworkSet path d = then-if IsFormedKey (namespaced_name path d) _ (λ named is. named-formed path d named is)
+key_of-formed GlobalNetworkSet path d = then-if IsFormedKey (name_at path d) _ (λ name _. refl)
 
 key_in-formed : (kind : Kind) (d : Data) → IfOk (key_in kind d) (λ k. is_formed_key k ≡ true)
 unfolding key_in
 key_in-formed kind d = then-if (λ k. is_formed_key k ≡ true) (section (codes "metadata") (codes "metadata") d) _ (λ metadata _. key_of-formed kind (codes "metadata") metadata)
-
--- ---- endpoints
-
-workload_interface-formed : (s : List ℕ) → is_workload_interface s ≡ true → (nat_le (length s) 15 ≡ true) × (is_workload s ≡ true)
-workload_interface-formed s e =
-    (second_of (nat_le 1 (length s)) (nat_le (length s) 15) (first_of (has_length 1 15 s) (list_all is_name_byte s) (first_of (is_interface s) (starts_with nat_eq s (codes "cali")) e)), second_of (is_interface s) (starts_with nat_eq s (codes "cali")) e)
-
--- an interface of workloads, whose name isn't too long
-abbrev IsFit : List ℕ → Type 0
-IsFit iface = (nat_le (length iface) 15 ≡ true) × (is_workload iface ≡ true)
-
-workload-formed : (path : List ℕ) (d : Data) → IfOk (workload path d) (λ w. IsFit w.iface)
-unfolding workload
-workload-formed path d =
-    then-if P (required (text Name) path (codes "node") d) _ (λ node _.
-    then-if P (optional (text Name) path (codes "orchestrator") d) _ (λ orchestrator _.
-    then-if P (optional (text Name) path (codes "serviceAccountName") d) _ (λ account _.
-    then-if P (required (text WorkloadInterface) path (codes "interfaceName") d) _ (λ iface iface_read.
-    workload_interface-formed iface (read-if (λ (s : List ℕ). is_workload_interface s ≡ true) (required (text WorkloadInterface) path (codes "interfaceName") d) iface (required-if (λ s. is_workload_interface s ≡ true) (text WorkloadInterface) (text-formed WorkloadInterface) path (codes "interfaceName") d) iface_read)))))
-  where
-    P : Workload → Type 0
-    P w = IsFit w.iface
-
-endpoint_of-formed : (given : LabelMap) (namespace path : List ℕ) (d : Data) → IfOk (endpoint_of given namespace path d) (λ e. IsFit e.iface)
-unfolding endpoint_of
-endpoint_of-formed given namespace path d =
-    then-if P (workload path d) _ (λ w workload_read.
-    then-if P (endpoint_profiles path d) _ (λ profiles _.
-    read-if (λ (w : Workload). IsFit w.iface) (workload path d) w (workload-formed path d) workload_read))
-  where
-    P : Endpoint → Type 0
-    P e = IsFit e.iface
-
-endpoint_in-formed : (given : LabelMap) (namespace : List ℕ) (d : Data) → IfOk (endpoint_in given namespace d) (λ e. IsFit e.iface)
-unfolding endpoint_in
-endpoint_in-formed given namespace d = then-if (λ e. IsFit e.iface) (section (codes "spec") (codes "spec") d) _ (λ spec _. endpoint_of-formed given namespace (codes "spec") spec)
-
-metadata_of-formed : (path : List ℕ) (d : Data) → IfOk (metadata_of path d) (λ m. is_formed_namespace m.named.ns ≡ true)
-unfolding metadata_of
-metadata_of-formed path d =
-    then-if P (namespaced_name path d) _ (λ named named_read.
-    then-if P (labels_at path (codes "labels") d) _ (λ given _. named-formed path d named named_read))
-  where
-    P : EndpointMetadata → Type 0
-    P m = is_formed_namespace m.named.ns ≡ true
-
-metadata_in-formed : (d : Data) → IfOk (metadata_in d) (λ m. is_formed_namespace m.named.ns ≡ true)
-unfolding metadata_in
-metadata_in-formed d = then-if (λ m. is_formed_namespace m.named.ns ≡ true) (section (codes "metadata") (codes "metadata") d) _ (λ metadata _. metadata_of-formed (codes "metadata") metadata)
-
-endpoint_put-formed : (d : Data) → IfOk (endpoint_put d) IsTakable
-unfolding endpoint_put
-endpoint_put-formed d =
-    then-if IsTakable (metadata_in d) _ (λ about about_read.
-    then-if IsTakable (endpoint_in about.labels about.named.ns d) _ (λ endpoint endpoint_read.
-    takable about.named endpoint
-    (read-if (λ (m : EndpointMetadata). is_formed_namespace m.named.ns ≡ true) (metadata_in d) about (metadata_in-formed d) about_read)
-    (read-if (λ (e : Endpoint). IsFit e.iface) (endpoint_in about.labels about.named.ns d) endpoint (endpoint_in-formed about.labels about.named.ns d) endpoint_read)))
-  where
-    takable : (named : NamespacedName) (e : Endpoint) → is_formed_namespace named.ns ≡ true → IsFit e.iface → IsTakable (update.Put (endpoint_key named) (item.Endpoint e))
-    takable named e key_formed fit = (
-      both (is_formed_key (endpoint_key named)) (is_formed_endpoint e) key_formed fit.0,
-      λ node. implied (bytes_eq e.node node) (is_workload e.iface) fit.1,
-    )
 
 -- ---- puts and deletes
 
@@ -152,6 +82,8 @@ put_of-formed WorkloadEndpoint d = endpoint_put-formed d
 put_of-formed ATier d = tier_put-formed d
 put_of-formed GlobalNetworkPolicy d = global_policy_put-formed d
 put_of-formed NetworkPolicy d = namespaced_policy_put-formed d
+put_of-formed NetworkSet d = net_set_put-formed d
+put_of-formed GlobalNetworkSet d = global_set_put-formed d
 
 pub resource_of-takable : (d : Data) → IfOk (resource_of d) IsTakable
 unfolding resource_of

@@ -3,7 +3,7 @@ use Rattle.std.proofs.Common.{◌≡◌, ℕ, zero, suc, ◌+◌, ◌-◌, ◌<�
 use Rattle.std.specs.Prelude.{IfSome, nat_lt, if◌then◌else◌}
 use Rattle.std.proofs.lemmas.Bool.{ltb-true, ltb-false}
 use Rattle.serde_json.specs.Data.{Data, null, boolean, number, string, array, object}
-use Rattle.fx_selector.specs.Tree.{Tree, height}
+use Rattle.fx_selector.specs.Tree.{Tree, IsTree, height}
 use Rattle.fx_selector.specs.Language.{SelectorText}
 use Rattle.fx_selector.specs.Reading.{unexpected, deep, long, spent, Res, Got, Stop}
 use Rattle.fx_selector.specs.Reader.{parsed}
@@ -19,7 +19,7 @@ use Rattle.fx_selector.proofs.OneFault.{one_fault}
 use Rattle.fx_json.specs.Fields.{field, defaulted}
 use Rattle.fx_json.specs.Paths.{member_path}
 use Rattle.fx_json.specs.Selectors.{fault_place, tree_or_place, selector_of, placed, spelled, selector, selector_at}
-use Rattle.fx_json.proofs.FormedRules.{then-if, at_member-if}
+use Rattle.fx_json.proofs.Readings.{then-if, at_member-if}
 
 -- ---- reading
 
@@ -87,7 +87,14 @@ refuses text f at h p = by (selector_of text) refl (is_read text)
         let places : Some n ≡ Some at = sym is.1 ∙ (ap fault_place same ∙ p) in
         let place : n ≡ at = cc in e ∙ ap Err place
 
--- ---- heights
+-- ---- what a selector that is read is
+
+-- a tree that some text spells, and not too deep
+abbrev pub IsSpelled : Tree → Type 0
+IsSpelled t = IsTree t × (height t ≤ 131)
+
+abbrev pub IsPart : Option Tree → Type 0
+IsPart part = IfSome part IsSpelled
 
 abbrev pub IsShallow : Option Tree → Type 0
 IsShallow part = IfSome part (λ t. height t ≤ 131)
@@ -96,18 +103,23 @@ placed-ok : (path : List ℕ) (r : Result Tree ℕ) (t : Tree) → placed path r
 placed-ok path (Ok u) t e = cc
 placed-ok path (Err at) t e = cc
 
-spelled-shallow : (path s : List ℕ) (t : Tree) → spelled path s ≡ Ok t → height t ≤ 131
-spelled-shallow path s t e = (meant_selector s t (subst (IsRead s) (placed-ok path (selector_of s) t e) (is_read s))).1
+spelled-part : (path s : List ℕ) (t : Tree) → spelled path s ≡ Ok t → IsSpelled t
+spelled-part path s t e =
+    let m = meant_selector s t (subst (IsRead s) (placed-ok path (selector_of s) t e) (is_read s)) in (m.0.tree, m.1)
 
-selector-shallow : (path : List ℕ) (d : Data) → IfOk (selector path d) IsShallow
-selector-shallow path null = tt
-selector-shallow path (boolean b) = tt
-selector-shallow path (number n) = tt
-selector-shallow path (string []) = tt
-selector-shallow path (string (b ∷ s)) = then-if IsShallow (spelled path (b ∷ s)) (λ t. Ok (Some t)) (λ t is. spelled-shallow path (b ∷ s) t is)
-selector-shallow path (array ds) = tt
-selector-shallow path (object ms) = tt
+selector-part : (path : List ℕ) (d : Data) → IfOk (selector path d) IsPart
+selector-part path null = tt
+selector-part path (boolean b) = tt
+selector-part path (number n) = tt
+selector-part path (string []) = tt
+selector-part path (string (b ∷ s)) = then-if IsPart (spelled path (b ∷ s)) (λ t. Ok (Some t)) (λ t is. spelled-part path (b ∷ s) t is)
+selector-part path (array ds) = tt
+selector-part path (object ms) = tt
 
-pub selector_at-shallow : (path k : List ℕ) (d : Data) → IfOk (selector_at path k d) IsShallow
+pub selector_at-part : (path k : List ℕ) (d : Data) → IfOk (selector_at path k d) IsPart
 unfolding selector_at defaulted
-selector_at-shallow path k d = at_member-if IsShallow (Ok None) (selector (member_path path k)) (field k d) tt (selector-shallow (member_path path k))
+selector_at-part path k d = at_member-if IsPart (Ok None) (selector (member_path path k)) (field k d) tt (selector-part (member_path path k))
+
+pub part-shallow : (part : Option Tree) → IsPart part → IsShallow part
+part-shallow None is = tt
+part-shallow (Some t) is = is.1

@@ -19,7 +19,8 @@ use Rattle.fx_model.specs.Formed.{is_given}
 use Rattle.fx_json.specs.declared.fault.ReadFault.{ReadFault}
 use Rattle.fx_json.specs.declared.fault.ReadFault.TheVariants.{BadField, Unsupported}
 use Rattle.fx_json.specs.declared.texts.TextForm.TheVariants.{Name}
-use Rattle.fx_json.specs.declared.rules.RuleForm.TheVariants.{OfPolicy}
+use Rattle.fx_json.specs.declared.rule_form.RuleForm.{RuleForm}
+use Rattle.fx_json.specs.declared.rule_form.RuleForm.TheVariants.{OfPolicy, OfNamespace}
 use Rattle.fx_json.specs.declared.policies.PolicyType.{PolicyType}
 use Rattle.fx_json.specs.declared.policies.PolicyType.TheVariants.{Ingress, Egress}
 use Rattle.fx_json.specs.declared.policies.Directions.{Directions}
@@ -108,11 +109,11 @@ kept_rules on ingress egress = record {
   egress = kept on.on_egress egress;
 }
 
-unfoldable pub rules_of : Reader PolicyRules
-rules_of path spec = do
+unfoldable pub rules_of : RuleForm → Reader PolicyRules
+rules_of form path spec = do
   types ← items policy_type path (codes "types") spec
-  ingress ← items (rule OfPolicy) path (codes "ingress") spec
-  egress ← items (rule OfPolicy) path (codes "egress") spec
+  ingress ← items (rule form) path (codes "ingress") spec
+  egress ← items (rule form) path (codes "egress") spec
   Ok (kept_rules (directions_of types (is_given ingress) (is_given egress)) ingress egress)
 
 -- ---- policies
@@ -148,7 +149,7 @@ unfoldable pub global_policy : Reader Policy
 global_policy path spec = do
   place ← place_of path spec
   selector ← global_selector path spec
-  rules ← rules_of path spec
+  rules ← rules_of OfPolicy path spec
   _ ← flags path spec
   Ok (policy_of place selector rules)
 
@@ -157,7 +158,7 @@ unfoldable pub namespaced_policy : List ℕ → Reader Policy
 namespaced_policy namespace path spec = do
   place ← place_of path spec
   selector ← namespaced_selector namespace path spec
-  rules ← rules_of path spec
+  rules ← rules_of (OfNamespace namespace) path spec
   Ok (policy_of place selector rules)
 
 -- ---- puts

@@ -1,17 +1,13 @@
--- A resource, by its kind, and a Profile or a WorkloadEndpoint field by field in the order of Calico's resource
--- reference (`projectcalico.org/v3`). The sets of networks of that reference, and the kinds of Kubernetes' API reference
--- that select or name workloads, are known and aren't read yet. Members that aren't named here are ignored.
+-- A resource, by its kind, and a Profile field by field in the order of Calico's resource reference
+-- (`projectcalico.org/v3`). The kinds of Kubernetes' API reference that select or name workloads are known and aren't read
+-- yet. Members that aren't named here are ignored.
 use Rattle.std.specs.Prelude.{ℕ, List, [], ◌∷◌, Bool, if◌then◌else◌, Option, Some, None, option_and_then, Result, Ok, Err, codes}
 use Rattle.std.specs.List.{list_any}
 use Rattle.std.specs.Str.{bytes_eq}
-use Rattle.std.specs.FinMap as maps
-use Rattle.serde_json.specs.Data.{Data, null, boolean, number, string, array, object, Members, no_members, member}
-use Rattle.serde_json.specs.Find.{as_str, as_object}
-use Rattle.fx_selector.specs.Truth.{LabelMap}
-use Rattle.fx_model.specs.declared.ids.ItemKey.TheVariants as item_key
+use Rattle.serde_json.specs.Data.{Data}
+use Rattle.serde_json.specs.Find.{as_str}
 use Rattle.fx_model.specs.declared.ids.Key.{Key}
 use Rattle.fx_model.specs.declared.ids.Key.TheVariants as key
-use Rattle.fx_model.specs.declared.resources.Endpoint.{Endpoint}
 use Rattle.fx_model.specs.declared.resources.Profile.{Profile}
 use Rattle.fx_model.specs.declared.resources.Item.TheVariants as item
 use Rattle.fx_model.specs.declared.resources.Update.{Update}
@@ -19,18 +15,15 @@ use Rattle.fx_model.specs.declared.resources.Update.TheVariants as update
 use Rattle.fx_json.specs.declared.fault.ReadFault.{ReadFault}
 use Rattle.fx_json.specs.declared.fault.ReadFault.TheVariants.{UnknownKind, Unsupported}
 use Rattle.fx_json.specs.declared.resources.Kind.{Kind}
-use Rattle.fx_json.specs.declared.resources.Kind.TheVariants.{Profile as AProfile, WorkloadEndpoint, Tier as ATier, GlobalNetworkPolicy, NetworkPolicy}
-use Rattle.fx_json.specs.declared.texts.TextForm.TheVariants.{Name, WorkloadInterface, PortName}
-use Rattle.fx_json.specs.declared.names.NamespacedName.{NamespacedName}
-use Rattle.fx_json.specs.declared.rules.RuleForm.TheVariants.{OfProfile}
-use Rattle.fx_json.specs.declared.resources.EndpointMetadata.{EndpointMetadata}
-use Rattle.fx_json.specs.declared.resources.Workload.{Workload}
-use Rattle.fx_json.specs.Forms.{text}
-use Rattle.fx_json.specs.Fields.{◌>>=◌, Reader, field, formed, required, defaulted, optional, object_at, section, items}
-use Rattle.fx_json.specs.Values.{whole, port_protocol, host_net}
+use Rattle.fx_json.specs.declared.resources.Kind.TheVariants.{Profile as AProfile, WorkloadEndpoint, Tier as ATier, GlobalNetworkPolicy, NetworkPolicy, NetworkSet, GlobalNetworkSet}
+use Rattle.fx_json.specs.declared.rule_form.RuleForm.TheVariants.{OfProfile}
+use Rattle.fx_json.specs.Fields.{◌>>=◌, Reader, field, section, items}
 use Rattle.fx_json.specs.Names.{name_at, namespaced_name, name_in}
+use Rattle.fx_json.specs.Labels.{labels_at}
 use Rattle.fx_json.specs.Rules.{rule}
 use Rattle.fx_json.specs.Policies.{tier_put, global_key, global_policy_put, namespaced_key, namespaced_policy_put}
+use Rattle.fx_json.specs.Endpoints.{endpoint_key, endpoint_put}
+use Rattle.fx_json.specs.NetSets.{global_set_key, global_set_put, net_set_key, net_set_put}
 
 -- ---- kinds
 
@@ -48,8 +41,9 @@ calico_kind kind =
     else (if bytes_eq kind (codes "Tier") then Ok ATier
     else (if bytes_eq kind (codes "GlobalNetworkPolicy") then Ok GlobalNetworkPolicy
     else (if bytes_eq kind (codes "NetworkPolicy") then Ok NetworkPolicy
-    else (if is_among (codes "NetworkSet" ∷ codes "GlobalNetworkSet" ∷ []) kind then unread_kind
-    else Err UnknownKind)))))
+    else (if bytes_eq kind (codes "NetworkSet") then Ok NetworkSet
+    else (if bytes_eq kind (codes "GlobalNetworkSet") then Ok GlobalNetworkSet
+    else Err UnknownKind))))))
 
 unfoldable pub core_kind : List ℕ → Result Kind ReadFault
 core_kind kind = if is_among (codes "Namespace" ∷ codes "ServiceAccount" ∷ []) kind then unread_kind else Err UnknownKind
@@ -76,45 +70,6 @@ kind_of d = of_texts (text_at (codes "apiVersion") d) (text_at (codes "kind") d)
     of_texts (Some version) None = Err UnknownKind
     of_texts (Some version) (Some kind) = kind_named version kind
 
--- ---- labels
-
--- one more label, whose value is a text
-abbrev pub with_label : List ℕ → Data → LabelMap → Option LabelMap
-with_label k null m = Some m
-with_label k (boolean b) m = None
-with_label k (number n) m = None
-with_label k (string s) m = Some (maps.insert m k s)
-with_label k (array ds) m = None
-with_label k (object ms) m = None
-
--- these members as labels, beside those that are there
-abbrev pub with_labels : Members → LabelMap → Option LabelMap
-with_labels no_members m = Some m
-with_labels (member k d ms) m = option_and_then (with_labels ms) (with_label k d m)
-
--- labels are an object of texts
-abbrev pub labels_in : Data → Option LabelMap
-labels_in d = option_and_then (λ ms. with_labels ms maps.empty) (as_object d)
-
-abbrev pub labels : Reader LabelMap
-labels path d = formed path (labels_in d)
-
--- the labels of this name, none where it is absent
-unfoldable pub labels_at : List ℕ → List ℕ → Data → Result LabelMap ReadFault
-labels_at = defaulted maps.empty labels
-
--- a label over one of the same key, where its value is given
-abbrev pub with_given : List ℕ → Option (List ℕ) → LabelMap → LabelMap
-with_given k None m = m
-with_given k (Some v) m = maps.insert m k v
-
--- An endpoint's own labels. Calico sets those of its namespace, service account and orchestrator, whatever else is given for them.
-unfoldable pub own_labels : LabelMap → List ℕ → Option (List ℕ) → Option (List ℕ) → LabelMap
-own_labels given namespace account orchestrator =
-    with_given (codes "projectcalico.org/orchestrator") orchestrator
-    (with_given (codes "projectcalico.org/serviceaccount") account
-    (maps.insert given (codes "projectcalico.org/namespace") namespace))
-
 -- ---- profiles
 
 -- the profile that `spec` holds
@@ -136,69 +91,6 @@ profile_put d = do
   profile ← profile_in d
   Ok (update.Put (key.Profile name) (item.Profile profile))
 
--- ---- workload endpoints
-
-abbrev pub endpoint_key : NamespacedName → Key
-endpoint_key named = key.Item (item_key.Endpoint named.ns named.name)
-
--- a port's name, its protocol and its number
-unfoldable pub port_fields : Reader (Unit {0})
-port_fields path d = do
-  _ ← required (text PortName) path (codes "name") d
-  _ ← optional port_protocol path (codes "protocol") d
-  _ ← required (whole 1 65535) path (codes "port") d
-  Ok tt
-
-abbrev pub endpoint_port : Reader (Unit {0})
-endpoint_port path d = object_at path d >>= port_fields path
-
--- where a workload runs, and what it runs as
-unfoldable pub workload : Reader Workload
-workload path spec = do
-  node ← required (text Name) path (codes "node") spec
-  orchestrator ← optional (text Name) path (codes "orchestrator") spec
-  account ← optional (text Name) path (codes "serviceAccountName") spec
-  iface ← required (text WorkloadInterface) path (codes "interfaceName") spec
-  Ok (record { node = node; orchestrator = orchestrator; account = account; iface = iface })
-
--- the profiles, between the addresses and the ports, which nothing is made of yet
-unfoldable pub endpoint_profiles : Reader (List (List ℕ))
-endpoint_profiles path spec = do
-  _ ← items host_net path (codes "ipNetworks") spec
-  profiles ← items (text Name) path (codes "profiles") spec
-  _ ← items endpoint_port path (codes "ports") spec
-  Ok profiles
-
--- the endpoint of this namespace and these labels that `spec` holds
-unfoldable pub endpoint_of : LabelMap → List ℕ → Reader Endpoint
-endpoint_of given namespace path spec = do
-  w ← workload path spec
-  profiles ← endpoint_profiles path spec
-  Ok (record { node = w.node; iface = w.iface; labels = own_labels given namespace w.account w.orchestrator; profiles = profiles })
-
-unfoldable pub endpoint_in : LabelMap → List ℕ → Data → Result Endpoint ReadFault
-endpoint_in given namespace d = do
-  spec ← section (codes "spec") (codes "spec") d
-  endpoint_of given namespace (codes "spec") spec
-
--- the name, the namespace and the labels that `metadata` holds
-unfoldable pub metadata_of : Reader EndpointMetadata
-metadata_of path metadata = do
-  named ← namespaced_name path metadata
-  given ← labels_at path (codes "labels") metadata
-  Ok (record { named = named; labels = given })
-
-unfoldable pub metadata_in : Data → Result EndpointMetadata ReadFault
-metadata_in d = do
-  metadata ← section (codes "metadata") (codes "metadata") d
-  metadata_of (codes "metadata") metadata
-
-unfoldable pub endpoint_put : Data → Result Update ReadFault
-endpoint_put d = do
-  about ← metadata_in d
-  endpoint ← endpoint_in about.labels about.named.ns d
-  Ok (update.Put (endpoint_key about.named) (item.Endpoint endpoint))
-
 -- ---- puts and deletes
 
 -- a resource of this kind that is put
@@ -208,6 +100,8 @@ put_of WorkloadEndpoint d = endpoint_put d
 put_of ATier d = tier_put d
 put_of GlobalNetworkPolicy d = global_policy_put d
 put_of NetworkPolicy d = namespaced_policy_put d
+put_of NetworkSet d = net_set_put d
+put_of GlobalNetworkSet d = global_set_put d
 
 -- what a put of a resource is read as
 unfoldable pub resource_of : Data → Result Update ReadFault
@@ -222,6 +116,8 @@ key_of WorkloadEndpoint path metadata = namespaced_name path metadata >>= λ nam
 key_of ATier path metadata = name_at path metadata >>= λ name. Ok (key.Tier name)
 key_of GlobalNetworkPolicy path metadata = name_at path metadata >>= λ name. Ok (global_key name)
 key_of NetworkPolicy path metadata = namespaced_name path metadata >>= λ named. Ok (namespaced_key named)
+key_of NetworkSet path metadata = namespaced_name path metadata >>= λ named. Ok (net_set_key named)
+key_of GlobalNetworkSet path metadata = name_at path metadata >>= λ name. Ok (global_set_key name)
 
 unfoldable pub key_in : Kind → Data → Result Key ReadFault
 key_in kind d = do

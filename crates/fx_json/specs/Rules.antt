@@ -12,8 +12,8 @@ use Rattle.fx_model.specs.declared.rules.Rule.{Rule}
 use Rattle.fx_model.specs.Formed.{passes}
 use Rattle.fx_json.specs.declared.fault.ReadFault.{ReadFault}
 use Rattle.fx_json.specs.declared.fault.ReadFault.TheVariants.{IcmpWithoutProtocol, PassInProfile}
-use Rattle.fx_json.specs.declared.rules.RuleForm.{RuleForm}
-use Rattle.fx_json.specs.declared.rules.RuleForm.TheVariants.{OfPolicy, OfProfile}
+use Rattle.fx_json.specs.declared.rule_form.RuleForm.{RuleForm}
+use Rattle.fx_json.specs.declared.rule_form.RuleForm.TheVariants.{OfPolicy, OfNamespace, OfProfile}
 use Rattle.fx_json.specs.declared.rules.ReadProtocols.{ReadProtocols}
 use Rattle.fx_json.specs.declared.sides.ReadSide.{ReadSide}
 use Rattle.fx_json.specs.Paths.{member_path}
@@ -33,13 +33,14 @@ action_named s =
 -- behind a profile there is no tier to pass to
 abbrev pub may_pass : RuleForm → Bool
 may_pass OfPolicy = true
+may_pass (OfNamespace ns) = true
 may_pass OfProfile = false
 
-abbrev pub allowed : RuleForm → List ℕ → Action → Result Action ReadFault
-allowed form path a = if passes a && not (may_pass form) then Err (PassInProfile path) else Ok a
+abbrev pub allowed : Bool → List ℕ → Action → Result Action ReadFault
+allowed may path a = if passes a && not may then Err (PassInProfile path) else Ok a
 
-abbrev pub action : RuleForm → Reader Action
-action form path d = formed path (option_and_then action_named (as_str d)) >>= allowed form path
+abbrev pub action : Bool → Reader Action
+action may path d = formed path (option_and_then action_named (as_str d)) >>= allowed may path
 
 -- ---- messages of ICMP
 
@@ -97,8 +98,8 @@ protocols path d = do
     never = is_of_ipv6 ip_version proto m not_m;
   })
 
-unfoldable pub side_at : Option Proto → List ℕ → List ℕ → Data → Result ReadSide ReadFault
-side_at protocol path key d = section (member_path path key) key d >>= side protocol (member_path path key)
+unfoldable pub side_at : RuleForm → Option Proto → List ℕ → List ℕ → Data → Result ReadSide ReadFault
+side_at form protocol path key d = section (member_path path key) key d >>= side form protocol (member_path path key)
 
 -- a rule that no packet of IPv4 meets
 unfoldable pub is_never : ReadProtocols → ReadSide → ReadSide → Bool
@@ -106,10 +107,10 @@ is_never asked source destination = asked.never || (source.never || destination.
 
 unfoldable pub rule_fields : RuleForm → Reader Rule
 rule_fields form path d = do
-  a ← required (action form) path (codes "action") d
+  a ← required (action (may_pass form)) path (codes "action") d
   asked ← protocols path d
-  source ← side_at asked.protocol path (codes "source") d
-  destination ← side_at asked.protocol path (codes "destination") d
+  source ← side_at form asked.protocol path (codes "source") d
+  destination ← side_at form asked.protocol path (codes "destination") d
   _ ← optional unread path (codes "http") d
   Ok (record {
     action = a;

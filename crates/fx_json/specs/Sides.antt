@@ -1,57 +1,23 @@
 -- A side of a rule, field by field in the order of Calico's resource reference (`projectcalico.org/v3`, EntityRule). Members that aren't
 -- named here are ignored.
-use Rattle.std.specs.Prelude.{ℕ, List, [], ◌∷◌, Bool, true, false, ◌&&◌, if◌then◌else◌, Option, Some, None, Result, Ok, Err, codes}
+use Rattle.std.specs.Prelude.{ℕ, List, Bool, true, false, ◌&&◌, if◌then◌else◌, Option, Some, None, Result, Ok, Err, codes}
 use Rattle.std.specs.List.{list_all, filter_map}
 use Rattle.serde_json.specs.Data.{Data, Items, no_items, item}
-use Rattle.serde_json.specs.Find.{as_str}
-use Rattle.fx_base.specs.declared.net.Net.{Net}
 use Rattle.fx_base.specs.declared.net.NetText.{NetText}
 use Rattle.fx_base.specs.declared.net.NetText.TheVariants.{V4, V6}
-use Rattle.fx_base.specs.declared.net.PortRange.{PortRange}
 use Rattle.fx_base.specs.declared.net.Proto.{Proto}
+use Rattle.fx_model.specs.declared.rules.PortSpec.{PortSpec}
 use Rattle.fx_model.specs.Formed.{has_port_protocol, is_given}
 use Rattle.fx_json.specs.declared.fault.ReadFault.{ReadFault}
-use Rattle.fx_json.specs.declared.fault.ReadFault.TheVariants.{BadField, Unsupported, PortsWithoutProtocol}
+use Rattle.fx_json.specs.declared.fault.ReadFault.TheVariants.{PortsWithoutProtocol}
+use Rattle.fx_json.specs.declared.rule_form.RuleForm.{RuleForm}
 use Rattle.fx_json.specs.declared.sides.ReadSide.{ReadSide}
 use Rattle.fx_json.specs.declared.sides.ReadNets.{ReadNets}
 use Rattle.fx_json.specs.declared.sides.ReadPorts.{ReadPorts}
 use Rattle.fx_json.specs.Paths.{member_path}
-use Rattle.fx_json.specs.Fields.{◌>>=◌, Reader, field, is_absent, optional, unread, object_at, list_at, items, items_from}
-use Rattle.fx_json.specs.Values.{net, port}
-
--- ---- selectors
-
--- A selector: the empty text is none, and every other text isn't read yet.
-abbrev pub unread_selector : Reader (Unit {0})
-unread_selector path d = by_text (as_str d)
-  where
-    by_text : Option (List ℕ) → Result (Unit {0}) ReadFault
-    by_text None = Err (BadField path)
-    by_text (Some []) = Ok tt
-    by_text (Some (b ∷ s)) = Err (Unsupported path)
-
-abbrev pub is_empty_text : Option (List ℕ) → Bool
-is_empty_text None = false
-is_empty_text (Some []) = true
-is_empty_text (Some (b ∷ s)) = false
-
-abbrev pub is_no_selector : Option Data → Bool
-is_no_selector None = true
-is_no_selector (Some d) = is_empty_text (as_str d)
-
--- Service accounts by their names or by a selector, neither of which is read yet.
-abbrev pub accounts : Reader (Unit {0})
-accounts path d = object_at path d >>= λ o.
-    if is_absent (codes "names") o && is_no_selector (field (codes "selector") o) then Ok tt else Err (Unsupported path)
-
--- what a side asks of the endpoints of its addresses
-unfoldable pub selectors : Reader (Unit {0})
-selectors path d = do
-  _ ← optional unread_selector path (codes "selector") d
-  _ ← optional unread_selector path (codes "notSelector") d
-  _ ← optional unread_selector path (codes "namespaceSelector") d
-  _ ← optional accounts path (codes "serviceAccounts") d
-  Ok tt
+use Rattle.fx_json.specs.Fields.{◌>>=◌, Reader, optional, unread, list_at, items, items_from}
+use Rattle.fx_json.specs.Values.{net, ipv4, port}
+use Rattle.fx_json.specs.SideSelectors.{side_selectors}
 
 -- ---- ports
 
@@ -64,17 +30,13 @@ abbrev pub may_list : Option Proto → List ℕ → Items → Result (Unit {0}) 
 may_list protocol path no_items = Ok tt
 may_list protocol path (item d ds) = with_ports protocol path
 
-abbrev pub ports_in : Option Proto → List ℕ → Items → Result (List PortRange) ReadFault
+abbrev pub ports_in : Option Proto → List ℕ → Items → Result (List PortSpec) ReadFault
 ports_in protocol path values = may_list protocol path values >>= λ _. items_from port path 0 values
 
-unfoldable pub ports_at : Option Proto → List ℕ → List ℕ → Data → Result (List PortRange) ReadFault
+unfoldable pub ports_at : Option Proto → List ℕ → List ℕ → Data → Result (List PortSpec) ReadFault
 ports_at protocol path key d = list_at path key d >>= ports_in protocol (member_path path key)
 
 -- ---- nets
-
-abbrev pub ipv4 : NetText → Option Net
-ipv4 (V4 n) = Some n
-ipv4 V6 = None
 
 abbrev pub is_ipv6 : NetText → Bool
 is_ipv6 (V4 n) = false
@@ -99,14 +61,21 @@ ports_of protocol path d = do
   not_ports ← ports_at protocol path (codes "notPorts") d
   Ok (record { ports = ports; not_ports = not_ports })
 
--- A side of a rule of this protocol, and whether no packet of IPv4 meets it.
-unfoldable pub side : Option Proto → Reader ReadSide
-side protocol path d = do
+-- A side of a rule of this protocol, by what the rule stands in, and whether no packet of IPv4 meets it.
+unfoldable pub side : RuleForm → Option Proto → Reader ReadSide
+side form protocol path d = do
   nets ← nets_of path d
-  _ ← selectors path d
+  chosen ← side_selectors form path d
   ports ← ports_of protocol path d
   _ ← optional unread path (codes "services") d
   Ok (record {
-    side = record { nets = nets.nets; not_nets = nets.not_nets; ports = ports.ports; not_ports = ports.not_ports };
+    side = record {
+      nets = nets.nets;
+      not_nets = nets.not_nets;
+      selector = chosen.selector;
+      not_selector = chosen.not_selector;
+      ports = ports.ports;
+      not_ports = ports.not_ports;
+    };
     never = nets.never;
   })

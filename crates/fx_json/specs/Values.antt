@@ -15,9 +15,11 @@ use Rattle.fx_base.specs.declared.net.PortRange.{PortRange}
 use Rattle.fx_base.specs.declared.net.Proto.{Proto}
 use Rattle.fx_base.specs.Addresses.{net_address}
 use Rattle.fx_base.specs.TextValues.{address_of, net_of, ports_of, protocol_of}
+use Rattle.fx_model.specs.declared.rules.PortSpec.{PortSpec}
+use Rattle.fx_model.specs.declared.rules.PortSpec.TheVariants.{Number, Named}
 use Rattle.fx_model.specs.Criteria.{has_ports}
 use Rattle.fx_json.specs.declared.fault.ReadFault.{ReadFault}
-use Rattle.fx_json.specs.declared.fault.ReadFault.TheVariants.{BadField, Unsupported}
+use Rattle.fx_json.specs.declared.fault.ReadFault.TheVariants.{BadField}
 use Rattle.fx_json.specs.Fields.{Reader, formed}
 use Rattle.fx_json.specs.Forms.{passing, is_port_name}
 
@@ -46,6 +48,9 @@ protocol_in d = option_map (λ n. record { 0 = n }) (by_text (as_str d))
 
 abbrev pub protocol : Reader Proto
 protocol path d = formed path (protocol_in d)
+
+abbrev pub tcp : Proto
+tcp = record { 0 = 6 }
 
 -- a protocol whose ports have names: TCP, UDP or SCTP
 abbrev pub port_protocol : Reader Proto
@@ -86,20 +91,33 @@ is_host (V4 n) = n.len == 32
 abbrev pub host_net : Reader NetText
 host_net path d = formed path (passing is_host (option_and_then net_in (as_str d)))
 
+-- the nets of IPv4; those of IPv6 give nothing
+abbrev pub ipv4 : NetText → Option Net
+ipv4 (V4 n) = Some n
+ipv4 V6 = None
+
+abbrev pub host_address : NetText → Option Ipv4
+host_address (V4 n) = Some n.addr
+host_address V6 = None
+
 -- ---- ports
 
 -- the ports from one to another, which is the upper end at least
 abbrev pub range : ℕ → ℕ → PortRange
 range low high = record { low = min low high; high = high; ascending = min-le_right low high }
 
--- A port of a rule: a number, a text of one or of a range, or a port's name, which isn't read yet.
-abbrev pub port : Reader PortRange
+-- a text that is no number and no range
+abbrev pub named_port : List ℕ → List ℕ → Result PortSpec ReadFault
+named_port path s = if is_port_name s then Ok (Named s) else Err (BadField path)
+
+abbrev pub port_of_text : List ℕ → List ℕ → Option (ℕ × ℕ) → Result PortSpec ReadFault
+port_of_text path s (Some ends) = Ok (Number (range ends.0 ends.1))
+port_of_text path s None = named_port path s
+
+-- A port of a rule: a number, a text of one or of a range, or the name of a port.
+abbrev pub port : Reader PortSpec
 port path d = by_text (as_str d)
   where
-    by_range : List ℕ → Option (ℕ × ℕ) → Result PortRange ReadFault
-    by_range s (Some ends) = Ok (range ends.0 ends.1)
-    by_range s None = Err (if is_port_name s then Unsupported path else BadField path)
-
-    by_text : Option (List ℕ) → Result PortRange ReadFault
-    by_text None = formed path (option_map (λ n. range n n) (whole_in 0 65535 d))
-    by_text (Some s) = by_range s (ports_of s)
+    by_text : Option (List ℕ) → Result PortSpec ReadFault
+    by_text None = formed path (option_map (λ n. Number (range n n)) (whole_in 0 65535 d))
+    by_text (Some s) = port_of_text path s (ports_of s)

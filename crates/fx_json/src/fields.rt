@@ -2,6 +2,7 @@
 ghost use Rattle.std.specs.Prelude.{◌≡◌, ◌+◌, ℕ, List, Some, None, Ok, Result, MatchResult, option_map};
 ghost use Rattle.serde_json.specs.Data.{Data, null};
 ghost use Rattle.serde_json.specs.View.{view, items_view, members_view};
+ghost use Rattle.fx_model.specs.Formed.{is_given};
 ghost use Rattle.fx_json.specs.declared.fault.ReadFault.{ReadFault};
 ghost use Rattle.fx_json.specs.declared.fault.ReadFault.TheVariants.{MissingField};
 ghost use Rattle.fx_json.specs.Faults.{IsReadFault, IsAnswerOf};
@@ -50,6 +51,13 @@ fn member_count(map: &Map<String, Value>) -> usize
         }
     }
     count
+}
+
+/// Whether a list isn't empty.
+pub fn is_given<T>(items: &[T]) -> bool
+    ensures { result ≡ is_given items.now }
+{
+    !items.is_empty()
 }
 
 /// How the values of a form are read.

@@ -4,7 +4,7 @@ ghost use Rattle.std.specs.FinMap as maps;
 ghost use Rattle.serde_json.specs.View.{view, members_view};
 ghost use Rattle.fx_json.specs.Faults.{IsAnswerOf};
 ghost use Rattle.fx_json.specs.Paths.{text_of};
-ghost use Rattle.fx_json.specs.Resources.{with_labels, labels_in, labels, labels_at, with_given, own_labels};
+ghost use Rattle.fx_json.specs.Labels.{with_labels, labels_in, labels, labels_at, in_namespace, with_given, own_labels};
 
 use crate::fault::ReadFault;
 use crate::fields::{Form, defaulted, formed};
@@ -15,7 +15,7 @@ use serde_json::{Map, Value};
 use std::alloc::Global;
 
 /// The labels of this name, none where it is absent.
-#[tactic(auto, unfolding(crate::specs::Resources::labels_at))]
+#[tactic(auto, unfolding(crate::specs::Labels::labels_at))]
 pub fn labels_at(
     alloc: Global,
     path: &Path<'_>,
@@ -65,19 +65,27 @@ fn labels_of(alloc: Global, map: &Map<String, Value>) -> Result<Option<Labels>, 
     Ok(Some(labels))
 }
 
-// ---- an endpoint's own labels
+// ---- labels that Calico sets
+
+/// Sets the label of a namespace.
+pub fn in_namespace(mut labels: Labels, namespace: &Text) -> Result<Labels, Memory>
+    ensures { IfOk result (λ own. own ≡ in_namespace namespace.now labels) }
+{
+    labels.put(b"projectcalico.org/namespace", namespace.bytes())?;
+    Ok(labels)
+}
 
 /// Sets the labels of an endpoint's namespace, service account and orchestrator.
-#[tactic(auto, unfolding(crate::specs::Resources::own_labels))]
+#[tactic(auto, unfolding(crate::specs::Labels::own_labels))]
 pub fn own_labels(
-    mut labels: Labels,
+    given: Labels,
     namespace: &Text,
     account: Option<Text>,
     orchestrator: Option<Text>,
 ) -> Result<Labels, Memory>
-    ensures { IfOk result (λ own. own ≡ own_labels labels namespace.now account orchestrator) }
+    ensures { IfOk result (λ own. own ≡ own_labels given namespace.now account orchestrator) }
 {
-    labels.put(b"projectcalico.org/namespace", namespace.bytes())?;
+    let mut labels = in_namespace(given, namespace)?;
     put_given(&mut labels, b"projectcalico.org/serviceaccount", account)?;
     put_given(&mut labels, b"projectcalico.org/orchestrator", orchestrator)?;
     Ok(labels)

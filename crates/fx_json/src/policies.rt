@@ -4,16 +4,15 @@ ghost use Rattle.std.specs.List.{list_any};
 ghost use Rattle.serde_json.specs.Find.{as_str};
 ghost use Rattle.serde_json.specs.View.{view};
 ghost use Rattle.fx_selector.specs.Tree.{IsString};
-ghost use Rattle.fx_model.specs.Formed.{is_given};
 ghost use Rattle.fx_json.specs.Faults.{IsAnswerOf};
 ghost use Rattle.fx_json.specs.Paths.{text_of};
 ghost use Rattle.fx_json.specs.Policies.{order, default_action, tier_of, place_of, policy_type_named, policy_type, is_ingress, is_egress, directions_by_rules, directions_of, kept, kept_rules, rules_of, policy_of, unset, flags, global_policy, namespaced_policy, tier_in, tier_put, global_policy_in, global_policy_put, namespaced_key, namespaced_policy_in, namespaced_policy_put};
 
 use crate::fault::ReadFault;
-use crate::fields::{Form, defaulted, formed, items, optional, section};
+use crate::fields::{Form, defaulted, formed, is_given, items, optional, section};
 use crate::names::{NamespacedName, name_in, namespaced_name_in};
 use crate::path::Path;
-use crate::rules::RuleForm;
+use crate::rule_form::RuleForm;
 use crate::selectors::{global_selector, namespaced_selector};
 use crate::texts::TextForm;
 use fx_base::{Seq, Text};
@@ -119,7 +118,8 @@ fn read_global_policy(alloc: Global, path: &Path<'_>, spec: &Value) -> Result<Po
 {
     let place = read_place(alloc, path, spec)?;
     let selector = global_selector(alloc, path, spec)?;
-    let rules = read_rules(alloc, path, spec)?;
+    let form = RuleForm::OfPolicy;
+    let rules = read_rules(alloc, &form, path, spec)?;
     read_flags(alloc, path, spec)?;
     Ok(policy_of(place, selector, rules))
 }
@@ -204,7 +204,8 @@ fn read_namespaced_policy(
 {
     let place = read_place(alloc, path, spec)?;
     let selector = namespaced_selector(alloc, namespace, path, spec)?;
-    let rules = read_rules(alloc, path, spec)?;
+    let form = RuleForm::of_namespace(alloc, namespace)?;
+    let rules = read_rules(alloc, &form, path, spec)?;
     Ok(policy_of(place, selector, rules))
 }
 
@@ -251,14 +252,19 @@ struct PolicyRules {
 }
 
 #[tactic(auto, unfolding(crate::specs::Policies::rules_of))]
-fn read_rules(alloc: Global, path: &Path<'_>, spec: &Value) -> Result<PolicyRules, ReadFault>
-    ensures { IsAnswerOf (rules_of (text_of path.now) (view spec.now)) result }
+fn read_rules(
+    alloc: Global,
+    form: &RuleForm,
+    path: &Path<'_>,
+    spec: &Value,
+) -> Result<PolicyRules, ReadFault>
+    ensures { IsAnswerOf (rules_of form.now (text_of path.now) (view spec.now)) result }
 {
     let types = items(alloc, &PolicyTypeForm, path, "types", spec)?;
-    let ingress = items(alloc, &RuleForm::OfPolicy, path, "ingress", spec)?;
-    let egress = items(alloc, &RuleForm::OfPolicy, path, "egress", spec)?;
-    let has_ingress = is_given(&ingress);
-    let has_egress = is_given(&egress);
+    let ingress = items(alloc, form, path, "ingress", spec)?;
+    let egress = items(alloc, form, path, "egress", spec)?;
+    let has_ingress = is_given(ingress.as_slice());
+    let has_egress = is_given(egress.as_slice());
     let on = directions_of(types.as_slice(), has_ingress, has_egress);
     Ok(kept_rules(alloc, on, ingress, egress))
 }
@@ -352,12 +358,6 @@ fn is_egress(listed: &PolicyType) -> bool
     ensures { result ≡ is_egress listed.now }
 {
     matches!(listed, PolicyType::Egress)
-}
-
-fn is_given(rules: &Seq<Rule>) -> bool
-    ensures { result ≡ is_given rules.now }
-{
-    !rules.as_slice().is_empty()
 }
 
 // The rules of a direction that is off are dropped.

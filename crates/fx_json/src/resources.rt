@@ -1,23 +1,21 @@
-//! Reads a resource that is put or deleted, and of those that are put a Profile or a WorkloadEndpoint.
+//! Reads a resource that is put or deleted, and of those that are put a Profile.
 ghost use Rattle.std.specs.Prelude.{◌≡◌, ℕ, List, true, IfOk, option_map};
 ghost use Rattle.serde_json.specs.View.{view};
 ghost use Rattle.fx_model.specs.Formed.{is_formed, puts_workload_interface};
 ghost use Rattle.fx_json.specs.Faults.{IsReadFault, IsAnswerOf};
 ghost use Rattle.fx_json.specs.Paths.{text_of};
-ghost use Rattle.fx_json.specs.Resources.{unread_kind, calico_kind, core_kind, network_kind, kind_named, text_at, kind_of, profile_of, profile_put, endpoint_key, port_fields, endpoint_port, endpoint_of, endpoint_put, put_of, resource_of, key_of, delete_of, key_in, profile_in, metadata_in, metadata_of, endpoint_in, workload, endpoint_profiles};
+ghost use Rattle.fx_json.specs.Resources.{unread_kind, calico_kind, core_kind, network_kind, kind_named, text_at, kind_of, profile_of, profile_put, put_of, resource_of, key_of, delete_of, key_in, profile_in};
 
+use crate::endpoints::{endpoint_key, endpoint_put};
 use crate::fault::ReadFault;
-use crate::fields::{Form, field, items, object, optional, required, section};
-use crate::labels::{labels_at, own_labels};
-use crate::names::{NamespacedName, name_at, name_in, namespaced_name};
+use crate::fields::{field, items, section};
+use crate::labels::labels_at;
+use crate::names::{name_at, name_in, namespaced_name};
+use crate::net_sets::{global_set_key, global_set_put, net_set_key, net_set_put};
 use crate::path::Path;
 use crate::policies::{global_policy_put, namespaced_key, namespaced_policy_put, tier_put};
-use crate::rules::RuleForm;
-use crate::texts::TextForm;
-use crate::values::{HostForm, PortProtocolForm, WordForm};
-use fx_base::{Seq, Text};
-use fx_model::{Endpoint, Item, ItemKey, Key, PolicyId, Profile, Update};
-use fx_selector::Labels;
+use crate::rule_form::RuleForm;
+use fx_model::{Item, Key, PolicyId, Profile, Update};
 use serde_json::Value;
 use std::alloc::Global;
 
@@ -29,6 +27,8 @@ enum Kind {
     Tier,
     GlobalNetworkPolicy,
     NetworkPolicy,
+    NetworkSet,
+    GlobalNetworkSet,
 }
 
 /// The update that a put of this resource is, or the first fault of the resource.
@@ -50,6 +50,8 @@ fn put_of(alloc: Global, value: &Value) -> Result<Update, ReadFault>
         Kind::Tier => tier_put(alloc, value),
         Kind::GlobalNetworkPolicy => global_policy_put(alloc, value),
         Kind::NetworkPolicy => namespaced_policy_put(alloc, value),
+        Kind::NetworkSet => net_set_put(alloc, value),
+        Kind::GlobalNetworkSet => global_set_put(alloc, value),
     }
 }
 
@@ -96,6 +98,8 @@ fn key_of(alloc: Global, kind: Kind, path: &Path<'_>, metadata: &Value) -> Resul
             name: name_at(alloc, path, metadata)?,
         })),
         Kind::NetworkPolicy => Ok(namespaced_key(namespaced_name(alloc, path, metadata)?)),
+        Kind::NetworkSet => Ok(net_set_key(namespaced_name(alloc, path, metadata)?)),
+        Kind::GlobalNetworkSet => Ok(global_set_key(name_at(alloc, path, metadata)?)),
     }
 }
 
@@ -124,7 +128,7 @@ fn kind_named(alloc: Global, version: &str, kind: &str) -> Result<Kind, ReadFaul
     ensures { IsAnswerOf (kind_named version.now kind.now) result }
 {
     match version {
-        "projectcalico.org/v3" => calico_kind(alloc, kind),
+        "projectcalico.org/v3" => calico_kind(kind),
         "v1" => core_kind(alloc, kind),
         "networking.k8s.io/v1" => network_kind(alloc, kind),
         _ => Err(ReadFault::UnknownKind),
@@ -132,7 +136,7 @@ fn kind_named(alloc: Global, version: &str, kind: &str) -> Result<Kind, ReadFaul
 }
 
 #[tactic(auto, unfolding(crate::specs::Resources::calico_kind))]
-fn calico_kind(alloc: Global, kind: &str) -> Result<Kind, ReadFault>
+fn calico_kind(kind: &str) -> Result<Kind, ReadFault>
     ensures { IsAnswerOf (calico_kind kind.now) result }
 {
     match kind {
@@ -141,7 +145,8 @@ fn calico_kind(alloc: Global, kind: &str) -> Result<Kind, ReadFault>
         "Tier" => Ok(Kind::Tier),
         "GlobalNetworkPolicy" => Ok(Kind::GlobalNetworkPolicy),
         "NetworkPolicy" => Ok(Kind::NetworkPolicy),
-        "NetworkSet" | "GlobalNetworkSet" => unread_kind(alloc),
+        "NetworkSet" => Ok(Kind::NetworkSet),
+        "GlobalNetworkSet" => Ok(Kind::GlobalNetworkSet),
         _ => Err(ReadFault::UnknownKind),
     }
 }
@@ -203,166 +208,13 @@ fn profile_in(alloc: Global, resource: &Value) -> Result<Profile, ReadFault>
 fn read_profile(alloc: Global, path: &Path<'_>, spec: &Value) -> Result<Profile, ReadFault>
     ensures { IsAnswerOf (profile_of (text_of path.now) (view spec.now)) result }
 {
-    let ingress = items(alloc, &RuleForm::OfProfile, path, "ingress", spec)?;
-    let egress = items(alloc, &RuleForm::OfProfile, path, "egress", spec)?;
+    let form = RuleForm::OfProfile;
+    let ingress = items(alloc, &form, path, "ingress", spec)?;
+    let egress = items(alloc, &form, path, "egress", spec)?;
     let labels = labels_at(alloc, path, "labelsToApply", spec)?;
     Ok(Profile {
         labels,
         ingress,
         egress,
     })
-}
-
-// ---- workload endpoints
-
-#[tactic(auto, unfolding(crate::specs::Resources::endpoint_put))]
-fn endpoint_put(alloc: Global, resource: &Value) -> Result<Update, ReadFault>
-    ensures { IsAnswerOf (endpoint_put (view resource.now)) result }
-{
-    let EndpointMetadata { named, labels } = metadata_in(alloc, resource)?;
-    let endpoint = endpoint_in(alloc, labels, &named.ns, resource)?;
-    Ok(Update::Put {
-        key: endpoint_key(named),
-        item: Item::Endpoint(endpoint),
-    })
-}
-
-// What an endpoint's metadata says of it.
-#[derive(Drop)]
-struct EndpointMetadata {
-    named: NamespacedName,
-    labels: Labels,
-}
-
-#[tactic(auto, unfolding(crate::specs::Resources::metadata_in))]
-fn metadata_in(alloc: Global, resource: &Value) -> Result<EndpointMetadata, ReadFault>
-    ensures { IsAnswerOf (metadata_in (view resource.now)) result }
-{
-    let nothing = Value::Null;
-    let path = Path::top("metadata");
-    let metadata = section(alloc, &path, "metadata", resource, &nothing)?;
-    read_metadata(alloc, &path, metadata)
-}
-
-#[tactic(auto, unfolding(crate::specs::Resources::metadata_of))]
-fn read_metadata(
-    alloc: Global,
-    path: &Path<'_>,
-    metadata: &Value,
-) -> Result<EndpointMetadata, ReadFault>
-    ensures { IsAnswerOf (metadata_of (text_of path.now) (view metadata.now)) result }
-{
-    let named = namespaced_name(alloc, path, metadata)?;
-    let labels = labels_at(alloc, path, "labels", metadata)?;
-    Ok(EndpointMetadata { named, labels })
-}
-
-#[tactic(auto, unfolding(crate::specs::Resources::endpoint_in))]
-fn endpoint_in(
-    alloc: Global,
-    given: Labels,
-    namespace: &Text,
-    resource: &Value,
-) -> Result<Endpoint, ReadFault>
-    ensures { IsAnswerOf (endpoint_in given namespace.now (view resource.now)) result }
-{
-    let nothing = Value::Null;
-    let path = Path::top("spec");
-    let spec = section(alloc, &path, "spec", resource, &nothing)?;
-    read_endpoint(alloc, given, namespace, &path, spec)
-}
-
-fn endpoint_key(named: NamespacedName) -> Key
-    ensures { result ≡ endpoint_key named }
-{
-    Key::Item(ItemKey::Endpoint {
-        ns: named.ns,
-        name: named.name,
-    })
-}
-
-#[tactic(auto, unfolding(crate::specs::Resources::endpoint_of))]
-fn read_endpoint(
-    alloc: Global,
-    given: Labels,
-    namespace: &Text,
-    path: &Path<'_>,
-    spec: &Value,
-) -> Result<Endpoint, ReadFault>
-    ensures { IsAnswerOf (endpoint_of given namespace.now (text_of path.now) (view spec.now)) result }
-{
-    let workload = read_workload(alloc, path, spec)?;
-    let profiles = read_profiles(alloc, path, spec)?;
-    let labels = own_labels(given, namespace, workload.account, workload.orchestrator)?;
-    Ok(Endpoint {
-        node: workload.node,
-        iface: workload.iface,
-        labels,
-        profiles,
-    })
-}
-
-// Where a workload runs, and what it runs as.
-#[derive(Drop)]
-struct Workload {
-    node: Text,
-    orchestrator: Option<Text>,
-    account: Option<Text>,
-    iface: Text,
-}
-
-#[tactic(auto, unfolding(crate::specs::Resources::workload))]
-fn read_workload(alloc: Global, path: &Path<'_>, spec: &Value) -> Result<Workload, ReadFault>
-    ensures { IsAnswerOf (workload (text_of path.now) (view spec.now)) result }
-{
-    let node = required(alloc, &TextForm::Name, path, "node", spec)?;
-    let orchestrator = optional(alloc, &TextForm::Name, path, "orchestrator", spec)?;
-    let account = optional(alloc, &TextForm::Name, path, "serviceAccountName", spec)?;
-    let iface = required(
-        alloc,
-        &TextForm::WorkloadInterface,
-        path,
-        "interfaceName",
-        spec,
-    )?;
-    Ok(Workload {
-        node,
-        orchestrator,
-        account,
-        iface,
-    })
-}
-
-// The profiles of an endpoint, between its addresses and its ports.
-#[tactic(auto, unfolding(crate::specs::Resources::endpoint_profiles))]
-fn read_profiles(alloc: Global, path: &Path<'_>, spec: &Value) -> Result<Seq<Text>, ReadFault>
-    ensures { IsAnswerOf (endpoint_profiles (text_of path.now) (view spec.now)) result }
-{
-    items(alloc, &HostForm, path, "ipNetworks", spec)?;
-    let profiles = items(alloc, &TextForm::Name, path, "profiles", spec)?;
-    items(alloc, &EndpointPortForm, path, "ports", spec)?;
-    Ok(profiles)
-}
-
-// A port of an endpoint, which nothing is made of yet.
-struct EndpointPortForm;
-
-impl Form for EndpointPortForm {
-    type Read = ();
-
-    ghost read_by = { λ _. endpoint_port };
-
-    fn read(&self, alloc: Global, path: &Path<'_>, value: &Value) -> Result<(), ReadFault> {
-        read_endpoint_port(alloc, path, object(alloc, path, value)?)
-    }
-}
-
-#[tactic(auto, unfolding(crate::specs::Resources::port_fields))]
-fn read_endpoint_port(alloc: Global, path: &Path<'_>, port: &Value) -> Result<(), ReadFault>
-    ensures { IsAnswerOf (port_fields (text_of path.now) (view port.now)) result }
-{
-    required(alloc, &TextForm::PortName, path, "name", port)?;
-    optional(alloc, &PortProtocolForm, path, "protocol", port)?;
-    required(alloc, &WordForm { low: 1 }, path, "port", port)?;
-    Ok(())
 }

@@ -10,19 +10,13 @@ ghost use Rattle.fx_json.specs.Rules.{action_named, may_pass, allowed, action, i
 use crate::fault::ReadFault;
 use crate::fields::{Form, defaulted, formed, is_absent, object, optional, required, section};
 use crate::path::Path;
+use crate::rule_form::RuleForm;
 use crate::sides::{ReadSide, UnreadForm, read_side};
 use crate::values::{ByteForm, ProtocolForm, VersionForm};
 use fx_base::Proto;
 use fx_model::{Action, Icmp, Rule};
 use serde_json::Value;
 use std::alloc::Global;
-
-/// A rule, by what it stands in.
-#[derive(Clone, Copy)]
-pub enum RuleForm {
-    OfPolicy,
-    OfProfile,
-}
 
 impl Form for RuleForm {
     type Read = Rule;
@@ -31,23 +25,24 @@ impl Form for RuleForm {
 
     #[tactic(auto, unfolding(crate::specs::Rules::rule))]
     fn read(&self, alloc: Global, path: &Path<'_>, value: &Value) -> Result<Rule, ReadFault> {
-        read_rule(alloc, *self, path, object(alloc, path, value)?)
+        read_rule(alloc, self, path, object(alloc, path, value)?)
     }
 }
 
 #[tactic(auto, unfolding(crate::specs::Rules::rule_fields))]
 fn read_rule(
     alloc: Global,
-    form: RuleForm,
+    form: &RuleForm,
     path: &Path<'_>,
     rule: &Value,
 ) -> Result<Rule, ReadFault>
-    ensures { IsAnswerOf (rule_fields form (text_of path.now) (view rule.now)) result }
+    ensures { IsAnswerOf (rule_fields form.now (text_of path.now) (view rule.now)) result }
 {
-    let action = required(alloc, &ActionForm { of: form }, path, "action", rule)?;
+    let may_pass = may_pass(form);
+    let action = required(alloc, &ActionForm { may_pass }, path, "action", rule)?;
     let asked = read_protocols(alloc, path, rule)?;
-    let source = side_at(alloc, asked.protocol, path, "source", rule)?;
-    let destination = side_at(alloc, asked.protocol, path, "destination", rule)?;
+    let source = side_at(alloc, form, asked.protocol, path, "source", rule)?;
+    let destination = side_at(alloc, form, asked.protocol, path, "destination", rule)?;
     optional(alloc, &UnreadForm, path, "http", rule)?;
     Ok(Rule {
         action,
@@ -100,48 +95,48 @@ fn read_protocols(alloc: Global, path: &Path<'_>, rule: &Value) -> Result<ReadPr
 #[tactic(auto, unfolding(crate::specs::Rules::side_at))]
 fn side_at(
     alloc: Global,
+    form: &RuleForm,
     protocol: Option<Proto>,
     path: &Path<'_>,
     key: &str,
     rule: &Value,
 ) -> Result<ReadSide, ReadFault>
-    ensures { IsAnswerOf (side_at protocol (text_of path.now) key.now (view rule.now)) result }
+    ensures { IsAnswerOf (side_at form.now protocol (text_of path.now) key.now (view rule.now)) result }
 {
     let nothing = Value::Null;
     let here = path.member(key);
     let side = section(alloc, &here, key, rule, &nothing)?;
-    read_side(alloc, protocol, &here, side)
+    read_side(alloc, form, protocol, &here, side)
 }
 
 // ---- actions
 
-// The action of such a rule.
-#[derive(Clone, Copy)]
+// The action of a rule that may pass, or may not.
+#[derive(Drop)]
 struct ActionForm {
-    of: RuleForm,
+    may_pass: bool,
 }
 
 impl Form for ActionForm {
     type Read = Action;
 
-    ghost read_by = { λ form. action form.of };
+    ghost read_by = { λ form. action form.may_pass };
 
     fn read(&self, alloc: Global, path: &Path<'_>, value: &Value) -> Result<Action, ReadFault> {
         let action = formed(alloc, path, action_in(value))?;
-        allowed(alloc, self.of, path, action)
+        allowed(alloc, self.may_pass, path, action)
     }
 }
 
-// Behind a profile there is no tier to pass to.
 fn allowed(
     alloc: Global,
-    form: RuleForm,
+    may_pass: bool,
     path: &Path<'_>,
     action: Action,
 ) -> Result<Action, ReadFault>
-    ensures { IsAnswerOf (allowed form (text_of path.now) action) result }
+    ensures { IsAnswerOf (allowed may_pass (text_of path.now) action) result }
 {
-    if passes(action) && !may_pass(form) {
+    if passes(action) && !may_pass {
         Err(ReadFault::PassInProfile {
             path: path.text(alloc)?,
         })
@@ -150,11 +145,12 @@ fn allowed(
     }
 }
 
-fn may_pass(form: RuleForm) -> bool
-    ensures { result ≡ may_pass form }
+// Behind a profile there is no tier to pass to.
+fn may_pass(form: &RuleForm) -> bool
+    ensures { result ≡ may_pass form.now }
 {
     match form {
-        RuleForm::OfPolicy => true,
+        RuleForm::OfPolicy | RuleForm::OfNamespace(_) => true,
         RuleForm::OfProfile => false,
     }
 }

@@ -1,4 +1,4 @@
-//! Reads the selectors of a policy, and makes one of them.
+//! Reads selectors, and makes one of those of a policy.
 ghost use Rattle.std.specs.Prelude.{◌≡◌, ◌≤◌, ◌++◌, List, Some, All, IfOk, IfSome, OnOk, option_map, option_to_list};
 ghost use Rattle.serde_json.specs.View.{view};
 ghost use Rattle.fx_selector.specs.Tree.{IsString, height};
@@ -48,8 +48,8 @@ pub fn namespaced_selector(
 
 // ---- texts
 
-// The selector of this name, if one is given.
-fn selector_at(
+/// The selector of this name, if one is given.
+pub fn selector_at(
     alloc: Global,
     path: &Path<'_>,
     key: &str,
@@ -129,7 +129,11 @@ fn fault_place(fault: SelectorFault) -> Option<u32>
 
 // ---- parts
 
-fn of_service_accounts(alloc: Global, part: Option<Selector>) -> Result<Option<Selector>, Memory>
+/// A selector of service accounts as one of endpoints.
+pub fn of_service_accounts(
+    alloc: Global,
+    part: Option<Selector>,
+) -> Result<Option<Selector>, Memory>
     requires { IfSome part (λ t. height t ≤ 131) }
     ensures tree { IfOk result (λ found. found ≡ option_map service_account_tree part) }
     ensures shallow { IfOk result (λ found. IfSome found (λ t. height t ≤ 139)) }
@@ -140,7 +144,8 @@ fn of_service_accounts(alloc: Global, part: Option<Selector>) -> Result<Option<S
     }
 }
 
-fn of_namespaces(alloc: Global, part: Option<Selector>) -> Result<Option<Selector>, Memory>
+/// A selector of namespaces as one of endpoints.
+pub fn of_namespaces(alloc: Global, part: Option<Selector>) -> Result<Option<Selector>, Memory>
     requires { IfSome part (λ t. height t ≤ 131) }
     ensures tree { IfOk result (λ found. found ≡ option_map namespace_tree part) }
     ensures shallow { IfOk result (λ found. IfSome found (λ t. height t ≤ 139)) }
@@ -151,7 +156,8 @@ fn of_namespaces(alloc: Global, part: Option<Selector>) -> Result<Option<Selecto
     }
 }
 
-fn of_namespace(alloc: Global, namespace: &Text) -> Result<Selector, Memory>
+/// The endpoints of a namespace.
+pub fn of_namespace(alloc: Global, namespace: &Text) -> Result<Selector, Memory>
     requires { IsString namespace.now }
     ensures { IfOk result (λ selector. selector ≡ of_namespace namespace.now) }
 {
@@ -177,7 +183,7 @@ fn all_parts(
     Selector::and(alloc, parts)
 }
 
-fn push_given(parts: &mut Vec<Selector>, part: Option<Selector>) -> Result<(), Memory>
+pub fn push_given(parts: &mut Vec<Selector>, part: Option<Selector>) -> Result<(), Memory>
     requires parts { All (λ t. height t ≤ 139) parts.old.items }
     requires part { IfSome part (λ t. height t ≤ 139) }
     ensures pushed { OnOk result (parts.new.items ≡ parts.old.items ++ option_to_list part) }

@@ -1,20 +1,22 @@
 //! Reads a side of a rule.
-ghost use Rattle.std.specs.Prelude.{◌≡◌, IfOk, option_map};
-ghost use Rattle.std.specs.List.{list_all, filter_map};
-ghost use Rattle.serde_json.specs.Find.{as_str};
+ghost use Rattle.std.specs.Prelude.{◌≡◌};
+ghost use Rattle.std.specs.List.{list_all};
 ghost use Rattle.serde_json.specs.View.{view, items_view};
 ghost use Rattle.fx_model.specs.Formed.{has_port_protocol};
-ghost use Rattle.fx_json.specs.Faults.{IsReadFault, IsAnswerOf};
+ghost use Rattle.fx_json.specs.Faults.{IsAnswerOf};
 ghost use Rattle.fx_json.specs.Paths.{text_of};
 ghost use Rattle.fx_json.specs.Fields.{unread};
-ghost use Rattle.fx_json.specs.Sides.{unread_selector, is_no_selector, accounts, selectors, with_ports, may_list, ports_in, ports_at, ipv4, is_ipv6, are_ipv6_alone, nets_of, ports_of, side};
+ghost use Rattle.fx_json.specs.Sides.{with_ports, may_list, ports_in, ports_at, is_ipv6, are_ipv6_alone, nets_of, ports_of, side};
 
 use crate::fault::ReadFault;
-use crate::fields::{Form, field, is_absent, items, list_at, object, optional, read_items};
+use crate::fields::{Form, items, list_at, optional, read_items};
+use crate::nets::ipv4_nets;
 use crate::path::Path;
+use crate::rule_form::RuleForm;
+use crate::side_selectors::read_selectors;
 use crate::values::{NetForm, PortForm};
-use fx_base::{Memory, Net, NetText, PortRange, Proto, Seq};
-use fx_model::{Side, has_ports};
+use fx_base::{Net, NetText, Proto, Seq};
+use fx_model::{PortSpec, Side, has_ports};
 use serde_json::Value;
 use std::alloc::Global;
 
@@ -28,20 +30,23 @@ pub struct ReadSide {
 #[tactic(auto, unfolding(crate::specs::Sides::side))]
 pub fn read_side(
     alloc: Global,
+    form: &RuleForm,
     protocol: Option<Proto>,
     path: &Path<'_>,
     value: &Value,
 ) -> Result<ReadSide, ReadFault>
-    ensures { IsAnswerOf (side protocol (text_of path.now) (view value.now)) result }
+    ensures { IsAnswerOf (side form.now protocol (text_of path.now) (view value.now)) result }
 {
     let nets = read_nets(alloc, path, value)?;
-    read_selectors(alloc, path, value)?;
+    let chosen = read_selectors(alloc, form, path, value)?;
     let ports = read_ports(alloc, protocol, path, value)?;
     optional(alloc, &UnreadForm, path, "services", value)?;
     Ok(ReadSide {
         side: Side {
             nets: nets.nets,
             not_nets: nets.not_nets,
+            selector: chosen.selector,
+            not_selector: chosen.not_selector,
             ports: ports.ports,
             not_ports: ports.not_ports,
         },
@@ -73,8 +78,8 @@ fn read_nets(alloc: Global, path: &Path<'_>, value: &Value) -> Result<ReadNets, 
 /// The ports of a side.
 #[derive(Drop)]
 pub struct ReadPorts {
-    pub ports: Seq<PortRange>,
-    pub not_ports: Seq<PortRange>,
+    pub ports: Seq<PortSpec>,
+    pub not_ports: Seq<PortSpec>,
 }
 
 #[tactic(auto, unfolding(crate::specs::Sides::ports_of))]
@@ -89,20 +94,6 @@ fn read_ports(
     let ports = ports_at(alloc, protocol, path, "ports", value)?;
     let not_ports = ports_at(alloc, protocol, path, "notPorts", value)?;
     Ok(ReadPorts { ports, not_ports })
-}
-
-// ---- what isn't read yet
-
-// What a side asks of the endpoints of its addresses.
-#[tactic(auto, unfolding(crate::specs::Sides::selectors))]
-fn read_selectors(alloc: Global, path: &Path<'_>, side: &Value) -> Result<(), ReadFault>
-    ensures { IsAnswerOf (selectors (text_of path.now) (view side.now)) result }
-{
-    optional(alloc, &UnreadSelectorForm, path, "selector", side)?;
-    optional(alloc, &UnreadSelectorForm, path, "notSelector", side)?;
-    optional(alloc, &UnreadSelectorForm, path, "namespaceSelector", side)?;
-    optional(alloc, &AccountsForm, path, "serviceAccounts", side)?;
-    Ok(())
 }
 
 /// A member that isn't read yet.
@@ -120,56 +111,6 @@ impl Form for UnreadForm {
     }
 }
 
-// A selector, which isn't read yet unless it is empty.
-struct UnreadSelectorForm;
-
-impl Form for UnreadSelectorForm {
-    type Read = ();
-
-    ghost read_by = { λ _. unread_selector };
-
-    fn read(&self, alloc: Global, path: &Path<'_>, value: &Value) -> Result<(), ReadFault> {
-        match value.as_str() {
-            Some("") => Ok(()),
-            Some(_) => Err(ReadFault::Unsupported {
-                path: path.text(alloc)?,
-            }),
-            None => Err(ReadFault::BadField {
-                path: path.text(alloc)?,
-            }),
-        }
-    }
-}
-
-// Service accounts, which aren't read yet.
-struct AccountsForm;
-
-impl Form for AccountsForm {
-    type Read = ();
-
-    ghost read_by = { λ _. accounts };
-
-    fn read(&self, alloc: Global, path: &Path<'_>, value: &Value) -> Result<(), ReadFault> {
-        let accounts = object(alloc, path, value)?;
-        if is_absent(accounts, "names") && is_no_selector(field(accounts, "selector")) {
-            Ok(())
-        } else {
-            Err(ReadFault::Unsupported {
-                path: path.text(alloc)?,
-            })
-        }
-    }
-}
-
-fn is_no_selector(value: Option<&Value>) -> bool
-    ensures { result ≡ is_no_selector (option_map (λ v. view v.now) value.entry) }
-{
-    match value {
-        Some(value) => value.as_str() == Some(""),
-        None => true,
-    }
-}
-
 // ---- ports and nets
 
 #[tactic(auto, unfolding(crate::specs::Sides::ports_at))]
@@ -179,7 +120,7 @@ fn ports_at(
     path: &Path<'_>,
     key: &str,
     side: &Value,
-) -> Result<Seq<PortRange>, ReadFault>
+) -> Result<Seq<PortSpec>, ReadFault>
     ensures { IsAnswerOf (ports_at protocol (text_of path.now) key.now (view side.now)) result }
 {
     let values = list_at(alloc, path, key, side)?;
@@ -191,7 +132,7 @@ fn ports_in(
     protocol: Option<Proto>,
     path: &Path<'_>,
     values: &[Value],
-) -> Result<Seq<PortRange>, ReadFault>
+) -> Result<Seq<PortSpec>, ReadFault>
     ensures { IsAnswerOf (ports_in protocol (text_of path.now) (items_view values.now)) result }
 {
     may_list(alloc, protocol, path, values)?;
@@ -234,18 +175,6 @@ fn has_port_protocol(protocol: Option<Proto>) -> bool
         Some(protocol) => has_ports(protocol),
         None => false,
     }
-}
-
-fn ipv4_nets(alloc: Global, nets: &[NetText]) -> Result<Seq<Net>, Memory>
-    ensures { IfOk result (λ found. found ≡ filter_map ipv4 nets.now) }
-{
-    let mut found = Vec::new(alloc);
-    for net in nets {
-        if let NetText::V4(net) = net {
-            found.push(*net)?;
-        }
-    }
-    Ok(Seq::from_vec(found))
 }
 
 #[tactic(auto, unfolding(crate::specs::Sides::are_ipv6_alone))]

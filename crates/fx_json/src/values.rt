@@ -6,16 +6,19 @@ ghost use Rattle.serde_json.specs.Find.{as_str};
 ghost use Rattle.serde_json.specs.View.{view};
 ghost use Rattle.fx_base.specs.declared.net.NetText.TheVariants.{V4};
 ghost use Rattle.fx_base.specs.TextValues.{address_of, net_of, ports_of, protocol_of};
+ghost use Rattle.fx_model.specs.declared.rules.PortSpec.TheVariants.{Number};
 ghost use Rattle.fx_model.specs.Criteria.{has_ports};
+ghost use Rattle.fx_json.specs.Faults.{IsAnswerOf};
+ghost use Rattle.fx_json.specs.Paths.{text_of};
 ghost use Rattle.fx_json.specs.Forms.{passing};
-ghost use Rattle.fx_json.specs.Values.{whole_in, whole, version, protocol_in, protocol, port_protocol, address, cidr, has_colon, net_in, net, is_host, host_net, range, port};
+ghost use Rattle.fx_json.specs.Values.{whole_in, whole, version, protocol_in, protocol, port_protocol, address, cidr, has_colon, net_in, net, is_host, host_net, range, named_port, port};
 
 use crate::fault::ReadFault;
 use crate::fields::{Form, formed};
 use crate::path::Path;
 use crate::texts::is_port_name;
-use fx_base::{Ipv4, Net, NetText, PortRange, Proto};
-use fx_model::has_ports;
+use fx_base::{Ipv4, Net, NetText, PortRange, Proto, Text};
+use fx_model::{PortSpec, has_ports};
 use serde_json::Value;
 use std::alloc::Global;
 
@@ -263,34 +266,41 @@ fn is_host(net: &NetText) -> bool
 
 // ---- ports
 
-/// A port or a range of ports. A port's name isn't read yet.
+/// A port, a range of ports, or the name of a port.
 pub struct PortForm;
 
 impl Form for PortForm {
-    type Read = PortRange;
+    type Read = PortSpec;
 
     ghost read_by = { λ _. port };
 
-    fn read(&self, alloc: Global, path: &Path<'_>, value: &Value) -> Result<PortRange, ReadFault> {
+    fn read(&self, alloc: Global, path: &Path<'_>, value: &Value) -> Result<PortSpec, ReadFault> {
         let Some(text) = value.as_str() else {
             return formed(alloc, path, numbered_port(value));
         };
         if let Some(ports) = ports_in(text.as_bytes()) {
-            return Ok(ports);
+            return Ok(PortSpec::Number(ports));
         }
-        let path = path.text(alloc)?;
-        if is_port_name(text.as_bytes()) {
-            Err(ReadFault::Unsupported { path })
-        } else {
-            Err(ReadFault::BadField { path })
-        }
+        named_port(alloc, path, text.as_bytes())
     }
 }
 
-fn numbered_port(value: &Value) -> Option<PortRange>
-    ensures { result ≡ option_map (λ n. range n n) (whole_in 0 65535 (view value.now)) }
+fn numbered_port(value: &Value) -> Option<PortSpec>
+    ensures { result ≡ option_map (λ n. Number (range n n)) (whole_in 0 65535 (view value.now)) }
 {
-    Some(one_port(word(value, 0)?))
+    Some(PortSpec::Number(one_port(word(value, 0)?)))
+}
+
+fn named_port(alloc: Global, path: &Path<'_>, text: &[u8]) -> Result<PortSpec, ReadFault>
+    ensures { IsAnswerOf (named_port (text_of path.now) text.now) result }
+{
+    if is_port_name(text) {
+        Ok(PortSpec::Named(Text::new(alloc, text)?))
+    } else {
+        Err(ReadFault::BadField {
+            path: path.text(alloc)?,
+        })
+    }
 }
 
 fn one_port(port: u16) -> PortRange

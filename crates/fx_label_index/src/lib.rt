@@ -8,5 +8,3 @@ mod effective;
 mod held;
 mod index;
 mod retest;
-#[cfg(test)]
-mod tests;

@@ -30,7 +30,7 @@ use Rattle.fx_model.specs.declared.chain.ChainRule.{ChainRule}
 use Rattle.fx_model.specs.Directions.{Ingress, Egress}
 use Rattle.fx_model.specs.Resources.{is_served, is_local, served_endpoints}
 use Rattle.fx_model.specs.Formed.{is_formed_namespace, is_formed_item_key, is_formed_endpoint, is_formed_endpoint_entry, are_formed}
-use Rattle.fx_model.specs.Claims.{item_text, profile_claims, policy_claims, interface_claims, endpoint_claims, all_claims}
+use Rattle.fx_model.specs.Claims.{item_text, profile_chains as claimed_chains, profile_claims, policy_claims, interface_claims, endpoint_claims, all_claims}
 use Rattle.fx_model.specs.Views.{view_of, policy_entry, profile_entry, endpoint_entry, active_profiles, is_active_profile}
 use Rattle.fx_model.specs.Active.{is_active, active_policies}
 use Rattle.fx_model.specs.PolicyIdTexts.{policy_id_text}
@@ -133,18 +133,18 @@ module _ (dg : Digest) where
     from_claim x = record { name = Chain (chain_name_of dg FromEndpoint x.1.iface); holder = codes "endpoint " ++ item_text x.0 }
 
     module _ (x : ItemKey × Endpoint) (served : is_served R x.1 ≡ true) where
-      own : endpoint_claims dg R.node x.0 x.1 ≡ interface_claims dg x.0 x.1 ++ flat_map (profile_claims dg) x.1.profiles
-      own = ap (λ b. if b then interface_claims dg x.0 x.1 ++ flat_map (profile_claims dg) x.1.profiles else []) (both_pass R.in_sync (is_local R x.1) served).1
+      own : endpoint_claims dg R.node x.0 x.1 ≡ interface_claims dg x.0 x.1 ++ flat_map (claimed_chains dg) x.1.profiles
+      own = ap (λ b. if b then interface_claims dg x.0 x.1 ++ flat_map (claimed_chains dg) x.1.profiles else []) (both_pass R.in_sync (is_local R x.1) served).1
 
       to_claimed : 0 < times (to_claim x) (endpoint_claims dg R.node x.0 x.1)
       to_claimed =
           subst (λ (cs : List Claim). 0 < times (to_claim x) cs) (sym own)
-          (omega (arith, times-itself (to_claim x) (from_claim x ∷ flat_map (profile_claims dg) x.1.profiles)))
+          (omega (arith, times-itself (to_claim x) (from_claim x ∷ flat_map (claimed_chains dg) x.1.profiles)))
 
       from_claimed : 0 < times (from_claim x) (endpoint_claims dg R.node x.0 x.1)
       from_claimed =
           subst (λ (cs : List Claim). 0 < times (from_claim x) cs) (sym own)
-          (omega (arith, times-itself (from_claim x) (flat_map (profile_claims dg) x.1.profiles)))
+          (omega (arith, times-itself (from_claim x) (flat_map (claimed_chains dg) x.1.profiles)))
 
     formed_iface : (x : ItemKey × Endpoint) → is_formed_endpoint_entry x ≡ true → is_formed_endpoint x.1 ≡ true
     formed_iface (item_key.Endpoint ns name, e) h = (both_pass (is_formed_namespace ns) (is_formed_endpoint e) h).1
@@ -181,7 +181,7 @@ module _ (dg : Digest) where
     endpoints_held formed = at_extended EndpointHeld maps.empty (map (endpoint_entry dg R) (served_endpoints R))
         (λ q x is. no_endpoint x (sym (get_empty q) ∙ is))
         (served_held (maps.entries R.endpoints) (endpoints_formed R formed)
-        (λ c p. omega (arith, p, times-append c (endpoints_claim (maps.entries R.endpoints)) (flat_map (λ (x : List ℕ × Profile). profile_claims dg x.0) (maps.entries R.profiles) ++ flat_map (λ (x : PolicyId × Policy). policy_claims dg x.0) (maps.entries R.policies)))))
+        (λ c p. omega (arith, p, times-append c (endpoints_claim (maps.entries R.endpoints)) (flat_map (λ (x : List ℕ × Profile). profile_claims dg x.0 x.1) (maps.entries R.profiles) ++ flat_map (λ (x : PolicyId × Policy). policy_claims dg x.0 x.1) (maps.entries R.policies)))))
 
     endpoint_chains_held : (es : List (List ℕ × ViewEndpoint)) → AllByRecursion (λ e. EndpointHeld e.0 e.1) es → AllByRecursion IsHeld (flat_map endpoint_chains es)
     endpoint_chains_held [] h = tt

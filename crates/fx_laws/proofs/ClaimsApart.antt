@@ -86,8 +86,8 @@ module _ (dg : Digest) (R : Resources) where
 -- no resources claim nothing
 pub none_claimed : (dg : Digest) (R : Resources) → R.endpoints ≡ maps.empty → R.profiles ≡ maps.empty → R.policies ≡ maps.empty → (c : Claim) → times c (all_claims dg R) ≡ 0
 none_claimed dg R endpoints profiles policies c =
-    let of_profiles = λ (xs : List (List ℕ × Profile)). flat_map (λ (x : List ℕ × Profile). profile_claims dg x.0) xs in
-    let of_policies = λ (xs : List (PolicyId × Policy)). flat_map (λ (x : PolicyId × Policy). policy_claims dg x.0) xs in
+    let of_profiles = λ (xs : List (List ℕ × Profile)). flat_map (λ (x : List ℕ × Profile). profile_claims dg x.0 x.1) xs in
+    let of_policies = λ (xs : List (PolicyId × Policy)). flat_map (λ (x : PolicyId × Policy). policy_claims dg x.0 x.1) xs in
     ap (λ xs. times c (flat_map (λ (x : ItemKey × Endpoint). endpoint_claims dg R.node x.0 x.1) xs ++ (of_profiles (maps.entries R.profiles) ++ of_policies (maps.entries R.policies)))) (ap maps.entries endpoints ∙ entries-empty cmp-value.it)
     ∙ ap (λ xs. times c (of_profiles xs ++ of_policies (maps.entries R.policies))) (ap maps.entries profiles ∙ entries-empty (slice_cmp nat_cmp))
     ∙ ap (λ xs. times c (of_policies xs)) (ap maps.entries policies ∙ entries-empty policy_cmp.cmp-value.it)

@@ -38,10 +38,10 @@ module _ (c : Claim) where
     of_endpoint node x = times c (endpoint_claims dg node x.0 x.1)
 
     abbrev of_profile : List ℕ × Profile → ℕ
-    of_profile x = times c (profile_claims dg x.0)
+    of_profile x = times c (profile_claims dg x.0 x.1)
 
     abbrev of_policy : PolicyId × Policy → ℕ
-    of_policy x = times c (policy_claims dg x.0)
+    of_policy x = times c (policy_claims dg x.0 x.1)
 
     listed : (node : List ℕ) (k : ItemKey) (o : Option Endpoint) → sum_at (of_endpoint node) k o ≡ times c (listed_claims dg node k o)
     listed node k None = refl
@@ -58,8 +58,8 @@ module _ (c : Claim) where
     sums : (R : Resources) → times c (all_claims dg R) ≡ sum_over (of_endpoint R.node) (maps.entries R.endpoints) + (sum_over of_profile (maps.entries R.profiles) + sum_over of_policy (maps.entries R.policies))
     sums R =
         let endpoints = λ (x : ItemKey × Endpoint). endpoint_claims dg R.node x.0 x.1 in
-        let profiles = λ (x : List ℕ × Profile). profile_claims dg x.0 in
-        let policies = λ (x : PolicyId × Policy). policy_claims dg x.0 in
+        let profiles = λ (x : List ℕ × Profile). profile_claims dg x.0 x.1 in
+        let policies = λ (x : PolicyId × Policy). policy_claims dg x.0 x.1 in
         let later = flat_map profiles (maps.entries R.profiles) ++ flat_map policies (maps.entries R.policies) in
         times-append c (flat_map endpoints (maps.entries R.endpoints)) later
         ∙ ap (λ n. times c (flat_map endpoints (maps.entries R.endpoints)) + n) (times-append c (flat_map profiles (maps.entries R.profiles)) (flat_map policies (maps.entries R.policies)))
@@ -67,9 +67,11 @@ module _ (c : Claim) where
 
     -- what stands at a key, and the rest
     pub times-at : (R : Resources) (k : Key) → times c (all_claims dg R) ≡ times c (claims_at dg R k) + times c (all_claims dg (after_delete R k))
-    times-at R (key.Item k) =
+    times-at R (key.Item (item_key.Endpoint ns name)) =
+        let k = item_key.Endpoint ns name in
         let e = sum-remove item_total exact_item (of_endpoint R.node) R.endpoints k in
         omega (arith, e, listed R.node k (maps.get R.endpoints k), sums R, sums (after_delete R (key.Item k)))
+    times-at R (key.Item (item_key.NetSet ns name)) = omega (arith, sums R, sums (after_delete R (key.Item (item_key.NetSet ns name))))
     times-at R (key.Profile name) =
         let e = sum-remove nat_list_cmp_total bytes_exact of_profile R.profiles name in
         omega (arith, e, named name (maps.get R.profiles name), sums R, sums (after_delete R (key.Profile name)))
@@ -113,3 +115,13 @@ module _ (c : Claim) where
         at_key (key.Tier name) formed = cc
         at_key (key.Policy id) formed =
             omega (arith, sum-insert policy_total exact_policy of_policy R.policies id p, sums (after_put R (key.Policy id) (item.Policy p)), sums (after_delete R (key.Policy id)))
+    times-put R k (item.NetSet s) formed = at_key k formed
+      where
+        at_key : (k : Key) → is_formed (update.Put k (item.NetSet s)) ≡ true → times c (all_claims dg (after_put R k (item.NetSet s))) ≡ times c (claims_of dg R.node k (item.NetSet s)) + times c (all_claims dg (after_delete R k))
+        at_key (key.Item (item_key.Endpoint ns name)) formed = not_formed (is_formed_item_key (item_key.Endpoint ns name)) formed
+        at_key (key.Item (item_key.NetSet ns name)) formed =
+            let k = item_key.NetSet ns name in
+            omega (arith, sums (after_put R (key.Item k) (item.NetSet s)), sums (after_delete R (key.Item k)))
+        at_key (key.Profile name) formed = cc
+        at_key (key.Tier name) formed = cc
+        at_key (key.Policy id) formed = not_formed (is_formed_policy_id id) formed

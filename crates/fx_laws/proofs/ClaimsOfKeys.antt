@@ -1,5 +1,5 @@
 -- Active profiles with one key are one, where no claims clash.
-use Rattle.std.proofs.Common.{◌≡◌, ℕ, ◌<◌, Bool, true, false, cond, ◌&&◌, ◌||◌, not, List, [], ◌∷◌, ◌++◌, Some, refl, sym, ap, ◌∙◌, subst, arith}
+use Rattle.std.proofs.Common.{◌≡◌, ℕ, ◌<◌, Bool, true, false, cond, ◌&&◌, ◌||◌, not, List, [], ◌∷◌, ◌++◌, map, Some, refl, sym, ap, ◌∙◌, subst, arith}
 use Rattle.std.specs.Prelude.{filter, codes, if◌then◌else◌}
 use Rattle.std.proofs.lemmas.Bool.{not-false}
 use Rattle.std.proofs.lemmas.List.{append_cancel_left}
@@ -28,7 +28,8 @@ use Rattle.fx_model.specs.declared.resources.Profile.{Profile}
 use Rattle.fx_model.specs.declared.resources.Resources.{Resources}
 use Rattle.fx_model.specs.Resources.{is_served, is_local}
 use Rattle.fx_model.specs.Views.{profile_key, is_active_profile}
-use Rattle.fx_model.specs.Claims.{profile_claims, policy_claims, given_policy_claims, interface_claims, endpoint_claims, claims_at, all_claims, IsClashFree}
+use Rattle.fx_model.specs.Claims.{profile_chains, profile_claims, policy_claims, given_policy_claims, interface_claims, endpoint_claims, set_claim, claims_at, all_claims, IsClashFree}
+use Rattle.fx_model.specs.Sets.{policy_uses}
 use Rattle.fx_model.specs.PolicyIdTexts.{policy_id_text}
 use Rattle.fx_laws.proofs.ClaimsCounted.{times-at}
 
@@ -56,21 +57,21 @@ module _ (dg : Digest) where
   abbrev pub egress_claim : List ℕ → Claim
   egress_claim name = record { name = Chain (chain_name_of dg ProfileOut name); holder = codes "profile " ++ name }
 
-  own_ingress : (a : List ℕ) (rest : List Claim) → 0 < times (ingress_claim a) (profile_claims dg a ++ rest)
+  own_ingress : (a : List ℕ) (rest : List Claim) → 0 < times (ingress_claim a) (profile_chains dg a ++ rest)
   own_ingress a rest = omega (arith, times-itself (ingress_claim a) (egress_claim a ∷ rest))
 
-  own_egress : (a : List ℕ) (rest : List Claim) → 0 < times (egress_claim a) (profile_claims dg a ++ rest)
+  own_egress : (a : List ℕ) (rest : List Claim) → 0 < times (egress_claim a) (profile_chains dg a ++ rest)
   own_egress a rest = omega (arith, times-itself (egress_claim a) rest)
 
-  module _ (a : List ℕ) (c : Claim) (own : (rest : List Claim) → 0 < times c (profile_claims dg a ++ rest)) where
+  module _ (a : List ℕ) (c : Claim) (own : (rest : List Claim) → 0 < times c (profile_chains dg a ++ rest)) where
     -- a name that is listed is claimed
-    listed_claimed : (names : List (List ℕ)) → among a names ≡ true → 0 < times c (flat_map (profile_claims dg) names)
+    listed_claimed : (names : List (List ℕ)) → among a names ≡ true → 0 < times c (flat_map (profile_chains dg) names)
     listed_claimed [] h = cc
     listed_claimed (n ∷ ns) h =
-        let rest = flat_map (profile_claims dg) ns in
-        either (eq_by_cmp (slice_cmp nat_cmp) a n) (among a ns) (0 < times c (profile_claims dg n ++ rest)) h
-        (λ e. subst (λ (m : List ℕ). 0 < times c (profile_claims dg m ++ rest)) (same_key a n e) (own rest))
-        (λ e. omega (arith, listed_claimed ns e, times-append c (profile_claims dg n) rest))
+        let rest = flat_map (profile_chains dg) ns in
+        either (eq_by_cmp (slice_cmp nat_cmp) a n) (among a ns) (0 < times c (profile_chains dg n ++ rest)) h
+        (λ e. subst (λ (m : List ℕ). 0 < times c (profile_chains dg m ++ rest)) (same_key a n e) (own rest))
+        (λ e. omega (arith, listed_claimed ns e, times-append c (profile_chains dg n) rest))
 
     module _ (R : Resources) where
       abbrev endpoints_claim : List (ItemKey × Endpoint) → List Claim
@@ -79,9 +80,9 @@ module _ (dg : Digest) where
       served_claimed : (x : ItemKey × Endpoint) → is_served R x.1 ≡ true → among a x.1.profiles ≡ true → 0 < times c (endpoint_claims dg R.node x.0 x.1)
       served_claimed x served h =
           let claims = interface_claims dg x.0 x.1 in
-          let all : endpoint_claims dg R.node x.0 x.1 ≡ claims ++ flat_map (profile_claims dg) x.1.profiles = ap (λ b. if b then claims ++ flat_map (profile_claims dg) x.1.profiles else []) (both_pass R.in_sync (is_local R x.1) served).1 in
+          let all : endpoint_claims dg R.node x.0 x.1 ≡ claims ++ flat_map (profile_chains dg) x.1.profiles = ap (λ b. if b then claims ++ flat_map (profile_chains dg) x.1.profiles else []) (both_pass R.in_sync (is_local R x.1) served).1 in
           subst (λ (cs : List Claim). 0 < times c cs) (sym all)
-          (omega (arith, times-append c claims (flat_map (profile_claims dg) x.1.profiles), listed_claimed x.1.profiles h))
+          (omega (arith, times-append c claims (flat_map (profile_chains dg) x.1.profiles), listed_claimed x.1.profiles h))
 
       entries_claimed : (es : List (ItemKey × Endpoint)) → among a (flat_map (λ x. x.1.profiles) (filter (λ x. is_served R x.1) es)) ≡ true → 0 < times c (endpoints_claim es)
       entries_claimed [] h = cc
@@ -101,7 +102,7 @@ module _ (dg : Digest) where
 
       active_claimed : is_active_profile R a ≡ true → 0 < times c (all_claims dg R)
       active_claimed h =
-          let others = flat_map (λ (x : List ℕ × Profile). profile_claims dg x.0) (maps.entries R.profiles) ++ flat_map (λ (x : PolicyId × Policy). policy_claims dg x.0) (maps.entries R.policies) in
+          let others = flat_map (λ (x : List ℕ × Profile). profile_claims dg x.0 x.1) (maps.entries R.profiles) ++ flat_map (λ (x : PolicyId × Policy). policy_claims dg x.0 x.1) (maps.entries R.policies) in
           omega (arith, entries_claimed (maps.entries R.endpoints) h, times-append c (endpoints_claim (maps.entries R.endpoints)) others)
 
   -- a policy's claim on the chain of its ingress rules
@@ -113,18 +114,21 @@ module _ (dg : Digest) where
 
   -- both chains of a policy that is there are claimed
   module _ (R : Resources) (id : PolicyId) (p : Policy) (at : maps.get R.policies id ≡ Some p) where
-    claims_there : claims_at dg R (key.Policy id) ≡ policy_claims dg id
+    abbrev sets : List Claim
+    sets = map (set_claim dg) (policy_uses p)
+
+    claims_there : claims_at dg R (key.Policy id) ≡ policy_claims dg id p
     claims_there = ap (given_policy_claims dg id) at
 
     pub policy_ingress_claimed : 0 < times (policy_ingress_claim id) (all_claims dg R)
     policy_ingress_claimed =
         let c = policy_ingress_claim id in
-        omega (arith, times-at c dg R (key.Policy id), ap (times c) claims_there, times-itself c (policy_egress_claim id ∷ []))
+        omega (arith, times-at c dg R (key.Policy id), ap (times c) claims_there, times-itself c (policy_egress_claim id ∷ sets))
 
     pub policy_egress_claimed : 0 < times (policy_egress_claim id) (all_claims dg R)
     policy_egress_claimed =
         let c = policy_egress_claim id in
-        omega (arith, times-at c dg R (key.Policy id), ap (times c) claims_there, times-append c (policy_ingress_claim id ∷ []) (c ∷ []), times-itself c [])
+        omega (arith, times-at c dg R (key.Policy id), ap (times c) claims_there, times-append c (policy_ingress_claim id ∷ []) (c ∷ sets), times-itself c sets)
 
   -- both chains of an active profile are claimed
   pub ingress_claimed : (R : Resources) (a : List ℕ) → is_active_profile R a ≡ true → 0 < times (ingress_claim a) (all_claims dg R)

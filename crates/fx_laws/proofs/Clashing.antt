@@ -61,9 +61,18 @@ module _ (dg : Digest) (R : Resources) where
       at_key (key.Profile name) formed = cc
       at_key (key.Tier name) formed = cc
       at_key (key.Policy id) formed = ap (given_policy_claims dg id) (at_put policy_total R.policies id p)
+  claims_at-put k (item.NetSet s) formed = at_key k formed
+    where
+      at_key : (k : Key) → is_formed (update.Put k (item.NetSet s)) ≡ true → claims_at dg (after_put R k (item.NetSet s)) k ≡ claims_of dg R.node k (item.NetSet s)
+      at_key (key.Item (item_key.Endpoint ns name)) formed = not_formed (is_formed_item_key (item_key.Endpoint ns name)) formed
+      at_key (key.Item (item_key.NetSet ns name)) formed = refl
+      at_key (key.Profile name) formed = cc
+      at_key (key.Tier name) formed = cc
+      at_key (key.Policy id) formed = not_formed (is_formed_policy_id id) formed
 
   claims_at-delete : (k : Key) → claims_at dg (after_delete R k) k ≡ []
-  claims_at-delete (key.Item k) = ap (listed_claims dg R.node k) (at_removed item_total R.endpoints k)
+  claims_at-delete (key.Item (item_key.Endpoint ns name)) = let k = item_key.Endpoint ns name in ap (listed_claims dg R.node k) (at_removed item_total R.endpoints k)
+  claims_at-delete (key.Item (item_key.NetSet ns name)) = refl
   claims_at-delete (key.Profile name) = ap (named_claims dg name) (at_removed nat_list_cmp_total R.profiles name)
   claims_at-delete (key.Tier name) = refl
   claims_at-delete (key.Policy id) = ap (given_policy_claims dg id) (at_removed policy_total R.policies id)

@@ -19,7 +19,7 @@ use Rattle.fx_model.specs.declared.resources.Resources.{Resources}
 use Rattle.fx_model.specs.declared.view.View.{View}
 use Rattle.fx_model.specs.declared.view.ViewEndpoint.{ViewEndpoint}
 use Rattle.fx_model.specs.Policy.{is_workload}
-use Rattle.fx_model.specs.Resources.{after, put_endpoint, put_profile, put_tier, put_policy, is_local, is_served, served_endpoints}
+use Rattle.fx_model.specs.Resources.{after, put_endpoint, put_profile, put_tier, put_policy, put_net_set, is_local, is_served, served_endpoints}
 use Rattle.fx_names.specs.Digests.{Digest}
 use Rattle.fx_model.specs.Views.{view_of, profile_entry, endpoint_entry, profile_key, active_profiles}
 use Rattle.fx_model.specs.Formed.{implies, is_formed_namespace, is_formed_item_key, is_formed, are_formed, is_formed_endpoint, is_formed_endpoint_entry, is_formed_policy_entry, has_workload_interface, puts_workload_interface, have_workload_interfaces, has_workload_interfaces, is_formed_profile_key, is_formed_profile, is_formed_view, is_formed_view_endpoint, is_formed_view_profile}
@@ -76,7 +76,17 @@ module _ (R : Resources) (was : are_formed R ≡ true) where
       at_key (key.Profile name) is = was
       at_key (key.Tier name) is = was
       at_key (key.Policy id) is = both _ _ endpoints_formed (both _ _ profiles_formed (all-insert exact_policy is_formed_policy_entry policy_total R.policies id p is policies_formed))
-  are_formed-after (update.Delete (key.Item k)) is = both _ _ (all-remove item_total exact_item is_formed_endpoint_entry R.endpoints k endpoints_formed) (both _ _ profiles_formed policies_formed)
+  are_formed-after (update.Put k (item.NetSet s)) is = at_key k
+    where
+      at_key : (k : Key) → are_formed (put_net_set R k s) ≡ true
+      at_key (key.Item (kind.Endpoint ns name)) = was
+      at_key (key.Item (kind.NetSet ns name)) = was
+      at_key (key.Profile name) = was
+      at_key (key.Tier name) = was
+      at_key (key.Policy id) = was
+  are_formed-after (update.Delete (key.Item (kind.Endpoint ns name))) is =
+      both _ _ (all-remove item_total exact_item is_formed_endpoint_entry R.endpoints (kind.Endpoint ns name) endpoints_formed) (both _ _ profiles_formed policies_formed)
+  are_formed-after (update.Delete (key.Item (kind.NetSet ns name))) is = was
   are_formed-after (update.Delete (key.Profile name)) is = both _ _ endpoints_formed (both _ _ (all-remove nat_list_cmp_total bytes_exact (λ x. is_formed_profile x.1) R.profiles name profiles_formed) policies_formed)
   are_formed-after (update.Delete (key.Tier name)) is = was
   are_formed-after (update.Delete (key.Policy id)) is = both _ _ endpoints_formed (both _ _ profiles_formed (all-remove policy_total exact_policy is_formed_policy_entry R.policies id policies_formed))
@@ -113,7 +123,17 @@ have_workload_interfaces-after R was (update.Put k (item.Policy p)) is = at_key 
     at_key (key.Profile name) = was
     at_key (key.Tier name) = was
     at_key (key.Policy id) = was
-have_workload_interfaces-after R was (update.Delete (key.Item k)) is = all-remove item_total exact_item (λ x. has_workload_interface R.node x.1) R.endpoints k was
+have_workload_interfaces-after R was (update.Put k (item.NetSet s)) is = at_key k
+  where
+    at_key : (k : Key) → have_workload_interfaces (put_net_set R k s) ≡ true
+    at_key (key.Item (kind.Endpoint ns name)) = was
+    at_key (key.Item (kind.NetSet ns name)) = was
+    at_key (key.Profile name) = was
+    at_key (key.Tier name) = was
+    at_key (key.Policy id) = was
+have_workload_interfaces-after R was (update.Delete (key.Item (kind.Endpoint ns name))) is =
+    all-remove item_total exact_item (λ x. has_workload_interface R.node x.1) R.endpoints (kind.Endpoint ns name) was
+have_workload_interfaces-after R was (update.Delete (key.Item (kind.NetSet ns name))) is = was
 have_workload_interfaces-after R was (update.Delete (key.Profile name)) is = was
 have_workload_interfaces-after R was (update.Delete (key.Tier name)) is = was
 have_workload_interfaces-after R was (update.Delete (key.Policy id)) is = was

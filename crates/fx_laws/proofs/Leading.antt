@@ -1,5 +1,5 @@
 -- The tables of a closed view are closed and ranked, since its chains can be written one after another.
-use Rattle.std.proofs.Common.{◌≡◌, List, [], ◌∷◌}
+use Rattle.std.proofs.Common.{List, [], ◌∷◌}
 use Rattle.std.specs.FinMap as maps
 use Rattle.fx_base.specs.Extended.{extended}
 use Rattle.fx_model.specs.declared.view.View.{View}

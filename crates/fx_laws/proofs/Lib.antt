@@ -5,6 +5,9 @@ pub mod Shaping
 pub mod Writable
 pub mod Leading
 pub mod TiersClosed
+pub mod Uses
+pub mod SetNames
+pub mod SetKinds
 pub mod ViewClosed
 pub mod Apart
 pub mod NextCases
@@ -15,4 +18,5 @@ pub mod ClaimsCounted
 pub mod Clashing
 pub mod ClaimsApart
 pub mod ClaimsOfKeys
+pub mod SetsClaimed
 pub mod ChainNames

@@ -42,7 +42,7 @@ module _ (dg : Digest) (R : Resources) where
   keys_there m [] = tt
   keys_there m (x ∷ xs) =
       let key = policy_key dg x.0 in
-      let policy = view_policy x.0 x.1 in
+      let policy = view_policy dg x.0 x.1 in
       (there_extended (maps.insert m key policy) (map (policy_entry dg) xs) key (there_inserted m key policy), keys_there (maps.insert m key policy) xs)
 
   module _ (m : Named ViewPolicy) (d : Direction) (e : Endpoint) (active : (p : Policy) → applies R d p e ≡ true → is_active R p ≡ true) where

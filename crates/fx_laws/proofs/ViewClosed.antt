@@ -1,21 +1,16 @@
--- The view of any resources is closed: each policy that applies to an endpoint and each profile that it lists is put in.
-use Rattle.std.proofs.Common.{◌≡◌, ℕ, true, List, [], ◌∷◌, ◌++◌, map, Option, Some, None, refl, sym, ap, ◌∙◌, subst}
+-- The view of any resources is closed: each policy that applies to an endpoint, each profile that it lists and each set that their
+-- rules use is put in.
+use Rattle.std.proofs.Common.{◌≡◌, ℕ, true, List, [], ◌∷◌, map, Option, Some, None, sym, ◌∙◌, subst}
 use Rattle.std.specs.List.{AllByRecursion, flat_map}
 use Rattle.std.specs.FinMap as maps
 use Rattle.fx_base.specs.Extended.{extended}
 use Rattle.fx_base.proofs.AtKey.{get_empty}
 use Rattle.fx_base.proofs.KeyCases.{there_inserted}
 use Rattle.fx_base.proofs.ExtendedKeys.{there_extended, at_extended}
-use Rattle.fx_base.specs.declared.net.PortRange.{PortRange}
-use Rattle.fx_model.specs.declared.rules.Rule.{Rule}
-use Rattle.fx_model.specs.declared.rules.Side.{Side}
+use Rattle.fx_base.proofs.FilledLemmas.{keys_filled}
 use Rattle.fx_model.specs.declared.resources.Profile.{Profile}
-use Rattle.fx_model.specs.declared.view_rule.ViewPort.TheVariants.{Range}
 use Rattle.fx_model.specs.declared.view.ViewPolicy.{ViewPolicy}
 use Rattle.fx_model.specs.Directions.{Direction, Ingress, Egress}
-use Rattle.fx_model.specs.Rendering.{names_of}
-use Rattle.fx_base.specs.declared.set_name.SetKind.{SetKind}
-use Rattle.fx_base.specs.declared.set_name.SetKind.TheVariants.{Ports}
 use Rattle.fx_model.specs.Tables.{Sets, policy_side, profile_side}
 use Rattle.fx_model.specs.declared.ids.ItemKey.{ItemKey}
 use Rattle.fx_model.specs.declared.ids.PolicyId.{PolicyId}
@@ -25,13 +20,17 @@ use Rattle.fx_model.specs.declared.resources.Resources.{Resources}
 use Rattle.fx_model.specs.declared.view.View.{View}
 use Rattle.fx_model.specs.declared.view.ViewEndpoint.{ViewEndpoint}
 use Rattle.fx_model.specs.declared.view.ViewProfile.{ViewProfile}
-use Rattle.fx_model.specs.Messages.{Named}
+use Rattle.fx_model.specs.declared.set_use.SetUse.{SetUse}
+use Rattle.fx_model.specs.Messages.{Members, Named}
+use Rattle.fx_model.specs.Sets.{rules_uses, policy_uses}
 use Rattle.fx_model.specs.Resources.{served_endpoints}
 use Rattle.fx_names.specs.Digests.{Digest}
-use Rattle.fx_model.specs.Views.{view_side, view_rule, profile_key, policy_entry, profile_entry, endpoint_entry, view_policy, view_profile, view_endpoint, active_profiles, view_of}
+use Rattle.fx_model.specs.Views.{profile_key, policy_entry, profile_entry, endpoint_entry, view_policy, view_profile, view_endpoint, active_profiles, uses_if_there, uses_of_profile, wanted_uses, set_entry, view_of}
 use Rattle.fx_model.specs.Active.{applies, is_active, active_policies}
+use Rattle.fx_laws.proofs.SetNames.{IsThere, rules_name}
 use Rattle.fx_laws.proofs.TiersClosed.{activates, keys_there, tiers_there}
-use Rattle.fx_model.specs.Closed.{AreThere, AreOfKind, SideNamesKinds, NamesKinds, NameSets, EndpointIsClosed, IsClosedView, sets_of_side, sets_of_rules}
+use Rattle.fx_laws.proofs.Uses.{all-first, all-second, each-map, uses-policies, uses-profiles}
+use Rattle.fx_model.specs.Closed.{AreThere, NameSets, EndpointIsClosed, IsClosedView}
 use Rattle.fx_model.proofs.Serving.{profiles_both}
 
 there_later : (m : Named ViewProfile) (es : List (List ℕ × ViewProfile)) (ks : List (List ℕ)) → AreThere m ks → AreThere (extended m es) ks
@@ -70,64 +69,37 @@ module _ (dg : Digest) (R : Resources) where
   entries_closed [] h active = tt
   entries_closed (x ∷ xs) h active = (endpoint_closed x h.0 active.0, entries_closed xs h.1 active.1)
 
--- rules of resources name no sets yet
-ranges_name_none : (rs : List PortRange) → names_of (map Range rs) ≡ []
-ranges_name_none [] = refl
-ranges_name_none (r ∷ rs) = ranges_name_none rs
+-- each set that the rules of policies and profiles use is there
+module _ (dg : Digest) (sets : Sets) where
+  abbrev AllThere : List SetUse → Type 0
+  AllThere us = AllByRecursion (IsThere dg sets) us
 
-side_names_none : (s : Side) → sets_of_side (view_side s) ≡ []
-side_names_none s = ap (λ (xs : List (List ℕ)). xs ++ names_of (map Range s.not_ports)) (ranges_name_none s.ports) ∙ ranges_name_none s.not_ports
+  no_rules_name : NameSets sets []
+  no_rules_name = record { there = tt; kinds = tt }
 
-rules_name_none : (rs : List Rule) → sets_of_rules (map view_rule rs) ≡ []
-rules_name_none [] = refl
-rules_name_none (r ∷ rs) =
-    ap (λ (xs : List (List ℕ)). (xs ++ sets_of_side (view_side r.destination)) ++ sets_of_rules (map view_rule rs)) (side_names_none r.source)
-    ∙ ap (λ (xs : List (List ℕ)). xs ++ sets_of_rules (map view_rule rs)) (side_names_none r.destination)
-    ∙ rules_name_none rs
+  profile_names : (d : Direction) (name : List ℕ) (o : Option Profile) → AllThere (uses_if_there o) → NameSets sets (profile_side d (view_profile dg name o))
+  profile_names Ingress name None h = no_rules_name
+  profile_names Egress name None h = no_rules_name
+  profile_names Ingress name (Some p) h = rules_name dg sets p.ingress (all-first (IsThere dg sets) (rules_uses p.ingress) (rules_uses p.egress) h)
+  profile_names Egress name (Some p) h = rules_name dg sets p.egress (all-second (IsThere dg sets) (rules_uses p.ingress) (rules_uses p.egress) h)
 
-none_of_kind : (k : SetKind) (names : List (List ℕ)) → names ≡ [] → AreOfKind k names
-none_of_kind k names none = subst (AreOfKind k) (sym none) tt
+  profiles_name : (R : Resources) (d : Direction) (names : List (List ℕ)) → AllByRecursion (λ n. AllThere (uses_of_profile R n)) names → AllByRecursion (λ e. NameSets sets (profile_side d e.1)) (map (profile_entry dg R) names)
+  profiles_name R d [] h = tt
+  profiles_name R d (n ∷ names) h = (profile_names d n (maps.get R.profiles n) h.0, profiles_name R d names h.1)
 
-side_kinds : (s : Side) → SideNamesKinds (view_side s)
-side_kinds s = record {
-  set = tt;
-  not_set = tt;
-  ports = none_of_kind Ports (names_of (map Range s.ports)) (ranges_name_none s.ports);
-  not_ports = none_of_kind Ports (names_of (map Range s.not_ports)) (ranges_name_none s.not_ports);
-}
+  policy_names : (d : Direction) (id : PolicyId) (p : Policy) → AllThere (policy_uses p) → NameSets sets (policy_side d (view_policy dg id p))
+  policy_names Ingress id p h = rules_name dg sets p.ingress (all-first (IsThere dg sets) (rules_uses p.ingress) (rules_uses p.egress) h)
+  policy_names Egress id p h = rules_name dg sets p.egress (all-second (IsThere dg sets) (rules_uses p.ingress) (rules_uses p.egress) h)
 
-rules_kinds : (rs : List Rule) → AllByRecursion NamesKinds (map view_rule rs)
-rules_kinds [] = tt
-rules_kinds (r ∷ rs) = (record { source = side_kinds r.source; destination = side_kinds r.destination }, rules_kinds rs)
+  policies_name : (d : Direction) (xs : List (PolicyId × Policy)) → AllByRecursion (λ x. AllThere (policy_uses x.1)) xs → AllByRecursion (λ e. NameSets sets (policy_side d e.1)) (map (policy_entry dg) xs)
+  policies_name d [] h = tt
+  policies_name d (x ∷ xs) h = (policy_names d x.0 x.1 h.0, policies_name d xs h.1)
 
-rules_name : (sets : Sets) (rs : List Rule) → NameSets sets (map view_rule rs)
-rules_name sets rs = record { there = subst (AreThere sets) (sym (rules_name_none rs)) tt; kinds = rules_kinds rs }
-
-no_rules_name : (sets : Sets) → NameSets sets []
-no_rules_name sets = record { there = tt; kinds = tt }
-
-profile_names : (sets : Sets) (d : Direction) (name : List ℕ) (o : Option Profile) → NameSets sets (profile_side d (view_profile name o))
-profile_names sets Ingress name None = no_rules_name sets
-profile_names sets Egress name None = no_rules_name sets
-profile_names sets Ingress name (Some p) = rules_name sets p.ingress
-profile_names sets Egress name (Some p) = rules_name sets p.egress
-
-module _ (dg : Digest) (R : Resources) (d : Direction) (sets : Sets) where
-  abbrev NamesItsSets : List ℕ → ViewProfile → Type 0
-  NamesItsSets key p = NameSets sets (profile_side d p)
-
-  entries_name : (names : List (List ℕ)) → AllByRecursion (λ e. NamesItsSets e.0 e.1) (map (profile_entry dg R) names)
-  entries_name [] = tt
-  entries_name (n ∷ names) = (profile_names sets d n (maps.get R.profiles n), entries_name names)
-
-policy_names : (sets : Sets) (d : Direction) (id : PolicyId) (p : Policy) → NameSets sets (policy_side d (view_policy id p))
-policy_names sets Ingress id p = rules_name sets p.ingress
-policy_names sets Egress id p = rules_name sets p.egress
-
-module _ (dg : Digest) (d : Direction) (sets : Sets) where
-  policies_name : (xs : List (PolicyId × Policy)) → AllByRecursion (λ e. NameSets sets (policy_side d e.1)) (map (policy_entry dg) xs)
-  policies_name [] = tt
-  policies_name (x ∷ xs) = (policy_names sets d x.0 x.1, policies_name xs)
+-- each set that the wanted rules use is put in
+pub sets_there : (dg : Digest) (R : Resources) → AllByRecursion (IsThere dg (view_of dg R).sets) (wanted_uses R)
+sets_there dg R =
+    each-map (λ (e : List ℕ × Members). maps.contains_key (view_of dg R).sets e.0 ≡ true) (set_entry dg R) (wanted_uses R)
+    (keys_filled maps.empty (map (set_entry dg R) (wanted_uses R)))
 
 no_endpoint : {A : Type 0} (e : ViewEndpoint) → None ≡ Some e → A
 no_endpoint e is = cc
@@ -144,7 +116,9 @@ view_of-closed dg R = record {
       (λ q x is. no_endpoint x (sym (get_empty q) ∙ is))
       (entries_closed dg R (served_endpoints R) (listed_there dg R maps.empty (served_endpoints R)) (activates R (served_endpoints R) (λ p h. h)));
   policies = λ d. at_extended (λ key p. NameSets (view_of dg R).sets (policy_side d p)) maps.empty (map (policy_entry dg) (active_policies R))
-      (λ q x found. no_policy x (sym (get_empty q) ∙ found)) (policies_name dg d (view_of dg R).sets (active_policies R));
-  profiles = λ d. at_extended (NamesItsSets dg R d (view_of dg R).sets) maps.empty (map (profile_entry dg R) (active_profiles R))
-      (λ q x found. no_profile x (sym (get_empty q) ∙ found)) (entries_name dg R d (view_of dg R).sets (active_profiles R));
+      (λ q x found. no_policy x (sym (get_empty q) ∙ found))
+      (policies_name dg (view_of dg R).sets d (active_policies R) (uses-policies (IsThere dg (view_of dg R).sets) R (sets_there dg R)));
+  profiles = λ d. at_extended (λ key p. NameSets (view_of dg R).sets (profile_side d p)) maps.empty (map (profile_entry dg R) (active_profiles R))
+      (λ q x found. no_profile x (sym (get_empty q) ∙ found))
+      (profiles_name dg (view_of dg R).sets R d (active_profiles R) (uses-profiles (IsThere dg (view_of dg R).sets) R (sets_there dg R)));
 }

@@ -16,12 +16,18 @@ ghost use Rattle.fx_model.specs.Tables.{ChainName, chains_of, tables_of};
 ghost use Rattle.fx_laws.specs.ChainNames.{IsFixedOrClaimed};
 ghost use Rattle.fx_model.specs.Closed.{IsClosedView, AreClosedTables};
 ghost use Rattle.fx_model.specs.Ranks.{IsRanked};
+ghost use Rattle.fx_model.specs.Shapes.{AreOfKinds};
 ghost use Rattle.fx_model.specs.Writing.{CanBeWritten};
 ghost use Rattle.fx_model.specs.Messages.{Change, next_message, step_at, differences, flush, sent_views};
 
 /// The view of any resources names nothing that it lacks.
 pub fn wanted_view_is_closed()
     ensures { (dg : Digest) (R : Resources) → IsClosedView (view_of dg R) }
+{}
+
+/// Each set of the view of any resources has members of the kind that its name tells.
+pub fn wanted_sets_are_of_their_kinds()
+    ensures { (dg : Digest) (R : Resources) → AreOfKinds (view_of dg R).sets }
 {}
 
 /// A closed view's tables name nothing that they lack, and no chain leads to one of its own rank or above.

@@ -1,6 +1,6 @@
 -- How the wanted view grows by one endpoint, and which policies are active.
-use Rattle.std.proofs.Common.{◌≡◌, Bool, true, false, ◌&&◌, ◌||◌, List, [], ◌∷◌, ◌++◌, map, ℕ, refl, ap, ◌∙◌}
-use Rattle.std.specs.List.{list_any}
+use Rattle.std.proofs.Common.{◌≡◌, Bool, true, false, ◌&&◌, ◌||◌, List, [], ◌∷◌, ◌++◌, map, ℕ, refl, ap, sym, ◌∙◌}
+use Rattle.std.specs.List.{flat_map, list_any}
 use Rattle.fx_selector.specs.Truth.{holds}
 use Rattle.fx_model.specs.declared.ids.ItemKey.{ItemKey}
 use Rattle.fx_model.specs.declared.policy.Policy.{Policy}
@@ -9,14 +9,16 @@ use Rattle.fx_model.specs.Active.{has_types, applies, is_active}
 use Rattle.fx_model.specs.Directions.{Ingress, Egress}
 use Rattle.fx_model.specs.Labels.{effective_labels, of_endpoint}
 use Rattle.fx_model.specs.Resources.{served_endpoints}
-use Rattle.std.proofs.lemmas.List.{map-append}
+use Rattle.std.proofs.lemmas.List.{map-append, append_assoc}
+use Rattle.std.proofs.lemmas.Grind.{flat_map-append}
 use Rattle.fx_base.specs.Extended.{extended}
 use Rattle.fx_base.proofs.ExtendedLemmas.{extended-append}
 use Rattle.fx_model.specs.declared.resources.Resources.{Resources}
 use Rattle.fx_model.specs.declared.view.ViewProfile.{ViewProfile}
 use Rattle.fx_model.specs.Messages.{Named}
 use Rattle.fx_names.specs.Digests.{Digest}
-use Rattle.fx_model.specs.Views.{profile_entry}
+use Rattle.fx_model.specs.declared.set_use.SetUse.{SetUse}
+use Rattle.fx_model.specs.Views.{profile_entry, uses_of_profile}
 
 -- the profiles of these names, and then those of others
 pub profiles_both : (dg : Digest) (R : Resources) (m : Named ViewProfile) (xs ys : List (List ℕ)) → extended m (map (profile_entry dg R) (xs ++ ys)) ≡ extended (extended m (map (profile_entry dg R) xs)) (map (profile_entry dg R) ys)
@@ -44,3 +46,7 @@ active_by_labels R p = among (served_endpoints R)
     among (x ∷ xs) =
         ap (λ b. (applies R Ingress p x.1 || applies R Egress p x.1) || b) (among xs)
         ∙ either_way (holds p.selector (effective_labels R (of_endpoint x.1))) p.on_ingress p.on_egress (list_any (holds p.selector) (map (λ x. effective_labels R (of_endpoint x.1)) xs))
+
+-- what the rules of these profiles use, and then those of others
+pub uses_both : (R : Resources) (us : List SetUse) (xs ys : List (List ℕ)) → us ++ flat_map (uses_of_profile R) (xs ++ ys) ≡ (us ++ flat_map (uses_of_profile R) xs) ++ flat_map (uses_of_profile R) ys
+uses_both R us xs ys = ap (λ zs. us ++ zs) (flat_map-append (uses_of_profile R) xs ys) ∙ sym (append_assoc us (flat_map (uses_of_profile R) xs) (flat_map (uses_of_profile R) ys))

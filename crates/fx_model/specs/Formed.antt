@@ -11,6 +11,11 @@ use Rattle.fx_base.specs.declared.net.Proto.{Proto}
 use Rattle.fx_model.specs.declared.rules.Action.{Action}
 use Rattle.fx_model.specs.declared.rules.Action.TheVariants.{Allow, Deny, Log, Pass}
 use Rattle.fx_model.specs.declared.rules.Rule.{Rule}
+use Rattle.fx_model.specs.declared.rules.Side.{Side}
+use Rattle.fx_model.specs.declared.rules.PortSpec.{PortSpec}
+use Rattle.fx_model.specs.declared.rules.PortSpec.TheVariants.{Number, Named}
+use Rattle.fx_selector.specs.Tree.{Tree}
+use Rattle.fx_selector.specs.Formed.{is_tree}
 use Rattle.fx_model.specs.declared.ids.ItemKey.{ItemKey}
 use Rattle.fx_model.specs.declared.ids.ItemKey.TheVariants as item_key
 use Rattle.fx_model.specs.declared.ids.PolicyId.{PolicyId}
@@ -53,9 +58,29 @@ abbrev pub lists_ports : Rule → Bool
 lists_ports r =
     (is_given r.source.ports || is_given r.source.not_ports) || (is_given r.destination.ports || is_given r.destination.not_ports)
 
-abbrev pub is_formed_rule : Rule → Bool
-is_formed_rule r =
+-- a port's name has no comma, and a selector is one that some text spells
+abbrev pub is_formed_port_name : List ℕ → Bool
+is_formed_port_name name = list_all (λ b. not (b == 44)) name
+
+abbrev pub is_formed_port : PortSpec → Bool
+is_formed_port (Number range) = true
+is_formed_port (Named name) = is_formed_port_name name
+
+abbrev pub is_formed_selector : Option Tree → Bool
+is_formed_selector None = true
+is_formed_selector (Some t) = is_tree t
+
+abbrev pub is_formed_side : Side → Bool
+is_formed_side s =
+    (is_formed_selector s.selector && is_formed_selector s.not_selector) && (list_all is_formed_port s.ports && list_all is_formed_port s.not_ports)
+
+-- the protocol is one that has what the rule asks for
+abbrev pub has_its_protocol : Rule → Bool
+has_its_protocol r =
     implies (lists_ports r) (has_port_protocol r.protocol) && implies (is_some r.icmp || is_some r.not_icmp) (has_icmp_protocol r.protocol)
+
+abbrev pub is_formed_rule : Rule → Bool
+is_formed_rule r = has_its_protocol r && (is_formed_side r.source && is_formed_side r.destination)
 
 abbrev pub passes : Action → Bool
 passes Allow = false
@@ -118,6 +143,13 @@ is_endpoint_key (key.Profile name) = false
 is_endpoint_key (key.Tier name) = false
 is_endpoint_key (key.Policy id) = false
 
+abbrev pub is_net_set_key : Key → Bool
+is_net_set_key (key.Item (item_key.Endpoint ns name)) = false
+is_net_set_key (key.Item (item_key.NetSet ns name)) = true
+is_net_set_key (key.Profile name) = false
+is_net_set_key (key.Tier name) = false
+is_net_set_key (key.Policy id) = false
+
 abbrev pub is_profile_key : Key → Bool
 is_profile_key (key.Item k) = false
 is_profile_key (key.Profile name) = true
@@ -142,6 +174,7 @@ is_formed_item k (item.Endpoint e) = is_endpoint_key k && is_formed_endpoint e
 is_formed_item k (item.Profile p) = is_profile_key k && is_formed_profile p
 is_formed_item k (item.Tier t) = is_tier_key k
 is_formed_item k (item.Policy p) = is_policy_key k && is_formed_policy p
+is_formed_item k (item.NetSet s) = is_net_set_key k
 
 abbrev pub is_formed : Update → Bool
 is_formed update.InSync = true
@@ -172,6 +205,7 @@ puts_workload_interface node (update.Put k (item.Endpoint e)) = has_workload_int
 puts_workload_interface node (update.Put k (item.Profile p)) = true
 puts_workload_interface node (update.Put k (item.Tier t)) = true
 puts_workload_interface node (update.Put k (item.Policy p)) = true
+puts_workload_interface node (update.Put k (item.NetSet s)) = true
 puts_workload_interface node (update.Delete k) = true
 
 abbrev pub have_workload_interfaces : Resources → Bool

@@ -5,8 +5,12 @@ use Rattle.std.specs.Prelude.{ℕ, List, [], ◌∷◌, ◌++◌, codes, Option,
 use Rattle.std.specs.FinMap as maps
 use Rattle.fx_base.specs.Extended.{extended}
 use Rattle.fx_selector.specs.Truth.{LabelMap}
+use Rattle.fx_model.specs.declared.ids.ItemKey.{ItemKey}
+use Rattle.fx_model.specs.declared.ids.ItemKey.TheVariants as key
 use Rattle.fx_model.specs.declared.policy.NetSet.{NetSet}
 use Rattle.fx_model.specs.declared.resources.Endpoint.{Endpoint}
+use Rattle.fx_model.specs.declared.resources.Item.{Item}
+use Rattle.fx_model.specs.declared.resources.Item.TheVariants as item
 use Rattle.fx_model.specs.declared.resources.Resources.{Resources}
 
 -- the first labels, put over the others
@@ -42,5 +46,25 @@ namespace_parents (Some ns) = (codes "kns." ++ ns) ∷ []
 abbrev pub of_net_set : Option (List ℕ) → NetSet → Labelled
 of_net_set ns s = record { labels = s.labels; parents = namespace_parents ns }
 
+-- a network set's namespace, which a global one has not
+abbrev pub set_namespace : ItemKey → Option (List ℕ)
+set_namespace (key.Endpoint ns name) = None
+set_namespace (key.NetSet ns name) = ns
+
+abbrev pub unlabelled : Labelled
+unlabelled = record { labels = maps.empty; parents = [] }
+
+-- only endpoints and network sets have labels
+abbrev pub labelled : ItemKey → Item → Labelled
+labelled k (item.Endpoint e) = of_endpoint e
+labelled k (item.NetSet s) = of_net_set (set_namespace k) s
+labelled k (item.Profile p) = unlabelled
+labelled k (item.Tier t) = unlabelled
+labelled k (item.Policy p) = unlabelled
+
 abbrev pub effective_labels : Resources → Labelled → LabelMap
 effective_labels R x = effective (λ name. option_map (λ p. p.labels) (maps.get R.profiles name)) x.labels x.parents
+
+-- an item's effective labels
+abbrev pub labels_of : Resources → ItemKey × Item → LabelMap
+labels_of R x = effective_labels R (labelled x.0 x.1)

@@ -9,6 +9,7 @@ pub mod Resources
 pub mod Labels
 pub mod Pairs
 pub mod Active
+pub mod Sets
 pub mod Sinks
 pub mod TierOrder
 pub mod Views

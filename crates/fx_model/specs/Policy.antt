@@ -15,7 +15,14 @@ use Rattle.fx_model.specs.declared.rules.Action.{Action}
 use Rattle.fx_model.specs.declared.rules.Action.TheVariants as action
 use Rattle.fx_model.specs.declared.rules.Rule.{Rule}
 use Rattle.fx_model.specs.declared.rules.Side.{Side}
-use Rattle.fx_base.specs.declared.net.PortRange.{PortRange}
+use Rattle.fx_model.specs.declared.rules.PortSpec.{PortSpec}
+use Rattle.fx_model.specs.declared.rules.PortSpec.TheVariants.{Number, Named}
+use Rattle.fx_selector.specs.Tree.{Tree}
+use Rattle.fx_selector.specs.Truth.{holds}
+use Rattle.fx_model.specs.declared.resources.Item.{Item}
+use Rattle.fx_model.specs.declared.resources.Item.TheVariants as item
+use Rattle.fx_model.specs.Labels.{labels_of}
+use Rattle.fx_model.specs.Sets.{item_nets, selector_or_all}
 use Rattle.fx_model.specs.declared.ids.PolicyId.{PolicyId}
 use Rattle.fx_model.specs.declared.policy.Policy.{Policy}
 use Rattle.fx_model.specs.declared.resources.Endpoint.{Endpoint}
@@ -25,7 +32,7 @@ use Rattle.fx_model.specs.declared.chain.End.{End}
 use Rattle.fx_model.specs.declared.chain.End.TheVariants.{Source, Dest}
 use Rattle.fx_model.specs.Directions.{Direction, Ingress, Egress}
 use Rattle.fx_model.specs.Criteria.{address_at, port_at, proto_is, proto_is_not, lies_in, lies_in_given, holds_port, icmp_is, icmp_is_not}
-use Rattle.fx_model.specs.Resources.{served_endpoints}
+use Rattle.fx_model.specs.Resources.{served_endpoints, items_of}
 use Rattle.fx_model.specs.Active.{applying}
 use Rattle.fx_model.specs.TierOrder.{place_in, tiers_of}
 
@@ -108,19 +115,50 @@ profiles_verdict (p ∷ ps) = profile_verdict p (profiles_verdict ps)
 
 -- ---- an endpoint of the resources
 
-abbrev pub some_port : List PortRange → ℕ → ℕ → Bool
-some_port ps proto y = list_any (λ r. holds_port r proto y) ps
+-- an item on which the selector holds has the address
+abbrev pub selects_address : Resources → Tree → ℕ → Bool
+selects_address R t x = list_any (λ i. holds t (labels_of R i) && lies_in (item_nets i.1) x) (items_of R)
+
+abbrev pub selected_given : Resources → Option Tree → ℕ → Bool
+selected_given R None x = true
+selected_given R (Some t) x = selects_address R t x
+
+abbrev pub not_selected_given : Resources → Option Tree → ℕ → Bool
+not_selected_given R None x = true
+not_selected_given R (Some t) x = not (selects_address R t x)
+
+-- an endpoint has the address, and a port of this name, protocol and number
+abbrev pub has_port : List ℕ → ℕ → ℕ → ℕ → Item → Bool
+has_port name proto x y (item.Endpoint e) =
+    list_any (λ a. nat_eq x a.0) e.addresses && list_any (λ q. nat_eq q.proto.0 proto && (bytes_eq q.name name && nat_eq y q.number)) e.ports
+has_port name proto x y (item.NetSet s) = false
+has_port name proto x y (item.Profile p) = false
+has_port name proto x y (item.Tier t) = false
+has_port name proto x y (item.Policy p) = false
+
+-- The endpoints that are meant are those on which the side's selector holds, or all where none is given.
+abbrev pub named_port_holds : Resources → Option Tree → List ℕ → ℕ → ℕ → ℕ → Bool
+named_port_holds R t name proto x y = list_any (λ i. holds (selector_or_all t) (labels_of R i) && has_port name proto x y i.1) (items_of R)
+
+abbrev pub port_holds : Resources → Option Tree → End → Packet → PortSpec → Bool
+port_holds R t end a (Number r) = holds_port r a.proto.0 (port_at end a)
+port_holds R t end a (Named name) = named_port_holds R t name a.proto.0 (address_at end a) (port_at end a)
+
+abbrev pub some_port : Resources → Option Tree → End → List PortSpec → Packet → Bool
+some_port R t end ps a = list_any (port_holds R t end a) ps
 
 -- some member holds, if there are members
-abbrev pub some_port_given : List PortRange → ℕ → ℕ → Bool
-some_port_given [] proto y = true
-some_port_given (p ∷ ps) proto y = some_port (p ∷ ps) proto y
+abbrev pub some_port_given : Resources → Option Tree → End → List PortSpec → Packet → Bool
+some_port_given R t end [] a = true
+some_port_given R t end (p ∷ ps) a = some_port R t end (p ∷ ps) a
 
--- what a rule asks of one end of the packet's way: a list holds if one of its members does, and a negated one if none does
-abbrev pub side_matches : End → Side → Packet → Bool
-side_matches end s a =
+-- What a rule asks of one end of the packet's way: a list holds if one of its members does, and a negated one if none does. A
+-- selector holds for an address of an item that it selects.
+abbrev pub side_matches : Resources → End → Side → Packet → Bool
+side_matches R end s a =
     (lies_in_given s.nets (address_at end a) && not (lies_in s.not_nets (address_at end a)))
-    && (some_port_given s.ports a.proto.0 (port_at end a) && not (some_port s.not_ports a.proto.0 (port_at end a)))
+    && ((selected_given R s.selector (address_at end a) && not_selected_given R s.not_selector (address_at end a))
+    && (some_port_given R s.selector end s.ports a && not (some_port R s.selector end s.not_ports a)))
 
 -- all criteria hold together
 abbrev pub rule_matches : Resources → Rule → Packet → Bool
@@ -128,7 +166,7 @@ rule_matches R r a =
     not r.never
     && ((proto_is r.protocol a.proto.0 && proto_is_not r.not_protocol a.proto.0)
     && ((icmp_is r.icmp a && icmp_is_not r.not_icmp a)
-    && (side_matches Source r.source a && side_matches Dest r.destination a)))
+    && (side_matches R Source r.source a && side_matches R Dest r.destination a)))
 
 -- rules as a packet meets them, each told by its place
 abbrev pub met_rules : Resources → Packet → (ℕ → Reason) → ℕ → List Rule → List MetRule

@@ -3,6 +3,8 @@ use Rattle.std.specs.Prelude.{◌≡◌, ℕ, List, true, nat_eq, Option}
 use Rattle.std.specs.Cmp.Lexicographic.{pointwise}
 use Rattle.fx_base.specs.Same.{same_numbers, same_bytes, same_list, same_truths, same_option, copies_option, both_pass}
 use Rattle.fx_base.specs.SameNet.{same_net, same_ports}
+use Rattle.fx_selector.specs.Tree.{Tree}
+use Rattle.fx_selector.specs.SameTree.{same_tree, one_tree}
 use Rattle.fx_base.specs.declared.net.Net.{Net}
 use Rattle.fx_base.specs.declared.net.PortRange.{PortRange}
 use Rattle.fx_base.specs.declared.net.Proto.{Proto}
@@ -16,6 +18,13 @@ use Rattle.fx_model.specs.declared.rules.Icmp.{Icmp}
 use Rattle.fx_model.specs.contracts.rules.IcmpPartialEq.TheImpl as icmp
 use Rattle.fx_model.specs.declared.rules.Side.{Side}
 use Rattle.fx_model.specs.contracts.rules.SidePartialEq.TheImpl as plain_side
+use Rattle.fx_model.specs.contracts.rules.SideClone.TheImpl as plain_side_clone
+use Rattle.fx_model.specs.declared.resources.EndpointPort.{EndpointPort}
+use Rattle.fx_model.specs.contracts.resources.EndpointPortPartialEq.TheImpl as endpoint_port
+use Rattle.fx_model.specs.declared.rules.PortSpec.{PortSpec}
+use Rattle.fx_model.specs.declared.rules.PortSpec.TheVariants.{Number, Named as Name}
+use Rattle.fx_model.specs.contracts.rules.PortSpecPartialEq.TheImpl as port_spec
+use Rattle.fx_model.specs.contracts.rules.PortSpecClone.TheImpl as port_spec_clone
 use Rattle.fx_model.specs.declared.rules.Rule.{Rule}
 use Rattle.fx_model.specs.contracts.rules.RulePartialEq.TheImpl as plain_rule
 use Rattle.fx_model.specs.contracts.rules.RuleClone.TheImpl as plain_rule_clone
@@ -129,17 +138,47 @@ copies_view_rule x y h =
 
 -- ---- the same of rules as they are read
 
+pub same_port_spec : (x y : PortSpec) → port_spec.eq-value.it x y ≡ true → x ≡ y
+same_port_spec (Number a) (Number b) e = λ i. Number (same_range a b e i)
+same_port_spec (Name a) (Name b) e = λ i. Name (same_bytes a b e i)
+same_port_spec (Number a) (Name b) e = cc
+same_port_spec (Name a) (Number b) e = cc
+
+pub copies_port_spec : (x y : PortSpec) → port_spec_clone.is_clone-value.it x y → y ≡ x
+copies_port_spec (Number a) (Number b) h = λ i. Number (h i)
+copies_port_spec (Name a) (Name b) h = λ i. Name (h i)
+copies_port_spec (Number a) (Name b) h = absurd h
+copies_port_spec (Name a) (Number b) h = absurd h
+
+pub same_endpoint_port : (x y : EndpointPort) → endpoint_port.eq-value.it x y ≡ true → x ≡ y
+same_endpoint_port x y e =
+    let p = both_pass _ _ e in
+    let q = both_pass _ _ p.1 in
+    λ i. record { name = same_bytes x.name y.name p.0 i; proto = same_proto x.proto y.proto q.0 i; number = same_numbers x.number y.number q.1 i }
+
 pub same_side : (x y : Side) → plain_side.eq-value.it x y ≡ true → x ≡ y
 same_side x y e =
     let p = both_pass _ _ e in
     let q = both_pass _ _ p.1 in
     let r = both_pass _ _ q.1 in
+    let s = both_pass _ _ r.1 in
+    let t = both_pass _ _ s.1 in
     λ i. record {
       nets = same_list _ same_cidr x.nets y.nets p.0 i;
       not_nets = same_list _ same_cidr x.not_nets y.not_nets q.0 i;
-      ports = same_list _ same_range x.ports y.ports r.0 i;
-      not_ports = same_list _ same_range x.not_ports y.not_ports r.1 i;
+      selector = same_option same_tree one_tree x.selector y.selector r.0 i;
+      not_selector = same_option same_tree one_tree x.not_selector y.not_selector s.0 i;
+      ports = same_list _ same_port_spec x.ports y.ports t.0 i;
+      not_ports = same_list _ same_port_spec x.not_ports y.not_ports t.1 i;
     }
+
+pub copies_side : (x y : Side) → plain_side_clone.is_clone-value.it x y → y ≡ x
+copies_side x y h =
+    let Selector : Option Tree → Option Tree → Type 0 = λ p q. plain_side_clone.is_clone-value.it (record x { selector = p }) (record y { selector = q }) in
+    let NotSelector : Option Tree → Option Tree → Type 0 = λ p q. plain_side_clone.is_clone-value.it (record x { not_selector = p }) (record y { not_selector = q }) in
+    let selector = copies_option Selector (λ a b g. g.1.1.0) (λ b g. g.1.1.0) (λ a g. g.1.1.0) x.selector y.selector h in
+    let not_selector = copies_option NotSelector (λ a b g. g.1.1.1.0) (λ b g. g.1.1.1.0) (λ a g. g.1.1.1.0) x.not_selector y.not_selector h in
+    λ i. record { nets = h.0 i; not_nets = h.1.0 i; selector = selector i; not_selector = not_selector i; ports = h.1.1.1.1.0 i; not_ports = h.1.1.1.1.1 i }
 
 pub same_rule : (x y : Rule) → plain_rule.eq-value.it x y ≡ true → x ≡ y
 same_rule x y e =
@@ -160,9 +199,6 @@ same_rule x y e =
       source = same_side x.source y.source v.0 i;
       destination = same_side x.destination y.destination v.1 i;
     }
-
-copies_side : (x y : Side) → (y.nets ≡ x.nets) × ((y.not_nets ≡ x.not_nets) × ((y.ports ≡ x.ports) × (y.not_ports ≡ x.not_ports))) → y ≡ x
-copies_side x y h i = record { nets = h.0 i; not_nets = h.1.0 i; ports = h.1.1.0 i; not_ports = h.1.1.1 i }
 
 pub copies_rule : (x y : Rule) → plain_rule_clone.is_clone-value.it x y → y ≡ x
 copies_rule x y h =

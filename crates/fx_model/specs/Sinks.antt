@@ -1,4 +1,4 @@
--- What a sink of active rules holds, and one of a view.
+-- What a sink of active rules holds, one of used sets, and one of a view.
 use Rattle.std.specs.Prelude.{Option}
 use Rattle.std.specs.Ordering.{nat_cmp}
 use Rattle.std.specs.Cmp.Lexicographic.{slice_cmp}
@@ -6,6 +6,7 @@ use Rattle.std.specs.FinMap as map
 use Rattle.fx_model.specs.declared.policy.Policy.{Policy}
 use Rattle.fx_model.specs.declared.resources.Profile.{Profile}
 use Rattle.fx_model.specs.contracts.ids.PolicyIdOrd.TheImpl.{cmp-value}
+use Rattle.fx_model.specs.declared.set_use.SetUse.{SetUse}
 use Rattle.fx_model.specs.declared.view.ViewEndpoint.{ViewEndpoint}
 use Rattle.fx_model.specs.declared.view.ViewPolicy.{ViewPolicy}
 use Rattle.fx_model.specs.declared.view.ViewProfile.{ViewProfile}
@@ -28,3 +29,7 @@ ProfilesByKey = Named ViewProfile
 -- by their interfaces
 abbrev pub EndpointsByInterface : Type 0
 EndpointsByInterface = Named ViewEndpoint
+
+-- by the names of sets
+abbrev pub Uses : Type 0
+Uses = Named SetUse

@@ -2,6 +2,7 @@
 #![tactic(auto)]
 
 pub use chain::{ChainRule, End, Match, Reason, Tag, Target};
+pub use contributions::contributed;
 pub use ids::{ItemKey, Key, PolicyId};
 pub use item_map::ItemMap;
 pub use labels::{applies, effective_labels, is_active};
@@ -16,15 +17,19 @@ pub use place_map::PlaceMap;
 pub use policy::{NetSet, Policy, Tier};
 pub use policy_map::PolicyMap;
 pub use policy_pairs::PolicyPairSet;
-pub use resources::{Endpoint, Item, Profile, Resources, Update};
-pub use rules::{Action, Icmp, Rule, Side};
-pub use sinks::{ActiveSink, MatchSink, ViewSink};
+pub use resources::{Endpoint, EndpointPort, Item, Profile, Resources, Update};
+pub use rules::{Action, Icmp, PortSpec, Rule, Side};
+pub use set_use::{SetUse, push_both, push_uses};
+pub use sinks::{ActiveSink, MatchSink, SetSink, UseSink, ViewSink};
 pub use tier_order::{Order, PolicyPlace, places_compare_as_stated, tiers_in_order};
 pub use view::{View, ViewEndpoint, ViewPolicy, ViewProfile, ViewTier};
 pub use view_rule::{ViewPort, ViewRule, ViewSide};
-pub use wanted::view_of;
+pub use wanted::{item_name, namespace_of, view_of, view_profile};
+pub use wanted_policies::view_policy;
+pub use wanted_sets::namespace_parents;
 
 mod chain;
+mod contributions;
 mod ids;
 mod item_map;
 mod labels;
@@ -41,9 +46,12 @@ mod policy_map;
 mod policy_pairs;
 mod resources;
 mod rules;
+mod set_use;
 mod sinks;
 mod tier_order;
 mod view;
 mod view_rule;
+mod view_rules;
 mod wanted;
 mod wanted_policies;
+mod wanted_sets;

@@ -19,6 +19,17 @@ pub struct NetSet {
     pub nets: Seq<Net>,
 }
 
+impl Clone for NetSet {
+    ghost is_clone = { λ a b. b ≡ a };
+
+    fn clone(&self) -> Result<Self, AllocError> {
+        Ok(NetSet {
+            labels: self.labels.clone()?,
+            nets: self.nets.clone()?,
+        })
+    }
+}
+
 /// A policy: its tier and its place there, the endpoints that it selects, and its rules. It sees the packets of the directions
 /// that are on.
 #[derive(Debug, Drop)]

@@ -1,22 +1,55 @@
 //! The resources, as Calico's resource reference (`projectcalico.org/v3`) names them, and what changes them.
 ghost use Rattle.std.specs.Prelude.{◌≡◌, OnOk, OnErr};
+ghost use Rattle.fx_model.specs.SameRules.{same_endpoint_port};
 
 use crate::ids::{ItemKey, Key};
 use crate::item_map::ItemMap;
-use crate::policy::{Policy, Tier};
+use crate::policy::{NetSet, Policy, Tier};
 use crate::policy_map::PolicyMap;
 use crate::rules::Rule;
-use fx_base::{Memory, Seq, Text, TextMap};
+use fx_base::{Exact, Ipv4, Memory, Proto, Seq, Text, TextMap};
 use fx_selector::Labels;
 use std::alloc::{AllocError, Global};
 
-/// A workload endpoint: the node that it runs on, its interface there, its own labels, and its profiles in listed order.
+/// A port that an endpoint has, under a name.
+#[derive(Clone, Debug, PartialEq, Eq, Drop)]
+pub struct EndpointPort {
+    pub name: Text,
+    pub proto: Proto,
+    pub number: u16,
+}
+
+impl Exact for EndpointPort {
+    ghost same = { same_endpoint_port };
+
+    ghost copies = { λ x y h i. record { name = h.0 i; proto = h.1.0 i; number = h.1.1 i } };
+}
+
+/// A workload endpoint: the node that it runs on, its interface there, its own labels, its addresses, its profiles in listed order,
+/// and its named ports.
 #[derive(Debug, Drop)]
 pub struct Endpoint {
     pub node: Text,
     pub iface: Text,
     pub labels: Labels,
+    pub addresses: Seq<Ipv4>,
     pub profiles: Seq<Text>,
+    pub ports: Seq<EndpointPort>,
+}
+
+impl Clone for Endpoint {
+    ghost is_clone = { λ a b. b ≡ a };
+
+    fn clone(&self) -> Result<Self, AllocError> {
+        Ok(Endpoint {
+            node: self.node.clone()?,
+            iface: self.iface.clone()?,
+            labels: self.labels.clone()?,
+            addresses: self.addresses.clone()?,
+            profiles: self.profiles.clone()?,
+            ports: self.ports.clone()?,
+        })
+    }
 }
 
 /// A profile: what the endpoints that list it inherit, its labels and its rules for packets to them and from them.
@@ -46,6 +79,7 @@ pub enum Item {
     Profile(Profile),
     Tier(Tier),
     Policy(Policy),
+    NetSet(NetSet),
 }
 
 /// A change of the resources. The item of a put is of its key's kind.
@@ -62,13 +96,14 @@ pub struct Resources {
     pub node: Text,
     pub in_sync: bool,
     pub endpoints: ItemMap<Endpoint>,
+    pub net_sets: ItemMap<NetSet>,
     pub profiles: TextMap<Profile>,
     pub tiers: TextMap<Tier>,
     pub policies: PolicyMap<Policy>,
 }
 
 impl Resources {
-    ghost use Rattle.fx_model.specs.Resources.{empty_resources, after, after_put, put_endpoint, put_profile, put_tier, put_policy, after_delete, is_local, is_served};
+    ghost use Rattle.fx_model.specs.Resources.{empty_resources, after, after_put, put_endpoint, put_profile, put_tier, put_policy, put_net_set, after_delete, is_local, is_served};
 
     /// No resources yet, and not in sync.
     pub fn new(alloc: Global, node: Text) -> Resources
@@ -78,6 +113,7 @@ impl Resources {
             node,
             in_sync: false,
             endpoints: ItemMap::new(alloc),
+            net_sets: ItemMap::new(alloc),
             profiles: TextMap::new(alloc),
             tiers: TextMap::new(alloc),
             policies: PolicyMap::new(alloc),
@@ -111,6 +147,7 @@ impl Resources {
             Item::Profile(profile) => self.put_profile(key, profile),
             Item::Tier(tier) => self.put_tier(key, tier),
             Item::Policy(policy) => self.put_policy(key, policy),
+            Item::NetSet(net_set) => self.put_net_set(key, net_set),
         }
     }
 
@@ -161,14 +198,28 @@ impl Resources {
         Ok(())
     }
 
+    fn put_net_set(&mut self, key: Key, net_set: NetSet) -> Result<(), Memory>
+        ensures ok { OnOk result (self.new ≡ put_net_set self.old key net_set) }
+        ensures err { OnErr result (self.new ≡ self.old) }
+    {
+        match key {
+            Key::Item(ItemKey::NetSet { ns, name }) => {
+                self.net_sets.insert(ItemKey::NetSet { ns, name }, net_set)?;
+                Ok(())
+            }
+            Key::Item(ItemKey::Endpoint { .. })
+            | Key::Profile { .. }
+            | Key::Tier { .. }
+            | Key::Policy(_) => Ok(()),
+        }
+    }
+
     // To delete what isn't there changes nothing.
     fn delete(&mut self, key: &Key)
         ensures { self.new ≡ after_delete self.old key.now }
     {
         match key {
-            Key::Item(key) => {
-                self.endpoints.remove(key);
-            }
+            Key::Item(key) => self.delete_item(key),
             Key::Profile { name } => {
                 self.profiles.remove(name);
             }
@@ -177,6 +228,19 @@ impl Resources {
             }
             Key::Policy(id) => {
                 self.policies.remove(id);
+            }
+        }
+    }
+
+    fn delete_item(&mut self, key: &ItemKey)
+        ensures { self.new ≡ after_delete self.old (Key.Item key.now) }
+    {
+        match key {
+            ItemKey::Endpoint { .. } => {
+                self.endpoints.remove(key);
+            }
+            ItemKey::NetSet { .. } => {
+                self.net_sets.remove(key);
             }
         }
     }

@@ -1,23 +1,25 @@
 //! The view of the resources, computed whole.
-ghost use Rattle.std.specs.Prelude.{◌≡◌, IfOk, OnOk, map};
+ghost use Rattle.std.specs.Prelude.{◌≡◌, ◌++◌, IfOk, OnOk, map};
+ghost use Rattle.std.specs.List.{flat_map};
 ghost use Rattle.std.specs.Option.{option_copied};
 ghost use Rattle.std.specs.FinMap as maps;
 ghost use Rattle.fx_base.specs.Extended.{extended};
-ghost use Rattle.fx_model.specs.Views.{view_of, view_rule, view_side, view_profile, view_endpoint, namespace_of, item_name, profile_entry, profile_key};
+ghost use Rattle.fx_model.specs.Views.{view_of, uses_of_profile, view_profile, view_endpoint, namespace_of, item_name, profile_entry, profile_key};
 
 use crate::ids::ItemKey;
 use crate::labels::effective_labels;
 use crate::resources::{Endpoint, Profile, Resources};
-use crate::rules::{Rule, Side};
+use crate::set_use::{SetUse, push_both};
 use crate::view::{View, ViewEndpoint, ViewProfile};
-use crate::view_rule::{ViewPort, ViewRule, ViewSide};
+use crate::view_rules::view_rules;
 use crate::wanted_policies::{put_policies, view_tiers};
-use fx_base::{Memory, NameKey, NameMap, PortRange, Seq, Text};
+use crate::wanted_sets::put_sets;
+use fx_base::{Memory, NameKey, NameMap, Seq, Text};
 use fx_names::{DigestFunction, DigestRule, Namer, Prefix};
 use std::alloc::Global;
 
 /// What the node needs of the resources.
-#[tactic(auto, using(crate::proofs::Serving::profiles_both))]
+#[tactic(auto, using(crate::proofs::Serving::profiles_both, crate::proofs::Serving::uses_both))]
 pub fn view_of<R: DigestRule, F: DigestFunction<R> + Drop>(
     alloc: Global,
     resources: &Resources,
@@ -26,13 +28,34 @@ pub fn view_of<R: DigestRule, F: DigestFunction<R> + Drop>(
     ensures { IfOk result (λ v. v ≡ view_of R.digest_of resources.now) }
 {
     let mut view = View::new(alloc);
+    let mut uses = Vec::new(alloc);
+    put_policies(alloc, resources, namer, &mut view.policies, &mut uses)?;
     for (key, endpoint) in resources.endpoints.iter() {
         if resources.is_served(endpoint) {
             put_served(alloc, resources, namer, key, endpoint, &mut view)?;
+            push_profile_uses(alloc, resources, &endpoint.profiles, &mut uses)?;
         }
     }
-    put_policies(alloc, resources, namer, &mut view.policies)?;
+    put_sets(alloc, resources, namer, &uses, &mut view.sets)?;
     Ok(view)
+}
+
+// The sets that the rules of these profiles use.
+fn push_profile_uses(
+    alloc: Global,
+    resources: &Resources,
+    names: &Seq<Text>,
+    uses: &mut Vec<SetUse>,
+) -> Result<(), Memory>
+    ensures { OnOk result (uses.new.items
+        ≡ uses.old.items ++ flat_map (uses_of_profile resources.now) names.now) }
+{
+    for name in names.as_slice() {
+        if let Some(profile) = resources.profiles.get(name) {
+            push_both(alloc, &profile.ingress, &profile.egress, uses)?;
+        }
+    }
+    Ok(())
 }
 
 // A served endpoint and its profiles.
@@ -74,18 +97,20 @@ fn put_profiles<R: DigestRule, F: DigestFunction<R> + Drop>(
     ensures { OnOk result (profiles.new ≡ extended profiles.old (map (profile_entry R.digest_of resources.now) names.now)) }
 {
     for name in names.as_slice() {
-        let profile = view_profile(alloc, name, resources.profiles.get(name))?;
+        let profile = view_profile(alloc, name, resources.profiles.get(name), namer)?;
         profiles.insert(&namer.key(Prefix::ProfileIn, name.bytes()), profile)?;
     }
     Ok(())
 }
 
-fn view_profile(
+/// A profile as it is rendered, or as missing where there is none.
+pub fn view_profile<R: DigestRule, F: DigestFunction<R> + Drop>(
     alloc: Global,
     name: &Text,
     profile: Option<&Profile>,
+    namer: &Namer<R, F>,
 ) -> Result<ViewProfile, Memory>
-    ensures { IfOk result (λ p. p ≡ view_profile name.now (option_copied profile.entry)) }
+    ensures { IfOk result (λ p. p ≡ view_profile R.digest_of name.now (option_copied profile.entry)) }
 {
     let name = name.clone()?;
     match profile {
@@ -98,58 +123,10 @@ fn view_profile(
         Some(profile) => Ok(ViewProfile {
             name,
             missing: false,
-            ingress: view_rules(alloc, &profile.ingress)?,
-            egress: view_rules(alloc, &profile.egress)?,
+            ingress: view_rules(alloc, &profile.ingress, namer)?,
+            egress: view_rules(alloc, &profile.egress, namer)?,
         }),
     }
-}
-
-pub(crate) fn view_rules(alloc: Global, rules: &Seq<Rule>) -> Result<Seq<ViewRule>, Memory>
-    ensures { IfOk result (λ rs. rs ≡ map view_rule rules.now) }
-{
-    let mut wanted = Seq::new(alloc);
-    for rule in rules.as_slice() {
-        wanted.push(view_rule(alloc, rule)?)?;
-    }
-    Ok(wanted)
-}
-
-fn view_rule(alloc: Global, rule: &Rule) -> Result<ViewRule, Memory>
-    ensures { IfOk result (λ r. r ≡ view_rule rule.now) }
-{
-    Ok(ViewRule {
-        action: rule.action,
-        never: rule.never,
-        protocol: rule.protocol,
-        not_protocol: rule.not_protocol,
-        icmp: rule.icmp,
-        not_icmp: rule.not_icmp,
-        source: view_side(alloc, &rule.source)?,
-        destination: view_side(alloc, &rule.destination)?,
-    })
-}
-
-fn view_side(alloc: Global, side: &Side) -> Result<ViewSide, Memory>
-    ensures { IfOk result (λ s. s ≡ view_side side.now) }
-{
-    Ok(ViewSide {
-        nets: side.nets.clone()?,
-        not_nets: side.not_nets.clone()?,
-        set: None,
-        not_set: None,
-        ports: view_ports(alloc, &side.ports)?,
-        not_ports: view_ports(alloc, &side.not_ports)?,
-    })
-}
-
-fn view_ports(alloc: Global, ports: &Seq<PortRange>) -> Result<Seq<ViewPort>, Memory>
-    ensures { IfOk result (λ ps. ps ≡ map ViewPort.Range ports.now) }
-{
-    let mut wanted = Seq::new(alloc);
-    for range in ports.as_slice() {
-        wanted.push(ViewPort::Range(*range))?;
-    }
-    Ok(wanted)
 }
 
 fn view_endpoint<R: DigestRule, F: DigestFunction<R> + Drop>(
@@ -172,7 +149,8 @@ fn view_endpoint<R: DigestRule, F: DigestFunction<R> + Drop>(
     })
 }
 
-fn namespace_of(alloc: Global, key: &ItemKey) -> Result<Text, Memory>
+/// The namespace of an item; empty where it has none.
+pub fn namespace_of(alloc: Global, key: &ItemKey) -> Result<Text, Memory>
     ensures { IfOk result (λ ns. ns ≡ namespace_of key.now) }
 {
     match key {
@@ -182,7 +160,8 @@ fn namespace_of(alloc: Global, key: &ItemKey) -> Result<Text, Memory>
     }
 }
 
-fn item_name(key: &ItemKey) -> Result<Text, Memory>
+/// An item's name within its namespace.
+pub fn item_name(key: &ItemKey) -> Result<Text, Memory>
     ensures { IfOk result (λ name. name ≡ item_name key.now) }
 {
     match key {

@@ -1,12 +1,13 @@
 //! The policies of the wanted view, and the tiers of its endpoints.
-ghost use Rattle.std.specs.Prelude.{◌≡◌, [], ◌∷◌, map, IfOk, OnOk, if◌then◌else◌};
-ghost use Rattle.std.specs.List.{list_any};
+ghost use Rattle.std.specs.Prelude.{◌≡◌, [], ◌∷◌, ◌++◌, map, IfOk, OnOk, if◌then◌else◌};
+ghost use Rattle.std.specs.List.{flat_map, list_any};
 ghost use Rattle.fx_base.specs.Extended.{extended};
 ghost use Rattle.fx_selector.specs.Truth.{holds};
 ghost use Rattle.fx_model.specs.Active.{active_policies, applying, has_types, is_active};
 ghost use Rattle.fx_model.specs.Directions.{Ingress, Egress};
 ghost use Rattle.fx_model.specs.Labels.{effective_labels, of_endpoint};
 ghost use Rattle.fx_model.specs.Resources.{served_endpoints};
+ghost use Rattle.fx_model.specs.Sets.{policy_uses};
 ghost use Rattle.fx_model.specs.TierOrder.{place_in};
 ghost use Rattle.fx_model.specs.Views.{view_policy, policy_entry, policy_key, key_in_place, view_tiers};
 
@@ -15,29 +16,34 @@ use crate::labels::effective_labels;
 use crate::place_map::PlaceMap;
 use crate::policy::Policy;
 use crate::resources::{Endpoint, Resources};
+use crate::set_use::{SetUse, push_both};
 use crate::tier_order::{Order, PolicyPlace, tiers_in_order};
 use crate::view::{ViewPolicy, ViewTier};
-use crate::wanted::view_rules;
+use crate::view_rules::view_rules;
 use fx_base::{Counter, Memory, NameKey, NameMap, Seq};
 use fx_names::{DigestFunction, DigestRule, Namer, Prefix};
 use fx_selector::Labels;
 use std::alloc::Global;
 
-/// The policies that apply to some served endpoint.
+/// The policies that apply to some served endpoint, and the sets that their rules use.
 #[tactic(auto, using(crate::proofs::Serving::active_by_labels))]
 pub fn put_policies<R: DigestRule, F: DigestFunction<R> + Drop>(
     alloc: Global,
     resources: &Resources,
     namer: &Namer<R, F>,
     policies: &mut NameMap<ViewPolicy>,
+    uses: &mut Vec<SetUse>,
 ) -> Result<(), Memory>
-    ensures { OnOk result (policies.new
+    ensures policies { OnOk result (policies.new
         ≡ extended policies.old (map (policy_entry R.digest_of) (active_policies resources.now))) }
+    ensures uses { OnOk result (uses.new.items
+        ≡ uses.old.items ++ flat_map (λ x. policy_uses x.1) (active_policies resources.now)) }
 {
     let served = labels_of_served(alloc, resources)?;
     for (id, policy) in resources.policies.iter() {
         if policy.has_types() && selects_some(policy, &served) {
             put_policy(alloc, namer, id, policy, policies)?;
+            push_both(alloc, &policy.ingress, &policy.egress, uses)?;
         }
     }
     Ok(())
@@ -52,14 +58,26 @@ fn put_policy<R: DigestRule, F: DigestFunction<R> + Drop>(
 ) -> Result<(), Memory>
     ensures { OnOk result (policies.new ≡ extended policies.old (map (policy_entry R.digest_of) ((id.now, policy.now) ∷ []))) }
 {
-    let wanted = ViewPolicy {
-        id: id.clone()?,
-        ingress: view_rules(alloc, &policy.ingress)?,
-        egress: view_rules(alloc, &policy.egress)?,
-    };
+    let wanted = view_policy(alloc, id, policy, namer)?;
     let text = id.text(alloc)?;
     policies.insert(&namer.key(Prefix::PolicyIn, text.bytes()), wanted)?;
     Ok(())
+}
+
+/// A policy as it is rendered.
+pub fn view_policy<R: DigestRule, F: DigestFunction<R> + Drop>(
+    alloc: Global,
+    id: &PolicyId,
+    policy: &Policy,
+    namer: &Namer<R, F>,
+) -> Result<ViewPolicy, Memory>
+    ensures { IfOk result (λ p. p ≡ view_policy R.digest_of id.now policy.now) }
+{
+    Ok(ViewPolicy {
+        id: id.clone()?,
+        ingress: view_rules(alloc, &policy.ingress, namer)?,
+        egress: view_rules(alloc, &policy.egress, namer)?,
+    })
 }
 
 // The labels of each served endpoint.

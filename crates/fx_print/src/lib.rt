@@ -11,6 +11,4 @@ mod members;
 mod messages;
 mod packets;
 mod tables;
-#[cfg(test)]
-mod tests;
 mod texts;

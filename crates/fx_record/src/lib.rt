@@ -1,8 +1,6 @@
 //! Sinks that record what they are told, for tests.
 #![tactic(auto)]
 
-pub use records::{RecordActive, RecordMatches, RecordView};
+pub use records::{RecordActive, RecordMatches, RecordSets, RecordUses, RecordView};
 
 mod records;
-#[cfg(test)]
-mod tests;

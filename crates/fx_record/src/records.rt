@@ -3,10 +3,11 @@ ghost use Rattle.std.specs.Prelude.{◌≡◌};
 ghost use Rattle.std.specs.FinMap as map;
 ghost use Rattle.fx_base.specs.Set as set;
 
-use fx_base::{Memory, NameKey, NameMap, Text, TextMap};
+use fx_base::{Memory, NameKey, NameMap, SetMap, SetName, Text, TextMap};
 use fx_model::{
-    ActiveSink, ItemKey, MatchSink, PairSet, Policy, PolicyId, PolicyMap, PolicyPairSet, Profile,
-    ViewEndpoint, ViewPolicy, ViewProfile, ViewSink,
+    ActiveSink, ItemKey, MatchSink, Member, MemberSet, PairSet, Policy, PolicyId, PolicyMap,
+    PolicyPairSet, Profile, SetSink, SetUse, UseSink, ViewEndpoint, ViewPolicy, ViewProfile,
+    ViewSink,
 };
 use std::alloc::Global;
 
@@ -133,6 +134,8 @@ impl ViewSink for RecordView {
 
     ghost endpoints = { λ a. a.endpoints };
 
+    ghost is_kept = { λ a b. Unit {0} };
+
     fn policy_put(&mut self, key: NameKey, policy: ViewPolicy) -> Result<(), Memory> {
         self.policies.insert(&key, policy)?;
         Ok(())
@@ -160,6 +163,133 @@ impl ViewSink for RecordView {
 
     fn endpoint_gone(&mut self, iface: &Text) -> Result<(), Memory> {
         self.endpoints.remove(iface);
+        Ok(())
+    }
+}
+
+/// Used sets, beside a view.
+#[derive(Drop)]
+pub struct RecordUses {
+    pub uses: SetMap<SetUse>,
+    pub view: RecordView,
+}
+
+impl RecordUses {
+    pub fn new(alloc: Global) -> Self
+        ensures uses { result.uses ≡ map.empty }
+        ensures policies { result.view.policies ≡ map.empty }
+        ensures profiles { result.view.profiles ≡ map.empty }
+        ensures endpoints { result.view.endpoints ≡ map.empty }
+    {
+        RecordUses {
+            uses: SetMap::new(alloc),
+            view: RecordView::new(alloc),
+        }
+    }
+}
+
+impl ViewSink for RecordUses {
+    ghost policies = { λ a. a.view.policies };
+
+    ghost profiles = { λ a. a.view.profiles };
+
+    ghost endpoints = { λ a. a.view.endpoints };
+
+    ghost is_kept = { λ a b. b.uses ≡ a.uses };
+
+    fn policy_put(&mut self, key: NameKey, policy: ViewPolicy) -> Result<(), Memory> {
+        self.view.policy_put(key, policy)?;
+        Ok(())
+    }
+
+    fn policy_gone(&mut self, key: NameKey) -> Result<(), Memory> {
+        self.view.policy_gone(key)?;
+        Ok(())
+    }
+
+    fn profile_put(&mut self, key: NameKey, profile: ViewProfile) -> Result<(), Memory> {
+        self.view.profile_put(key, profile)?;
+        Ok(())
+    }
+
+    fn profile_gone(&mut self, key: NameKey) -> Result<(), Memory> {
+        self.view.profile_gone(key)?;
+        Ok(())
+    }
+
+    fn endpoint_put(&mut self, iface: &Text, endpoint: ViewEndpoint) -> Result<(), Memory> {
+        self.view.endpoint_put(iface, endpoint)?;
+        Ok(())
+    }
+
+    fn endpoint_gone(&mut self, iface: &Text) -> Result<(), Memory> {
+        self.view.endpoint_gone(iface)?;
+        Ok(())
+    }
+}
+
+impl UseSink for RecordUses {
+    ghost uses = { λ a. a.uses };
+
+    ghost kept = { λ a b h. h };
+
+    fn use_on(&mut self, name: SetName, set: &SetUse) -> Result<(), Memory> {
+        self.uses.insert(&name, set.clone()?)?;
+        Ok(())
+    }
+
+    fn use_off(&mut self, name: SetName) -> Result<(), Memory> {
+        self.uses.remove(&name);
+        Ok(())
+    }
+}
+
+/// The sets of a view.
+#[derive(Drop)]
+pub struct RecordSets {
+    alloc: Global,
+    pub sets: SetMap<MemberSet>,
+}
+
+impl RecordSets {
+    pub fn new(alloc: Global) -> Self
+        ensures { result.sets ≡ map.empty }
+    {
+        RecordSets {
+            alloc,
+            sets: SetMap::new(alloc),
+        }
+    }
+}
+
+impl SetSink for RecordSets {
+    ghost sets = { λ a. a.sets };
+
+    fn set_on(&mut self, name: SetName) -> Result<(), Memory> {
+        self.sets.insert(&name, MemberSet::new(self.alloc))?;
+        Ok(())
+    }
+
+    fn set_off(&mut self, name: SetName) -> Result<(), Memory> {
+        self.sets.remove(&name);
+        Ok(())
+    }
+
+    #[tactic(auto, using(fx_base::proofs::AtKey::insert_removed_bytes))]
+    fn member_on(&mut self, name: SetName, member: Member) -> Result<(), Memory> {
+        if let Some(mut members) = self.sets.remove(&name) {
+            members.insert(member)?;
+            self.sets.insert(&name, members)?;
+        }
+        Ok(())
+    }
+
+    #[tactic(auto, using(fx_base::proofs::AtKey::insert_removed_bytes))]
+    fn member_off(&mut self, name: SetName, member: Member) -> Result<(), Memory> {
+        if let Some(mut members) = self.sets.remove(&name) {
+            members.remove(member);
+            self.sets.insert(&name, members)?;
+        }
         Ok(())
     }
 }

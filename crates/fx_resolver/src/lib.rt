@@ -15,5 +15,3 @@ mod policies;
 mod resolver;
 mod rows;
 mod state;
-#[cfg(test)]
-mod tests;

@@ -3,7 +3,6 @@ ghost use Rattle.std.specs.Prelude.{◌≡◌, IfOk, OnOk, IsSome, IsTrue, Some}
 ghost use Rattle.std.specs.Option.{option_copied};
 ghost use Rattle.std.specs.FinMap as map;
 ghost use Rattle.fx_base.specs.Set as set;
-ghost use Rattle.fx_model.specs.Views.{namespace_of, item_name};
 ghost use Rattle.fx_resolver.specs.Indexes.{has_key};
 ghost use Rattle.fx_resolver.specs.Lists.{item_lists, no_lists, row_of, row_in};
 ghost use Rattle.fx_resolver.specs.Resolved.{HaveOwnInterfaces};
@@ -12,7 +11,7 @@ ghost use Rattle.fx_resolver.specs.Rows.{IsToldBut, rows_by, with_row, without_r
 use crate::known::KnownEndpoint;
 use crate::lists::ItemLists;
 use fx_base::{Memory, Text, TextMap, same};
-use fx_model::{ItemKey, ItemMap, ViewEndpoint, ViewSink, tiers_in_order};
+use fx_model::{ItemKey, ItemMap, ViewEndpoint, ViewSink, item_name, namespace_of, tiers_in_order};
 use std::alloc::Global;
 
 /// The lists of all items, and what the sink was told of endpoints, by their interfaces.
@@ -30,24 +29,6 @@ impl Rows {
             lists: ItemMap::new(alloc),
             told: TextMap::new(alloc),
         }
-    }
-}
-
-fn namespace_of(alloc: Global, key: &ItemKey) -> Result<Text, Memory>
-    ensures { IfOk result (λ ns. ns ≡ namespace_of key.now) }
-{
-    match key {
-        ItemKey::Endpoint { ns, .. } => Ok(ns.clone()?),
-        ItemKey::NetSet { ns: Some(ns), .. } => Ok(ns.clone()?),
-        ItemKey::NetSet { ns: None, .. } => Ok(Text::from_vec(Vec::new(alloc))),
-    }
-}
-
-fn item_name(key: &ItemKey) -> Result<Text, Memory>
-    ensures { IfOk result (λ name. name ≡ item_name key.now) }
-{
-    match key {
-        ItemKey::Endpoint { name, .. } | ItemKey::NetSet { name, .. } => Ok(name.clone()?),
     }
 }
 

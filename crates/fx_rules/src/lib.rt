@@ -16,5 +16,3 @@ mod parts;
 mod ports;
 mod reasons;
 mod rule;
-#[cfg(test)]
-mod tests;

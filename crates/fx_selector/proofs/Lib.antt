@@ -27,3 +27,4 @@ pub mod Sound
 pub mod Spelled
 pub mod OneFault
 pub mod Literals
+pub mod FormedTrees

@@ -6,6 +6,7 @@ pub mod Truth
 pub mod Asked
 pub mod Language
 pub mod Canonical
+pub mod Formed
 pub mod Places
 pub mod Reading
 pub mod Reader

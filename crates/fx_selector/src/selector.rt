@@ -92,6 +92,7 @@ impl Selector {
     pub fn rewrite_namespace(&self, alloc: Global) -> Result<Selector, Memory>
         requires { height self.now ≤ 139 }
         ensures tree { IfOk result (λ selector. selector ≡ namespace_tree self.now) }
+        ensures selector { IfOk result IsSelector }
         ensures shallow { IfOk result (λ selector. height selector ≤ height self.now + 1) }
     {
         let node = rewriting::rewrite(alloc, b"pcns.", b"projectcalico.org/namespace", &self.node)?;
@@ -102,6 +103,7 @@ impl Selector {
     pub fn rewrite_service_account(&self, alloc: Global) -> Result<Selector, Memory>
         requires { height self.now ≤ 139 }
         ensures tree { IfOk result (λ selector. selector ≡ service_account_tree self.now) }
+        ensures selector { IfOk result IsSelector }
         ensures shallow { IfOk result (λ selector. height selector ≤ height self.now + 1) }
     {
         let name = b"projectcalico.org/serviceaccount";
@@ -112,7 +114,8 @@ impl Selector {
     /// The And of the parts in their order; one part is itself, and none says `all()`.
     pub fn and(alloc: Global, parts: Vec<Selector>) -> Result<Selector, Memory>
         requires { All (λ t. height t ≤ 139) parts.items }
-        ensures { IfOk result (λ selector. selector ≡ and_of parts.items) }
+        ensures tree { IfOk result (λ selector. selector ≡ and_of parts.items) }
+        ensures selector { IfOk result IsSelector }
     {
         let nodes = nodes_of(alloc, parts)?;
         if nodes.is_empty() {
@@ -127,7 +130,8 @@ impl Selector {
     pub fn equal(alloc: Global, key: &[u8], value: &[u8]) -> Result<Selector, Memory>
         requires key { IsKey key.now }
         requires value { IsString value.now }
-        ensures { IfOk result (λ selector. selector ≡ equal key.now value.now) }
+        ensures tree { IfOk result (λ selector. selector ≡ equal key.now value.now) }
+        ensures selector { IfOk result IsSelector }
     {
         let test = Test::Equal(Text::new(alloc, value)?);
         Ok(Selector {
@@ -139,8 +143,9 @@ impl Selector {
     pub fn one_of(alloc: Global, key: &[u8], values: &[Text], not: bool) -> Result<Selector, Memory>
         requires key { IsKey key.now }
         requires values { AreStrings values.now }
-        ensures { IfOk result (λ selector. selector
+        ensures tree { IfOk result (λ selector. selector
             ≡ (if not then outside key.now (set_of values.now) else within key.now (set_of values.now))) }
+        ensures selector { IfOk result IsSelector }
     {
         let set = ascending(Vec::from_clones(alloc, values)?);
         Ok(Selector {
@@ -151,7 +156,8 @@ impl Selector {
     /// `has(key)`, or `!has(key)`.
     pub fn has_key(alloc: Global, key: &[u8], not: bool) -> Result<Selector, Memory>
         requires { IsKey key.now }
-        ensures { IfOk result (λ selector. selector ≡ (if not then negated (has key.now) else has key.now)) }
+        ensures tree { IfOk result (λ selector. selector ≡ (if not then negated (has key.now) else has key.now)) }
+        ensures selector { IfOk result IsSelector }
     {
         let node = Node::Label(Text::new(alloc, key)?, Test::Present);
         if not {

@@ -10,7 +10,7 @@ use Rattle.fx_names.specs.declared.claim.Claim.{Claim}
 use Rattle.fx_names.specs.declared.prefix.Prefix.{Prefix}
 use Rattle.fx_model.specs.declared.ids.ItemKey.{ItemKey}
 use Rattle.fx_model.specs.declared.resources.Endpoint.{Endpoint}
-use Rattle.fx_model.specs.Claims.{profile_claims, interface_claims, endpoint_claims}
+use Rattle.fx_model.specs.Claims.{profile_chains, interface_claims, endpoint_claims}
 
 abbrev chain_claim : Digest → Prefix → List ℕ → List ℕ → Claim
 chain_claim dg p suffix holder = record { name = Chain (chain_name_of dg p suffix); holder = holder }
@@ -24,5 +24,5 @@ two_chains dg p q s t h k w old mid new first second suffix copy holder =
 pub both_pushed : (old mid new xs ys all : List Claim) → mid ≡ old ++ xs → new ≡ mid ++ ys → xs ++ ys ≡ all → new ≡ old ++ all
 both_pushed old mid new xs ys all p q e = q ∙ ap (λ l. l ++ ys) p ∙ append_assoc old xs ys ∙ ap (λ l. old ++ l) e
 
-pub local_claims : (dg : Digest) (node : List ℕ) (k : ItemKey) (e : Endpoint) → true ≡ bytes_eq e.node node → interface_claims dg k e ++ flat_map (profile_claims dg) e.profiles ≡ endpoint_claims dg node k e
-local_claims dg node k e h = ap (λ b. if b then interface_claims dg k e ++ flat_map (profile_claims dg) e.profiles else []) h
+pub local_claims : (dg : Digest) (node : List ℕ) (k : ItemKey) (e : Endpoint) → true ≡ bytes_eq e.node node → interface_claims dg k e ++ flat_map (profile_chains dg) e.profiles ≡ endpoint_claims dg node k e
+local_claims dg node k e h = ap (λ b. if b then interface_claims dg k e ++ flat_map (profile_chains dg) e.profiles else []) h

@@ -1,12 +1,15 @@
 //! What resources claim.
-ghost use Rattle.std.specs.Prelude.{◌≡◌, [], ◌∷◌, ◌++◌, IfOk, OnOk, codes};
+ghost use Rattle.std.specs.Prelude.{◌≡◌, [], ◌∷◌, ◌++◌, map, IfOk, OnOk, codes};
 ghost use Rattle.std.specs.List.{flat_map};
 ghost use Rattle.fx_base.specs.declared.kernel_name.KernelName.TheVariants.{Chain};
 ghost use Rattle.fx_names.specs.Names.{chain_name_of};
-ghost use Rattle.fx_model.specs.Claims.{item_text, profile_claims, policy_claims, interface_claims, endpoint_claims, claims_of, claims_at};
+ghost use Rattle.fx_model.specs.Claims.{item_text, profile_chains, policy_chains, profile_claims, policy_claims, set_claim, interface_claims, endpoint_claims, claims_of, claims_at};
+ghost use Rattle.fx_model.specs.Sets.{rules_uses};
 
-use fx_base::{KernelName, Memory, Seq, Text};
-use fx_model::{Endpoint, Item, ItemKey, Key, PolicyId, Resources};
+use fx_base::{KernelName, Memory, Seq, SetKind, Text};
+use fx_model::{
+    Endpoint, Item, ItemKey, Key, Policy, PolicyId, Profile, Resources, Rule, SetUse, push_both,
+};
 use fx_names::{Claim, DigestFunction, DigestRule, Namer, Prefix};
 use std::alloc::Global;
 
@@ -25,10 +28,12 @@ pub fn claims_of<R: DigestRule, F: DigestFunction<R> + Drop>(
         (Key::Item(key), Item::Endpoint(endpoint)) => {
             push_endpoint(alloc, node, key, endpoint, namer, &mut claims)?;
         }
-        (Key::Profile { name }, Item::Profile(_)) => {
-            push_profile(alloc, name, namer, &mut claims)?;
+        (Key::Profile { name }, Item::Profile(profile)) => {
+            push_profile(alloc, name, profile, namer, &mut claims)?;
         }
-        (Key::Policy(id), Item::Policy(_)) => push_policy(alloc, id, namer, &mut claims)?,
+        (Key::Policy(id), Item::Policy(policy)) => {
+            push_policy(alloc, id, policy, namer, &mut claims)?;
+        }
         _ => {}
     }
     Ok(claims)
@@ -45,24 +50,42 @@ pub fn claims_at<R: DigestRule, F: DigestFunction<R> + Drop>(
 {
     let mut claims = Vec::new(alloc);
     match key {
-        Key::Item(key) => {
-            if let Some(endpoint) = resources.endpoints.get(key) {
-                push_endpoint(alloc, &resources.node, key, endpoint, namer, &mut claims)?;
-            }
-        }
+        Key::Item(key) => push_item(alloc, resources, key, namer, &mut claims)?,
         Key::Profile { name } => {
-            if resources.profiles.contains_key(name) {
-                push_profile(alloc, name, namer, &mut claims)?;
+            if let Some(profile) = resources.profiles.get(name) {
+                push_profile(alloc, name, profile, namer, &mut claims)?;
             }
         }
         Key::Tier { .. } => {}
         Key::Policy(id) => {
-            if resources.policies.get(id).is_some() {
-                push_policy(alloc, id, namer, &mut claims)?;
+            if let Some(policy) = resources.policies.get(id) {
+                push_policy(alloc, id, policy, namer, &mut claims)?;
             }
         }
     }
     Ok(claims)
+}
+
+// What the item at a key claims; a network set claims nothing.
+fn push_item<R: DigestRule, F: DigestFunction<R> + Drop>(
+    alloc: Global,
+    resources: &Resources,
+    key: &ItemKey,
+    namer: &Namer<R, F>,
+    claims: &mut Vec<Claim>,
+) -> Result<(), Memory>
+    ensures { OnOk result (claims.new.items
+        ≡ claims.old.items ++ claims_at R.digest_of resources.now (Key.Item key.now)) }
+{
+    match key {
+        ItemKey::Endpoint { .. } => {
+            if let Some(endpoint) = resources.endpoints.get(key) {
+                push_endpoint(alloc, &resources.node, key, endpoint, namer, claims)?;
+            }
+        }
+        ItemKey::NetSet { .. } => {}
+    }
+    Ok(())
 }
 
 // An endpoint of another node claims nothing.
@@ -78,7 +101,7 @@ fn push_endpoint<R: DigestRule, F: DigestFunction<R> + Drop>(
 {
     if endpoint.node == *node {
         push_interface(alloc, key, endpoint, namer, claims)?;
-        push_profiles(alloc, &endpoint.profiles, namer, claims)?;
+        push_listed(alloc, &endpoint.profiles, namer, claims)?;
     }
     Ok(())
 }
@@ -99,16 +122,16 @@ fn push_interface<R: DigestRule, F: DigestFunction<R> + Drop>(
     Ok(())
 }
 
-fn push_profiles<R: DigestRule, F: DigestFunction<R> + Drop>(
+fn push_listed<R: DigestRule, F: DigestFunction<R> + Drop>(
     alloc: Global,
     names: &Seq<Text>,
     namer: &Namer<R, F>,
     claims: &mut Vec<Claim>,
 ) -> Result<(), Memory>
-    ensures { OnOk result (claims.new.items ≡ claims.old.items ++ flat_map (profile_claims R.digest_of) names.now) }
+    ensures { OnOk result (claims.new.items ≡ claims.old.items ++ flat_map (profile_chains R.digest_of) names.now) }
 {
     for name in names.as_slice() {
-        push_profile(alloc, name, namer, claims)?;
+        push_profile_chains(alloc, name, namer, claims)?;
     }
     Ok(())
 }
@@ -116,10 +139,23 @@ fn push_profiles<R: DigestRule, F: DigestFunction<R> + Drop>(
 fn push_profile<R: DigestRule, F: DigestFunction<R> + Drop>(
     alloc: Global,
     name: &Text,
+    profile: &Profile,
     namer: &Namer<R, F>,
     claims: &mut Vec<Claim>,
 ) -> Result<(), Memory>
-    ensures { OnOk result (claims.new.items ≡ claims.old.items ++ profile_claims R.digest_of name.now) }
+    ensures { OnOk result (claims.new.items ≡ claims.old.items ++ profile_claims R.digest_of name.now profile.now) }
+{
+    push_profile_chains(alloc, name, namer, claims)?;
+    push_sets(alloc, &profile.ingress, &profile.egress, namer, claims)
+}
+
+fn push_profile_chains<R: DigestRule, F: DigestFunction<R> + Drop>(
+    alloc: Global,
+    name: &Text,
+    namer: &Namer<R, F>,
+    claims: &mut Vec<Claim>,
+) -> Result<(), Memory>
+    ensures { OnOk result (claims.new.items ≡ claims.old.items ++ profile_chains R.digest_of name.now) }
 {
     let holder = profile_holder(alloc, name)?;
     let suffix = name.bytes();
@@ -131,10 +167,23 @@ fn push_profile<R: DigestRule, F: DigestFunction<R> + Drop>(
 fn push_policy<R: DigestRule, F: DigestFunction<R> + Drop>(
     alloc: Global,
     id: &PolicyId,
+    policy: &Policy,
     namer: &Namer<R, F>,
     claims: &mut Vec<Claim>,
 ) -> Result<(), Memory>
-    ensures { OnOk result (claims.new.items ≡ claims.old.items ++ policy_claims R.digest_of id.now) }
+    ensures { OnOk result (claims.new.items ≡ claims.old.items ++ policy_claims R.digest_of id.now policy.now) }
+{
+    push_policy_chains(alloc, id, namer, claims)?;
+    push_sets(alloc, &policy.ingress, &policy.egress, namer, claims)
+}
+
+fn push_policy_chains<R: DigestRule, F: DigestFunction<R> + Drop>(
+    alloc: Global,
+    id: &PolicyId,
+    namer: &Namer<R, F>,
+    claims: &mut Vec<Claim>,
+) -> Result<(), Memory>
+    ensures { OnOk result (claims.new.items ≡ claims.old.items ++ policy_chains R.digest_of id.now) }
 {
     let text = id.text(alloc)?;
     let holder = policy_holder(alloc, &text)?;
@@ -142,6 +191,45 @@ fn push_policy<R: DigestRule, F: DigestFunction<R> + Drop>(
     push_claim(Prefix::PolicyIn, suffix, holder.clone()?, namer, claims)?;
     push_claim(Prefix::PolicyOut, suffix, holder, namer, claims)?;
     Ok(())
+}
+
+// The sets of the rules, of packets to the endpoint first.
+fn push_sets<R: DigestRule, F: DigestFunction<R> + Drop>(
+    alloc: Global,
+    ingress: &Seq<Rule>,
+    egress: &Seq<Rule>,
+    namer: &Namer<R, F>,
+    claims: &mut Vec<Claim>,
+) -> Result<(), Memory>
+    ensures { OnOk result (claims.new.items
+        ≡ claims.old.items ++ map (set_claim R.digest_of) (rules_uses ingress.now ++ rules_uses egress.now)) }
+{
+    let mut uses = Vec::new(alloc);
+    push_both(alloc, ingress, egress, &mut uses)?;
+    for set in uses {
+        claims.push(set_claim(alloc, &set, namer)?)?;
+    }
+    Ok(())
+}
+
+// `set s TEXT`, or `set n TEXT`
+fn set_claim<R: DigestRule, F: DigestFunction<R> + Drop>(
+    alloc: Global,
+    set: &SetUse,
+    namer: &Namer<R, F>,
+) -> Result<Claim, Memory>
+    ensures { IfOk result (λ claim. claim ≡ set_claim R.digest_of set.now) }
+{
+    let head = match set.kind {
+        SetKind::Nets => b"set s ",
+        SetKind::Ports => b"set n ",
+    };
+    let mut holder = Vec::from_slice(alloc, head)?;
+    holder.extend_from_slice(set.text.bytes())?;
+    Ok(Claim {
+        name: KernelName::Set(set.name(namer)),
+        holder: Text::from_vec(holder),
+    })
 }
 
 // A claim on a chain.

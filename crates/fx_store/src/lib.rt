@@ -9,5 +9,3 @@ mod checking;
 mod claims;
 mod fault;
 mod store;
-#[cfg(test)]
-mod tests;

@@ -13,7 +13,7 @@ use crate::checking::check_claims;
 use crate::claims::{claims_at, claims_of};
 use crate::fault::CheckFault;
 use fx_base::{Memory, Text};
-use fx_model::{Endpoint, Item, Key, Policy, Profile, Resources, Tier, Update};
+use fx_model::{Endpoint, Item, ItemKey, Key, NetSet, Policy, Profile, Resources, Tier, Update};
 use fx_names::{DigestFunction, DigestRule, Namer, Registry};
 use std::alloc::Global;
 
@@ -32,6 +32,7 @@ pub enum Found<'a> {
     Profile(&'a Profile),
     Tier(&'a Tier),
     Policy(&'a Policy),
+    NetSet(&'a NetSet),
 }
 
 impl Store {
@@ -57,10 +58,19 @@ impl Store {
         ensures { option_map item_found result ≡ item_at self.now.resources key.now }
     {
         match key {
-            Key::Item(key) => self.resources.endpoints.get(key).map(Found::Endpoint),
+            Key::Item(key) => self.item(key),
             Key::Profile { name } => self.resources.profiles.get(name).map(Found::Profile),
             Key::Tier { name } => self.resources.tiers.get(name).map(Found::Tier),
             Key::Policy(id) => self.resources.policies.get(id).map(Found::Policy),
+        }
+    }
+
+    fn item(&self, key: &ItemKey) -> Option<Found<'_>>
+        ensures { option_map item_found result ≡ item_at self.now.resources (Key.Item key.now) }
+    {
+        match key {
+            ItemKey::Endpoint { .. } => self.resources.endpoints.get(key).map(Found::Endpoint),
+            ItemKey::NetSet { .. } => self.resources.net_sets.get(key).map(Found::NetSet),
         }
     }
 

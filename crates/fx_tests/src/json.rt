@@ -1,5 +1,7 @@
+use fx_base::Text;
 use fx_json::{ReadFault, read_delete, read_packet, read_resource};
-use fx_model::{Item, Policy, Update};
+use fx_model::{Item, Policy, Side, Update};
+use fx_selector::Selector;
 use serde_json::Value;
 use std::alloc::Global;
 use std::test::Fail;
@@ -14,22 +16,25 @@ fn answered(alloc: Global, answer: &Result<Update, ReadFault>) -> Result<String,
 
 const PROFILE: &str =
     r#"{"apiVersion":"projectcalico.org/v3","kind":"Profile","metadata":{"name":"p"},"spec":{
-"ingress":[{"action":"Deny","protocol":"tcp","notProtocol":17,"source":{"nets":["10.1.2.3/8","::"],"ports":[80,"1:9"]}}],
+"ingress":[{"action":"Deny","protocol":"tcp","notProtocol":17,"source":{"nets":["10.1.2.3/8","::"],"ports":[80,"1:9","dns"]}}],
 "egress":[{"action":"Log","protocol":1,"icmp":{"type":8},"destination":{"notNets":["::","1.2.3.4"]}}],"labelsToApply":{"a":"b"}}}"#;
 
 const READ_PROFILE: &str =
     "Put { key: Profile { name: Text { held: [112] } }, item: Profile(Profile { labels: Labels { alloc: Global, held: {[97]: Text { held: [98] }} }, \
 ingress: Seq { held: [Rule { action: Deny, never: false, protocol: Some(Proto(6)), not_protocol: Some(Proto(17)), icmp: None, not_icmp: None, \
-source: Side { nets: Seq { held: [Net { addr: Ipv4(167772160), len: 8 }] }, not_nets: Seq { held: [] }, \
-ports: Seq { held: [PortRange { low: 80, high: 80 }, PortRange { low: 1, high: 9 }] }, not_ports: Seq { held: [] } }, \
-destination: Side { nets: Seq { held: [] }, not_nets: Seq { held: [] }, ports: Seq { held: [] }, not_ports: Seq { held: [] } } }] }, \
+source: Side { nets: Seq { held: [Net { addr: Ipv4(167772160), len: 8 }] }, not_nets: Seq { held: [] }, selector: None, not_selector: None, \
+ports: Seq { held: [Number(PortRange { low: 80, high: 80 }), Number(PortRange { low: 1, high: 9 }), Named(Text { held: [100, 110, 115] })] }, \
+not_ports: Seq { held: [] } }, \
+destination: Side { nets: Seq { held: [] }, not_nets: Seq { held: [] }, selector: None, not_selector: None, ports: Seq { held: [] }, not_ports: Seq { held: [] } } }] }, \
 egress: Seq { held: [Rule { action: Log, never: false, protocol: Some(Proto(1)), not_protocol: None, icmp: Some(Icmp { kind: 8, code: None }), not_icmp: None, \
-source: Side { nets: Seq { held: [] }, not_nets: Seq { held: [] }, ports: Seq { held: [] }, not_ports: Seq { held: [] } }, \
-destination: Side { nets: Seq { held: [] }, not_nets: Seq { held: [Net { addr: Ipv4(16909060), len: 32 }] }, ports: Seq { held: [] }, not_ports: Seq { held: [] } } }] } }) }";
+source: Side { nets: Seq { held: [] }, not_nets: Seq { held: [] }, selector: None, not_selector: None, ports: Seq { held: [] }, not_ports: Seq { held: [] } }, \
+destination: Side { nets: Seq { held: [] }, not_nets: Seq { held: [Net { addr: Ipv4(16909060), len: 32 }] }, selector: None, not_selector: None, \
+ports: Seq { held: [] }, not_ports: Seq { held: [] } } }] } }) }";
 
 const ENDPOINT: &str =
     r#"{"apiVersion":"projectcalico.org/v3","kind":"WorkloadEndpoint","metadata":{"name":"w","namespace":"a"},"spec":{
-"node":"n","interfaceName":"cali","ipNetworks":["10.0.0.1"],"profiles":["p","q"],"ports":[{"name":"b","port":80}]}}"#;
+"node":"n","interfaceName":"cali","ipNetworks":["10.0.0.1","fd00::1/128","10.0.0.2/32"],"profiles":["p","q"],
+"ports":[{"name":"b","port":80},{"name":"c","protocol":"UDP","port":53}]}}"#;
 
 // The bytes of `projectcalico.org/namespace`.
 const READ_ENDPOINT: &str =
@@ -37,7 +42,26 @@ const READ_ENDPOINT: &str =
 item: Endpoint(Endpoint { node: Text { held: [110] }, iface: Text { held: [99, 97, 108, 105] }, \
 labels: Labels { alloc: Global, held: {[112, 114, 111, 106, 101, 99, 116, 99, 97, 108, 105, 99, 111, 46, 111, 114, 103, 47, \
 110, 97, 109, 101, 115, 112, 97, 99, 101]: Text { held: [97] }} }, \
-profiles: Seq { held: [Text { held: [112] }, Text { held: [113] }] } }) }";
+addresses: Seq { held: [Ipv4(167772161), Ipv4(167772162)] }, \
+profiles: Seq { held: [Text { held: [112] }, Text { held: [113] }] }, \
+ports: Seq { held: [EndpointPort { name: Text { held: [98] }, proto: Proto(6), number: 80 }, \
+EndpointPort { name: Text { held: [99] }, proto: Proto(17), number: 53 }] } }) }";
+
+const NET_SET: &str =
+    r#"{"apiVersion":"projectcalico.org/v3","kind":"NetworkSet","metadata":{"name":"s","namespace":"a","labels":{
+"projectcalico.org/namespace":"x"}},"spec":{"nets":["10.0.0.0/8","::"]}}"#;
+
+const READ_NET_SET: &str =
+    "Put { key: Item(NetSet { ns: Some(Text { held: [97] }), name: Text { held: [115] } }), \
+item: NetSet(NetSet { labels: Labels { alloc: Global, held: {[112, 114, 111, 106, 101, 99, 116, 99, 97, 108, 105, 99, 111, 46, \
+111, 114, 103, 47, 110, 97, 109, 101, 115, 112, 97, 99, 101]: Text { held: [97] }} }, \
+nets: Seq { held: [Net { addr: Ipv4(167772160), len: 8 }] } }) }";
+
+const GLOBAL_SET: &str =
+    r#"{"apiVersion":"projectcalico.org/v3","kind":"GlobalNetworkSet","metadata":{"name":"s","namespace":"a","labels":{"a":"b"}}}"#;
+
+const READ_GLOBAL_SET: &str = "Put { key: Item(NetSet { ns: None, name: Text { held: [115] } }), \
+item: NetSet(NetSet { labels: Labels { alloc: Global, held: {[97]: Text { held: [98] }} }, nets: Seq { held: [] } }) }";
 
 const TIER: &str =
     r#"{"apiVersion":"projectcalico.org/v3","kind":"Tier","metadata":{"name":"t"},"spec":{"order":-9223372036854775808,"defaultAction":"Deny"}}"#;
@@ -51,6 +75,8 @@ fn resources_are_read(rt: HostRuntime) -> Result<(), Fail> {
     let rows = [
         (PROFILE, READ_PROFILE),
         (ENDPOINT, READ_ENDPOINT),
+        (NET_SET, READ_NET_SET),
+        (GLOBAL_SET, READ_GLOBAL_SET),
         (TIER, READ_TIER),
     ];
     for (text, want) in rows {
@@ -64,12 +90,25 @@ fn resources_are_read(rt: HostRuntime) -> Result<(), Fail> {
 #[test]
 fn deletes_are_read(rt: HostRuntime) -> Result<(), Fail> {
     let alloc = rt.alloc();
-    let value = Value::from_str(alloc, PROFILE)?;
-    let said = answered(alloc, &read_delete(alloc, &value))?;
-    assert_eq!(rt;
-        said.as_str(),
-        "Delete { key: Profile { name: Text { held: [112] } } }"
-    );
+    let rows = [
+        (
+            PROFILE,
+            "Delete { key: Profile { name: Text { held: [112] } } }",
+        ),
+        (
+            NET_SET,
+            "Delete { key: Item(NetSet { ns: Some(Text { held: [97] }), name: Text { held: [115] } }) }",
+        ),
+        (
+            GLOBAL_SET,
+            "Delete { key: Item(NetSet { ns: None, name: Text { held: [115] } }) }",
+        ),
+    ];
+    for (text, want) in rows {
+        let value = Value::from_str(alloc, text)?;
+        let said = answered(alloc, &read_delete(alloc, &value))?;
+        assert_eq!(rt; said.as_str(), want);
+    }
     Ok(())
 }
 
@@ -83,6 +122,7 @@ fn label<'u>(update: &'u Update, key: &str) -> Option<&'u [u8]> {
     match item {
         Item::Endpoint(endpoint) => endpoint.labels.get(key.as_bytes()),
         Item::Profile(profile) => profile.labels.get(key.as_bytes()),
+        Item::NetSet(net_set) => net_set.labels.get(key.as_bytes()),
         Item::Tier(_) | Item::Policy(_) => None,
     }
 }
@@ -222,6 +262,62 @@ fn policies_select_by_all_their_parts(rt: HostRuntime) -> Result<(), Fail> {
     for row in SELECTED.lines() {
         let (policy, want) = row.split_once(" => ").unwrap_or((row, ""));
         assert!(rt; selects(rt.alloc(), policy, want)?, "{row}");
+    }
+    Ok(())
+}
+
+// A kind, the members of a policy's first source, and the canonical text of the selector that the source has, with that of its
+// `notSelector` behind the word `but`. A dash is none.
+const SIDES: &str =
+    r#"GlobalNetworkPolicy "nets":[],"selector":"","serviceAccounts":{"names":[],"selector":""} => -
+GlobalNetworkPolicy "selector":" " => all()
+GlobalNetworkPolicy "notSelector":"a == 'b'" => - but a == "b"
+GlobalNetworkPolicy "namespaceSelector":"all()" => has(projectcalico.org/namespace)
+GlobalNetworkPolicy "serviceAccounts":{"names":["t","s","t"]} => projectcalico.org/serviceaccount in {"s", "t"}
+GlobalNetworkPolicy "serviceAccounts":{"names":["s"],"selector":"has(a)"},"namespaceSelector":"has(m)","selector":"b != 'c'" => (b != "c" && projectcalico.org/serviceaccount in {"s"} && has(pcsa.a) && has(pcns.m))
+NetworkPolicy "notSelector":"has(a)" => - but has(a)
+NetworkPolicy "selector":"has(a)","namespaceSelector":"" => (has(a) && projectcalico.org/namespace == "n")
+NetworkPolicy "serviceAccounts":{"names":["s"]} => (projectcalico.org/serviceaccount in {"s"} && projectcalico.org/namespace == "n")
+NetworkPolicy "namespaceSelector":"global()" => !has(projectcalico.org/namespace)
+NetworkPolicy "selector":"has(a) && has(b)","namespaceSelector":"m == 'x'" => ((has(a) && has(b)) && pcns.m == "x")
+NetworkPolicy "serviceAccounts":{"names":["s",""]} => refused
+NetworkPolicy "serviceAccounts":{"selector":"a &"} => refused
+NetworkPolicy "selector":1 => refused"#;
+
+fn canonical(alloc: Global, selector: Option<&Selector>) -> Result<Text, Fail> {
+    match selector {
+        Some(selector) => Ok(selector.canonical(alloc)?),
+        None => Ok(Text::new(alloc, b"-")?),
+    }
+}
+
+// Whether the first source asks so.
+fn asks(alloc: Global, side: &Side, want: &str) -> Result<bool, Fail> {
+    let (selector, not_selector) = want.split_once(" but ").unwrap_or((want, "-"));
+    let found = canonical(alloc, side.selector.as_ref())?;
+    let not_found = canonical(alloc, side.not_selector.as_ref())?;
+    Ok(found.bytes() == selector.as_bytes() && not_found.bytes() == not_selector.as_bytes())
+}
+
+fn source_asks(alloc: Global, source: &str, want: &str) -> Result<bool, Fail> {
+    let (kind, members) = source.split_once(' ').unwrap_or((source, ""));
+    let spec = format!(in alloc;
+        "\"ingress\":[{{\"action\":\"Allow\",\"source\":{{{members}}}}}]"
+    )?;
+    let Some(policy) = policy_of(alloc, kind, spec.as_str())? else {
+        return Ok(want == "refused");
+    };
+    match policy.ingress.as_slice().first() {
+        Some(rule) => asks(alloc, &rule.source, want),
+        None => Ok(false),
+    }
+}
+
+#[test]
+fn sides_ask_by_all_their_parts(rt: HostRuntime) -> Result<(), Fail> {
+    for row in SIDES.lines() {
+        let (source, want) = row.split_once(" => ").unwrap_or((row, ""));
+        assert!(rt; source_asks(rt.alloc(), source, want)?, "{row}");
     }
     Ok(())
 }

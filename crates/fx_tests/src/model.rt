@@ -57,7 +57,9 @@ fn web(alloc: Global) -> Result<Endpoint, Memory> {
         node: Text::new(alloc, b"n1")?,
         iface: Text::new(alloc, b"cali1")?,
         labels: labels(alloc, &[(b"c", b"4")])?,
+        addresses: Seq::new(alloc),
         profiles: Seq::from_vec(profiles),
+        ports: Seq::new(alloc),
     })
 }
 

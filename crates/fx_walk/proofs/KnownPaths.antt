@@ -20,8 +20,9 @@ use Rattle.fx_model.specs.declared.packet.Packet.{Packet}
 use Rattle.fx_model.specs.declared.chain.Reason.TheVariants as reason
 use Rattle.fx_model.specs.declared.chain.ChainRule.{ChainRule}
 use Rattle.fx_base.specs.declared.net.Net.{Net}
-use Rattle.fx_base.specs.declared.net.PortRange.{PortRange}
 use Rattle.fx_model.specs.declared.rules.Action.TheVariants.{Allow, Log}
+use Rattle.fx_model.specs.declared.rules.PortSpec.{PortSpec}
+use Rattle.fx_model.specs.declared.rules.PortSpec.TheVariants.{Number}
 use Rattle.fx_model.specs.declared.rules.Rule.{Rule}
 use Rattle.fx_model.specs.declared.rules.Side.{Side}
 use Rattle.fx_model.specs.declared.resources.Endpoint.{Endpoint}
@@ -56,10 +57,10 @@ abbrev endpoint_key : ItemKey
 endpoint_key = key.Endpoint (codes "a") (codes "w1")
 
 abbrev endpoint : Endpoint
-endpoint = record { node = codes "n1"; iface = codes "cali1"; labels = maps.empty; profiles = codes "open" ∷ [] }
+endpoint = record { node = codes "n1"; iface = codes "cali1"; labels = maps.empty; addresses = []; profiles = codes "open" ∷ []; ports = [] }
 
 abbrev any_side : Side
-any_side = record { nets = []; not_nets = []; ports = []; not_ports = [] }
+any_side = record { nets = []; not_nets = []; selector = None; not_selector = None; ports = []; not_ports = [] }
 
 abbrev allow_all : Rule
 allow_all = record { action = Allow; never = false; protocol = None; not_protocol = None; icmp = None; not_icmp = None; source = any_side; destination = any_side }
@@ -68,7 +69,7 @@ abbrev open_profile : Profile
 open_profile = record { labels = maps.empty; ingress = allow_all ∷ []; egress = allow_all ∷ [] }
 
 abbrev node : maps.FinMap (slice_cmp nat_cmp) Profile → Resources
-node profiles = record { node = codes "n1"; in_sync = true; endpoints = maps.insert maps.empty endpoint_key endpoint; profiles = profiles; tiers = maps.empty; policies = maps.empty }
+node profiles = record { node = codes "n1"; in_sync = true; endpoints = maps.insert maps.empty endpoint_key endpoint; net_sets = maps.empty; profiles = profiles; tiers = maps.empty; policies = maps.empty }
 
 one_endpoint : maps.entries (maps.insert (maps.empty {X = Endpoint} {R = cmp-value.it}) endpoint_key endpoint) ≡ (endpoint_key, endpoint) ∷ []
 one_endpoint = maps.entries-insert item_total maps.empty endpoint_key endpoint ∙ ap (maps.put cmp-value.it endpoint_key endpoint) (entries-empty cmp-value.it)
@@ -105,22 +106,22 @@ module _ (dg : Digest) (profiles : maps.FinMap (slice_cmp nat_cmp) Profile) (o :
       ∙ one_entry (codes "cali1") (view_endpoint dg R endpoint_key endpoint)
       ∙ ap (λ (e : ViewEndpoint). (codes "cali1", e) ∷ []) shown_is
 
-  profiles_are : maps.entries (view_of dg R).profiles ≡ (codes "open", view_profile (codes "open") o) ∷ []
+  profiles_are : maps.entries (view_of dg R).profiles ≡ (codes "open", view_profile dg (codes "open") o) ∷ []
   profiles_are =
       ap (λ es. maps.entries (collected {R = slice_cmp nat_cmp} (map (profile_entry dg R) (flat_map (λ x. x.1.profiles) es)))) served
-      ∙ one_entry (codes "open") (view_profile (codes "open") (maps.get profiles (codes "open")))
-      ∙ ap (λ (p : Option Profile). (codes "open", view_profile (codes "open") p) ∷ []) at
+      ∙ one_entry (codes "open") (view_profile dg (codes "open") (maps.get profiles (codes "open")))
+      ∙ ap (λ (p : Option Profile). (codes "open", view_profile dg (codes "open") p) ∷ []) at
 
   abbrev known : List (ChainName × List ChainRule)
   known =
-      profile_chains (codes "open", view_profile (codes "open") o) ++ (endpoint_chains (codes "cali1", shown)
+      profile_chains (codes "open", view_profile dg (codes "open") o) ++ (endpoint_chains (codes "cali1", shown)
       ++ ((root_of Ingress, dispatch_rules Ingress (codes "cali1" ∷ [])) ∷ (root_of Egress, dispatch_rules Egress (codes "cali1" ∷ [])) ∷ (forward, forward_rules) ∷ []))
 
   known_chains : chains_of (view_of dg R) ≡ known
   known_chains =
       ap (λ ps. flat_map policy_chains ps ++ (flat_map profile_chains (maps.entries (view_of dg R).profiles) ++ (flat_map endpoint_chains (maps.entries (view_of dg R).endpoints) ++ dispatch_chains (view_of dg R)))) policies_are
       ∙ ap (λ fs. flat_map profile_chains fs ++ (flat_map endpoint_chains (maps.entries (view_of dg R).endpoints) ++ dispatch_chains (view_of dg R))) profiles_are
-      ∙ ap (λ (es : List (List ℕ × ViewEndpoint)). profile_chains (codes "open", view_profile (codes "open") o) ++ (flat_map endpoint_chains es
+      ∙ ap (λ (es : List (List ℕ × ViewEndpoint)). profile_chains (codes "open", view_profile dg (codes "open") o) ++ (flat_map endpoint_chains es
       ++ ((root_of Ingress, dispatch_rules Ingress (map (λ e. e.0) es)) ∷ (root_of Egress, dispatch_rules Egress (map (λ e. e.0) es)) ∷ (forward, forward_rules) ∷ []))) endpoints_are
 
   abbrev look : ChainName → List ChainRule
@@ -182,8 +183,8 @@ middle = record { addr = record { 0 = 0xac100000 }; len = 12; short = lit≤ tt;
 abbrev kept_out : Net
 kept_out = record { addr = record { 0 = 0x0a010000 }; len = 16; short = lit≤ tt; no_host_bits = refl }
 
-abbrev web : List PortRange
-web = record { low = 80; high = 90; ascending = lit≤ tt } ∷ record { low = 443; high = 443; ascending = lit≤ tt } ∷ []
+abbrev web : List PortSpec
+web = Number (record { low = 80; high = 90; ascending = lit≤ tt }) ∷ Number (record { low = 443; high = 443; ascending = lit≤ tt }) ∷ []
 
 -- to log TCP, and to allow what comes from two nets, though not from a third one, to the ports of the web
 abbrev web_profile : Profile
@@ -198,8 +199,8 @@ web_profile = record {
         not_protocol = None;
         icmp = None;
         not_icmp = None;
-        source = record { nets = inner ∷ middle ∷ []; not_nets = kept_out ∷ []; ports = []; not_ports = [] };
-        destination = record { nets = []; not_nets = []; ports = web; not_ports = [] };
+        source = record any_side { nets = inner ∷ middle ∷ []; not_nets = kept_out ∷ [] };
+        destination = record any_side { ports = web };
       } ∷ [];
 }
 

@@ -11,6 +11,11 @@ pub mod Families
 pub mod Sides
 pub mod FirstPackets
 pub mod TierLists
+pub mod SetLookups
+pub mod Parted
+pub mod OneUse
+pub mod KnownSets
+pub mod SetTruth
 pub mod WantedTiers
 pub mod Wanted
 pub mod Agree

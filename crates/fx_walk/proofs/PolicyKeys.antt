@@ -1,6 +1,6 @@
 -- Policies with one key are one, where no claims clash and no namespace has a `/`.
-use Rattle.std.proofs.Common.{◌≡◌, ℕ, ◌<◌, true, false, not, ◌&&◌, List, ◌∷◌, ◌++◌, Some, refl, sym, ap, ◌∙◌}
-use Rattle.std.specs.Prelude.{codes, ◌==◌}
+use Rattle.std.proofs.Common.{◌≡◌, true, false, not, ◌&&◌, ◌++◌, Some, refl, sym, ap, ◌∙◌}
+use Rattle.std.specs.Prelude.{codes}
 use Rattle.std.proofs.lemmas.Bool.{not-false}
 use Rattle.std.proofs.lemmas.List.{append_cancel_left}
 use Rattle.std.specs.Str.{bytes_eq}
@@ -21,14 +21,7 @@ use Rattle.fx_model.specs.Claims.{IsClashFree}
 use Rattle.fx_model.specs.PolicyIdTexts.{policy_id_text}
 use Rattle.fx_model.specs.Views.{policy_key}
 use Rattle.fx_laws.proofs.ClaimsOfKeys.{policy_ingress_claim, policy_ingress_claimed}
-use Rattle.fx_walk.proofs.Interfaces.{parted}
-
--- texts that begin with two bytes
-unlike : {P : Type 0} (m n : ℕ) → (m == n) ≡ false → (n == n) ≡ true → (x y : List ℕ) → m ∷ x ≡ n ∷ y → P
-unlike m n differ same x y e =
-    let first : m ≡ n = cc in
-    let wrong : false ≡ true = sym differ ∙ ap (λ k. k == n) first ∙ same in
-    cc
+use Rattle.fx_walk.proofs.Parted.{parted, unlike}
 
 -- a policy's id is told by its text
 same_id : (a b : PolicyId) → is_formed_policy_id a ≡ true → is_formed_policy_id b ≡ true → policy_id_text a ≡ policy_id_text b → a ≡ b
@@ -37,13 +30,13 @@ same_id (Global a) (Namespaced ms m) g h e = unlike 103 110 refl refl _ _ e
 same_id (Global a) (Kube ms m) g h e = unlike 103 107 refl refl _ _ e
 same_id (Namespaced ns n) (Global b) g h e = unlike 110 103 refl refl _ _ e
 same_id (Namespaced ns n) (Namespaced ms m) g h e =
-    let p = parted ns ms n m g h (append_cancel_left (codes "np/") (ns ++ (codes "/" ++ n)) (ms ++ (codes "/" ++ m)) e) in
+    let p = parted 47 refl ns ms n m g h (append_cancel_left (codes "np/") (ns ++ (codes "/" ++ n)) (ms ++ (codes "/" ++ m)) e) in
     λ i. Namespaced (p.0 i) (p.1 i)
 same_id (Namespaced ns n) (Kube ms m) g h e = unlike 110 107 refl refl _ _ e
 same_id (Kube ns n) (Global b) g h e = unlike 107 103 refl refl _ _ e
 same_id (Kube ns n) (Namespaced ms m) g h e = unlike 107 110 refl refl _ _ e
 same_id (Kube ns n) (Kube ms m) g h e =
-    let p = parted ns ms n m g h (append_cancel_left (codes "knp/") (ns ++ (codes "/" ++ n)) (ms ++ (codes "/" ++ m)) e) in
+    let p = parted 47 refl ns ms n m g h (append_cancel_left (codes "knp/") (ns ++ (codes "/" ++ n)) (ms ++ (codes "/" ++ m)) e) in
     λ i. Kube (p.0 i) (p.1 i)
 
 -- policies with one key have one chain, so one claims it

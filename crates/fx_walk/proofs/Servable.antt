@@ -1,4 +1,5 @@
--- Of resources that can be served, each served endpoint has its own interface and each of their profiles its own key.
+-- Of resources that can be served, each served endpoint has its own interface, each of their profiles its own key, and each set its
+-- own members.
 use Rattle.std.proofs.Common.{◌≡◌, ℕ, Bool, true, List, [], ◌∷◌, Some, sym, ap, ◌∙◌}
 use Rattle.std.specs.List.{list_all, AllByRecursion}
 use Rattle.std.specs.Cmp.Lexicographic.{nat_list_cmp_total}
@@ -20,6 +21,7 @@ use Rattle.fx_model.specs.Policy.{is_workload}
 use Rattle.fx_model.specs.Formed.{implies, is_formed_endpoint_entry, is_formed_profile, is_formed_policy, is_formed_policy_id, is_formed_policy_entry, are_formed, has_workload_interface, have_workload_interfaces}
 use Rattle.fx_walk.specs.Serving.{ServedEndpointsAreApart}
 use Rattle.fx_walk.proofs.Interfaces.{same_key, one_interface}
+use Rattle.fx_walk.proofs.KnownSets.{sets_known}
 use Rattle.fx_walk.proofs.PolicyKeys.{policies_apart}
 
 each : {A : Type 0} (p : A → Bool) (xs : List A) → list_all p xs ≡ true → AllByRecursion (λ x. p x ≡ true) xs
@@ -50,9 +52,12 @@ served_apart dg R servable = record {
   on_workloads = λ k e at s. local_workload R servable.on_workloads k e at (both_pass R.in_sync (is_local R e) s).1;
   apart = λ k l e f at there s t same.
       let entries = endpoints_formed R servable.formed in
-      same_key k l e f (entry_passes is_formed_endpoint_entry R entries k e at) (entry_passes is_formed_endpoint_entry R entries l f there)
-      (one_interface dg R servable.clash_free k l e f at there (both_pass R.in_sync (is_local R e) s).1 (both_pass R.in_sync (is_local R f) t).1 same);
+      let first = entry_passes is_formed_endpoint_entry R entries k e at in
+      let second = entry_passes is_formed_endpoint_entry R entries l f there in
+      same_key k l e f first second
+      (one_interface dg R servable.clash_free k l e f first second at there (both_pass R.in_sync (is_local R e) s).1 (both_pass R.in_sync (is_local R f) t).1 same);
   policies = λ id p at. (policy_formed R servable.formed id p at).1;
   policies_apart = λ a b p q at there. policies_apart dg R servable.clash_free a b p q at there (policy_formed R servable.formed a p at).0 (policy_formed R servable.formed b q there).0;
   keys_apart = keys_apart dg R servable.clash_free;
+  members = sets_known dg R servable.clash_free (rules_formed R servable.formed) (λ id p at. (policy_formed R servable.formed id p at).1);
 }

@@ -3,19 +3,23 @@ use Rattle.std.proofs.Common.{◌≡◌, ℕ, suc, Bool, true, false, not, ◌&&
 use Rattle.std.specs.Prelude.{T, filter}
 use Rattle.fx_base.proofs.Found.{entries_found}
 use Rattle.fx_base.proofs.AtKey.{get_empty}
-use Rattle.fx_base.proofs.ExtendedKeys.{at_extended}
+use Rattle.fx_base.proofs.ExtendedKeys.{among_cases, at_extended}
 use Rattle.std.specs.List.{AllByRecursion, list_any, list_all, flat_map}
 use Rattle.std.specs.Str.{bytes_eq}
-use Rattle.std.specs.Ordering.{nat_cmp, eq_by_cmp, is_eq, is_lt}
+use Rattle.std.specs.Ordering.{nat_cmp, is_lt}
 use Rattle.std.specs.Cmp.{tied_itself}
 use Rattle.std.specs.Cmp.Lexicographic.{slice_cmp, nat_list_cmp_total, texts_ties}
 use Rattle.std.specs.FinMap as maps
 use Rattle.std.specs.FinMap.Entries.{below_all}
 use Rattle.std.proofs.lemmas.List.Folds.{list_any-append}
 use Rattle.std.proofs.lemmas.Bool.{or_left, or_right}
-use Rattle.fx_base.specs.Same.{same_bytes, both_pass}
-use Rattle.fx_model.proofs.Orders.{item_total, policy_total}
+use Rattle.fx_base.specs.Same.{same_bytes, same_numbers, both_pass}
+use Rattle.fx_base.specs.declared.net.Proto.{Proto}
+use Rattle.fx_selector.specs.Tree.{Tree}
+use Rattle.fx_model.proofs.Orders.{item_total}
+use Rattle.fx_laws.proofs.Removing.{both}
 use Rattle.fx_laws.proofs.TiersClosed.{activates}
+use Rattle.fx_laws.proofs.Uses.{all-first, all-second, uses-policies, uses-profiles}
 use Rattle.fx_model.specs.contracts.ids.ItemKeyOrd.TheImpl.{cmp-value}
 use Rattle.fx_model.specs.declared.ids.ItemKey.{ItemKey}
 use Rattle.fx_model.specs.declared.ids.PolicyId.{PolicyId}
@@ -23,12 +27,9 @@ use Rattle.fx_model.specs.declared.policy.Policy.{Policy}
 use Rattle.fx_model.specs.declared.packet.Packet.{Packet}
 use Rattle.fx_model.specs.declared.chain.Reason.{Reason}
 use Rattle.fx_model.specs.declared.chain.Reason.TheVariants as reason
-use Rattle.fx_base.specs.declared.net.PortRange.{PortRange}
-use Rattle.fx_model.specs.declared.chain.End.{End}
 use Rattle.fx_model.specs.declared.chain.End.TheVariants.{Source, Dest}
+use Rattle.fx_model.specs.declared.rules.PortSpec.{PortSpec}
 use Rattle.fx_model.specs.declared.rules.Rule.{Rule}
-use Rattle.fx_model.specs.declared.rules.Side.{Side}
-use Rattle.fx_model.specs.declared.view_rule.ViewPort.TheVariants.{Range}
 use Rattle.fx_model.specs.declared.resources.Endpoint.{Endpoint}
 use Rattle.fx_model.specs.declared.resources.Profile.{Profile}
 use Rattle.fx_model.specs.declared.resources.Resources.{Resources}
@@ -37,16 +38,19 @@ use Rattle.fx_model.specs.declared.view.ViewPolicy.{ViewPolicy}
 use Rattle.fx_model.specs.declared.view.ViewProfile.{ViewProfile}
 use Rattle.fx_model.specs.Directions.{Direction, Ingress, Egress}
 use Rattle.fx_model.specs.Resources.{is_served, served_endpoints}
-use Rattle.fx_model.specs.Criteria.{address_at, port_at, proto_is, proto_is_not, lies_in, lies_in_given, holds_port, icmp_is, icmp_is_not}
-use Rattle.fx_model.specs.Formed.{implies, is_given, has_port_protocol, has_icmp_protocol, lists_ports, lists_view_ports, passes, is_formed_rule, is_formed_policy, is_formed_profile_rule, is_formed_profile, is_formed_view_rule, is_formed_view_profile_rule}
+use Rattle.fx_model.specs.Criteria.{proto_is, proto_is_not, icmp_is, icmp_is_not}
+use Rattle.fx_model.specs.Formed.{implies, is_given, has_port_protocol, has_icmp_protocol, lists_ports, lists_view_ports, passes, has_its_protocol, is_formed_side, is_formed_rule, is_formed_policy, is_formed_profile_rule, is_formed_profile, is_formed_view_rule, is_formed_view_profile_rule}
 use Rattle.fx_model.specs.Tables.{policy_side, profile_side}
 use Rattle.fx_names.specs.Digests.{Digest}
-use Rattle.fx_model.specs.Views.{view_of, view_side, view_rule, profile_key, is_active_profile, view_policy, view_profile, policy_entry, profile_entry, view_tiers, view_endpoint, endpoint_entry, active_profiles}
+use Rattle.fx_model.specs.Sets.{ports_protocol, side_uses, rule_uses, rules_uses, policy_uses}
+use Rattle.fx_model.specs.Views.{view_of, view_port, view_side, view_rule, uses_if_there, uses_of_profile, profile_key, is_active_profile, view_policy, view_profile, policy_entry, profile_entry, view_tiers, view_endpoint, endpoint_entry, active_profiles}
 use Rattle.fx_model.specs.Active.{applies, is_active, active_policies}
-use Rattle.fx_model.specs.Policy.{some_port, some_port_given, side_matches, rule_matches, There, met_rules, there_or_missing, listed_profile, tiers_verdict, profiles_verdict, tiers_for, endpoint_verdict, with_iface, endpoint_at, verdict_at, side_verdict, both_sides, packet_verdict}
-use Rattle.fx_model.specs.ViewPolicy.{some_view_port, some_view_port_given, view_side_matches, view_rule_matches, HasFormedRules, met_view_rules, listed_of, view_tier, view_listed, view_endpoint_verdict, view_verdict_at, view_verdict}
+use Rattle.fx_model.specs.Policy.{side_matches, rule_matches, There, met_rules, rules_of, there_or_missing, listed_profile, tiers_verdict, profiles_verdict, tiers_for, endpoint_verdict, with_iface, endpoint_at, verdict_at, side_verdict, both_sides, packet_verdict}
+use Rattle.fx_model.specs.ViewPolicy.{view_side_matches, view_rule_matches, HasFormedRules, met_view_rules, listed_of, view_tier, view_listed, view_endpoint_verdict, view_verdict_at, view_verdict}
 use Rattle.fx_walk.specs.Serving.{IsServedApart}
 use Rattle.fx_walk.proofs.Lookups.{is, last, is_itself, is_same, get-collected, first, second}
+use Rattle.fx_walk.proofs.KnownSets.{IsKnown, HasPortsIfGiven, ports_allowed, plain_rules, active_stand}
+use Rattle.fx_walk.proofs.SetTruth.{side_same}
 use Rattle.fx_walk.proofs.WantedTiers.{tiers_same}
 
 abbrev is_among : List ℕ → List (List ℕ) → Bool
@@ -59,43 +63,48 @@ AllThere m es = AllByRecursion (λ e. maps.get m e.0 ≡ Some e.1) es
 -- ---- the rules of the view are formed where those of the resources are
 
 module _ (dg : Digest) (R : Resources) where
-  given_ranges : (ps : List PortRange) → is_given (map Range ps) ≡ is_given ps
-  given_ranges [] = refl
-  given_ranges (p ∷ ps) = refl
+  given_ports : (p : Option Proto) (t : Option Tree) (ps : List PortSpec) → is_given (map (view_port dg p t) ps) ≡ is_given ps
+  given_ports p t [] = refl
+  given_ports p t (x ∷ ps) = refl
 
-  lists_same : (r : Rule) → lists_view_ports (view_rule r) ≡ lists_ports r
+  lists_same : (r : Rule) → lists_view_ports (view_rule dg r) ≡ lists_ports r
   lists_same r =
-      ap (λ b. (b || is_given (map Range r.source.not_ports)) || (is_given (map Range r.destination.ports) || is_given (map Range r.destination.not_ports))) (given_ranges r.source.ports)
-      ∙ ap (λ b. (is_given r.source.ports || b) || (is_given (map Range r.destination.ports) || is_given (map Range r.destination.not_ports))) (given_ranges r.source.not_ports)
-      ∙ ap (λ b. (is_given r.source.ports || is_given r.source.not_ports) || (b || is_given (map Range r.destination.not_ports))) (given_ranges r.destination.ports)
-      ∙ ap (λ b. (is_given r.source.ports || is_given r.source.not_ports) || (is_given r.destination.ports || b)) (given_ranges r.destination.not_ports)
+      let given = given_ports r.protocol in
+      λ i. (given r.source.selector r.source.ports i || given r.source.selector r.source.not_ports i) || (given r.destination.selector r.destination.ports i || given r.destination.selector r.destination.not_ports i)
 
-  formed_same : (r : Rule) → is_formed_view_rule (view_rule r) ≡ is_formed_rule r
+  formed_same : (r : Rule) → is_formed_view_rule (view_rule dg r) ≡ has_its_protocol r
   formed_same r = ap (λ b. implies b (has_port_protocol r.protocol) && implies (is_some r.icmp || is_some r.not_icmp) (has_icmp_protocol r.protocol)) (lists_same r)
 
-  all_formed : (rs : List Rule) → list_all is_formed_view_rule (map view_rule rs) ≡ list_all is_formed_rule rs
-  all_formed [] = refl
-  all_formed (r ∷ rs) =
-      ap (λ b. b && list_all is_formed_view_rule (map view_rule rs)) (formed_same r) ∙ ap (λ b. is_formed_rule r && b) (all_formed rs)
+  rule_formed : (r : Rule) → is_formed_rule r ≡ true → is_formed_view_rule (view_rule dg r) ≡ true
+  rule_formed r h = formed_same r ∙ (both_pass (has_its_protocol r) (is_formed_side r.source && is_formed_side r.destination) h).0
 
-  all_profile_formed : (rs : List Rule) → list_all is_formed_view_profile_rule (map view_rule rs) ≡ list_all is_formed_profile_rule rs
-  all_profile_formed [] = refl
-  all_profile_formed (r ∷ rs) =
-      ap (λ b. (b && not (passes r.action)) && list_all is_formed_view_profile_rule (map view_rule rs)) (formed_same r) ∙ ap (λ b. is_formed_profile_rule r && b) (all_profile_formed rs)
+  all_formed : (rs : List Rule) → list_all is_formed_rule rs ≡ true → list_all is_formed_view_rule (map (view_rule dg) rs) ≡ true
+  all_formed [] h = refl
+  all_formed (r ∷ rs) h =
+      let b = both_pass (is_formed_rule r) (list_all is_formed_rule rs) h in
+      both (is_formed_view_rule (view_rule dg r)) (list_all is_formed_view_rule (map (view_rule dg) rs)) (rule_formed r b.0) (all_formed rs b.1)
 
-  policy_formed : (id : PolicyId) (p : Policy) → is_formed_policy p ≡ true → (d : Direction) → list_all is_formed_view_rule (policy_side d (view_policy id p)) ≡ true
-  policy_formed id p h Ingress = all_formed p.ingress ∙ (both_pass (list_all is_formed_rule p.ingress) (list_all is_formed_rule p.egress) h).0
-  policy_formed id p h Egress = all_formed p.egress ∙ (both_pass (list_all is_formed_rule p.ingress) (list_all is_formed_rule p.egress) h).1
+  all_profile_formed : (rs : List Rule) → list_all is_formed_profile_rule rs ≡ true → list_all is_formed_view_profile_rule (map (view_rule dg) rs) ≡ true
+  all_profile_formed [] h = refl
+  all_profile_formed (r ∷ rs) h =
+      let b = both_pass (is_formed_profile_rule r) (list_all is_formed_profile_rule rs) h in
+      let c = both_pass (is_formed_rule r) (not (passes r.action)) b.0 in
+      both (is_formed_view_profile_rule (view_rule dg r)) (list_all is_formed_view_profile_rule (map (view_rule dg) rs))
+      (both (is_formed_view_rule (view_rule dg r)) (not (passes r.action)) (rule_formed r c.0) c.1) (all_profile_formed rs b.1)
+
+  policy_formed : (id : PolicyId) (p : Policy) → is_formed_policy p ≡ true → (d : Direction) → list_all is_formed_view_rule (policy_side d (view_policy dg id p)) ≡ true
+  policy_formed id p h Ingress = all_formed p.ingress (both_pass (list_all is_formed_rule p.ingress) (list_all is_formed_rule p.egress) h).0
+  policy_formed id p h Egress = all_formed p.egress (both_pass (list_all is_formed_rule p.ingress) (list_all is_formed_rule p.egress) h).1
 
   -- each side of the profile has formed rules
   abbrev HasFormedSides : ViewProfile → Type 0
   HasFormedSides p = (d : Direction) → list_all is_formed_view_profile_rule (profile_side d p) ≡ true
 
-  profile_formed : (name : List ℕ) (o : Option Profile) → ((p : Profile) → o ≡ Some p → is_formed_profile p ≡ true) → HasFormedSides (view_profile name o)
+  profile_formed : (name : List ℕ) (o : Option Profile) → ((p : Profile) → o ≡ Some p → is_formed_profile p ≡ true) → HasFormedSides (view_profile dg name o)
   profile_formed name None h Ingress = refl
   profile_formed name None h Egress = refl
-  profile_formed name (Some p) h Ingress = all_profile_formed p.ingress ∙ (both_pass (list_all is_formed_profile_rule p.ingress) (list_all is_formed_profile_rule p.egress) (h p refl)).0
-  profile_formed name (Some p) h Egress = all_profile_formed p.egress ∙ (both_pass (list_all is_formed_profile_rule p.ingress) (list_all is_formed_profile_rule p.egress) (h p refl)).1
+  profile_formed name (Some p) h Ingress = all_profile_formed p.ingress (both_pass (list_all is_formed_profile_rule p.ingress) (list_all is_formed_profile_rule p.egress) (h p refl)).0
+  profile_formed name (Some p) h Egress = all_profile_formed p.egress (both_pass (list_all is_formed_profile_rule p.ingress) (list_all is_formed_profile_rule p.egress) (h p refl)).1
 
   entries_formed : IsServedApart dg R → (names : List (List ℕ)) → AllByRecursion (λ e. HasFormedSides e.1) (map (profile_entry dg R) names)
   entries_formed servable [] = tt
@@ -104,14 +113,9 @@ module _ (dg : Digest) (R : Resources) where
   abbrev HasFormedPolicySides : ViewPolicy → Type 0
   HasFormedPolicySides p = (d : Direction) → list_all is_formed_view_rule (policy_side d p) ≡ true
 
-  policies_formed : IsServedApart dg R → (xs : List (PolicyId × Policy)) → AllByRecursion (λ x. maps.get R.policies x.0 ≡ Some x.1) xs → AllByRecursion (λ e. HasFormedPolicySides e.1) (map (policy_entry dg) (filter (λ x. is_active R x.1) xs))
+  policies_formed : IsServedApart dg R → (xs : List (PolicyId × Policy)) → AllByRecursion (λ x. maps.get R.policies x.0 ≡ Some x.1) xs → AllByRecursion (λ e. HasFormedPolicySides e.1) (map (policy_entry dg) xs)
   policies_formed servable [] there = tt
-  policies_formed servable (x ∷ xs) there =
-      let left = filter (λ (y : PolicyId × Policy). is_active R y.1) xs in
-      elim (is_active R x.1) as (λ b. AllByRecursion (λ (e : List ℕ × ViewPolicy). HasFormedPolicySides e.1) (map (policy_entry dg) (cond b (x ∷ left) left))) [
-        | true ↦ (policy_formed x.0 x.1 (servable.policies x.0 x.1 there.0), policies_formed servable xs there.1)
-        | false ↦ policies_formed servable xs there.1
-      ]
+  policies_formed servable (x ∷ xs) there = (policy_formed x.0 x.1 (servable.policies x.0 x.1 there.0), policies_formed servable xs there.1)
 
   nothing_there : {X A : Type 0} (q : List ℕ) (x : X) → maps.get (maps.empty {X = X} {R = slice_cmp nat_cmp}) q ≡ Some x → A
   nothing_there q x e = absurd (none (sym (get_empty q) ∙ e))
@@ -121,44 +125,110 @@ module _ (dg : Digest) (R : Resources) where
 
   pub formed_rules : IsServedApart dg R → HasFormedRules (view_of dg R)
   formed_rules servable = record {
-    policies = λ d key p e. at_extended (λ _ q. HasFormedPolicySides q) maps.empty (map (policy_entry dg) (active_policies R)) (λ q x is. nothing_there q x is) (policies_formed servable (maps.entries R.policies) (entries_found policy_total R.policies)) key p e d;
+    policies = λ d key p e. at_extended (λ _ q. HasFormedPolicySides q) maps.empty (map (policy_entry dg) (active_policies R)) (λ q x is. nothing_there q x is) (policies_formed servable (active_policies R) (active_stand R)) key p e d;
     profiles = λ d key p e. at_extended (λ _ q. HasFormedSides q) maps.empty (map (profile_entry dg R) (active_profiles R)) (λ q x is. nothing_there q x is) (entries_formed servable (active_profiles R)) key p e d;
   }
 
+-- ---- rules whose sets are known
+
+-- a formed rule whose sets have their members
+abbrev IsKnownRule : Digest → Resources → Rule → Type 0
+IsKnownRule dg R r = (is_formed_rule r ≡ true) × AllByRecursion (IsKnown dg R) (rule_uses r)
+
+abbrev AreKnownRules : Digest → Resources → List Rule → Type 0
+AreKnownRules dg R rs = AllByRecursion (IsKnownRule dg R) rs
+
+abbrev IsKnownProfile : Digest → Resources → Option Profile → Type 0
+IsKnownProfile dg R None = Unit {0}
+IsKnownProfile dg R (Some p) = AreKnownRules dg R p.ingress × AreKnownRules dg R p.egress
+
+module _ (dg : Digest) (R : Resources) where
+  known_rules : (rs : List Rule) → list_all is_formed_rule rs ≡ true → AllByRecursion (IsKnown dg R) (rules_uses rs) → AreKnownRules dg R rs
+  known_rules [] formed known = tt
+  known_rules (r ∷ rs) formed known =
+      let b = both_pass (is_formed_rule r) (list_all is_formed_rule rs) formed in
+      ((b.0, all-first (IsKnown dg R) (rule_uses r) (rules_uses rs) known), known_rules rs b.1 (all-second (IsKnown dg R) (rule_uses r) (rules_uses rs) known))
+
+  module _ (servable : IsServedApart dg R) where
+    policy_known : (d : Direction) (x : PolicyId × Policy) → maps.get R.policies x.0 ≡ Some x.1 → AllByRecursion (IsKnown dg R) (policy_uses x.1) → AreKnownRules dg R (rules_of d x.1)
+    policy_known d x at known = by_direction d
+      where
+        formed : (list_all is_formed_rule x.1.ingress ≡ true) × (list_all is_formed_rule x.1.egress ≡ true)
+        formed = both_pass (list_all is_formed_rule x.1.ingress) (list_all is_formed_rule x.1.egress) (servable.policies x.0 x.1 at)
+
+        by_direction : (c : Direction) → AreKnownRules dg R (rules_of c x.1)
+        by_direction Ingress = known_rules x.1.ingress formed.0 (all-first (IsKnown dg R) (rules_uses x.1.ingress) (rules_uses x.1.egress) known)
+        by_direction Egress = known_rules x.1.egress formed.1 (all-second (IsKnown dg R) (rules_uses x.1.ingress) (rules_uses x.1.egress) known)
+
+    policies_known : (d : Direction) (xs : List (PolicyId × Policy)) → AllByRecursion (λ x. maps.get R.policies x.0 ≡ Some x.1) xs → AllByRecursion (λ x. AllByRecursion (IsKnown dg R) (policy_uses x.1)) xs → AllByRecursion (λ x. AreKnownRules dg R (rules_of d x.1)) xs
+    policies_known d [] there known = tt
+    policies_known d (x ∷ xs) there known = (policy_known d x there.0 known.0, policies_known d xs there.1 known.1)
+
+    -- the rules of active policies
+    active_known : (d : Direction) → AllByRecursion (λ x. AreKnownRules dg R (rules_of d x.1)) (active_policies R)
+    active_known d = policies_known d (active_policies R) (active_stand R) (uses-policies (IsKnown dg R) R servable.members)
+
+    profile_known : (name : List ℕ) (o : Option Profile) → maps.get R.profiles name ≡ o → AllByRecursion (IsKnown dg R) (uses_if_there o) → IsKnownProfile dg R o
+    profile_known name None at known = tt
+    profile_known name (Some p) at known =
+        let b = both_pass (list_all is_formed_profile_rule p.ingress) (list_all is_formed_profile_rule p.egress) (servable.rules name p at) in (
+          known_rules p.ingress (plain_rules p.ingress b.0) (all-first (IsKnown dg R) (rules_uses p.ingress) (rules_uses p.egress) known),
+          known_rules p.egress (plain_rules p.egress b.1) (all-second (IsKnown dg R) (rules_uses p.ingress) (rules_uses p.egress) known),
+        )
+
+    of_name : (P : List ℕ → Type 0) (q : List ℕ) (names : List (List ℕ)) → AllByRecursion P names → is_among q names ≡ true → P q
+    of_name P q [] h among = cc
+    of_name P q (n ∷ names) h among = among_cases P q n names among h.0 (λ later. of_name P q names h.1 later)
+
+    -- the rules of a profile that a served endpoint lists
+    listed_known : (name : List ℕ) → is_active_profile R name ≡ true → IsKnownProfile dg R (maps.get R.profiles name)
+    listed_known name active =
+        profile_known name (maps.get R.profiles name) refl
+        (of_name (λ n. AllByRecursion (IsKnown dg R) (uses_of_profile R n)) name (active_profiles R) (uses-profiles (IsKnown dg R) R servable.members) active)
+
+-- what two tests behind the one on the protocol say counts where that one passes
+behind_protocol : (v b n c x y : Bool) → (b ≡ true → x ≡ y) → (v && ((b && n) && (c && x))) ≡ (v && ((b && n) && (c && y)))
+behind_protocol v true n c x y h = ap (λ z. v && (n && (c && z))) (h refl)
+behind_protocol v false n c x y h = refl
+
 module _ (dg : Digest) (R : Resources) (a : Packet) where
+  -- ---- rules
+
+  of_protocol : (p : Option Proto) (ps : List PortSpec) → proto_is p a.proto.0 ≡ true → HasPortsIfGiven p ps → is_given ps ≡ true → a.proto.0 ≡ (ports_protocol p).0
+  of_protocol None ps is has given = let wrong : false ≡ true = has given in cc
+  of_protocol (Some p) ps is has given = same_numbers a.proto.0 p.0 is
+
+  sides_same : (r : Rule) → IsKnownRule dg R r → proto_is r.protocol a.proto.0 ≡ true → (view_side_matches (view_of dg R).sets Source (view_side dg r.protocol r.source) a && view_side_matches (view_of dg R).sets Dest (view_side dg r.protocol r.destination) a) ≡ (side_matches R Source r.source a && side_matches R Dest r.destination a)
+  sides_same r known is =
+      let allowed = ports_allowed r (both_pass (has_its_protocol r) (is_formed_side r.source && is_formed_side r.destination) known.0).0 in
+      let source = side_same dg R a Source r.protocol r.source (of_protocol r.protocol r.source.ports is allowed.source) (of_protocol r.protocol r.source.not_ports is allowed.not_source)
+      (all-first (IsKnown dg R) (side_uses r.protocol r.source) (side_uses r.protocol r.destination) known.1) in
+      let destination = side_same dg R a Dest r.protocol r.destination (of_protocol r.protocol r.destination.ports is allowed.destination) (of_protocol r.protocol r.destination.not_ports is allowed.not_destination)
+      (all-second (IsKnown dg R) (side_uses r.protocol r.source) (side_uses r.protocol r.destination) known.1) in
+      λ i. source i && destination i
+
+  rule_same : (r : Rule) → IsKnownRule dg R r → view_rule_matches (view_of dg R).sets (view_rule dg r) a ≡ rule_matches R r a
+  rule_same r known =
+      behind_protocol (not r.never) (proto_is r.protocol a.proto.0) (proto_is_not r.not_protocol a.proto.0) (icmp_is r.icmp a && icmp_is_not r.not_icmp a)
+      (view_side_matches (view_of dg R).sets Source (view_side dg r.protocol r.source) a && view_side_matches (view_of dg R).sets Dest (view_side dg r.protocol r.destination) a)
+      (side_matches R Source r.source a && side_matches R Dest r.destination a) (sides_same r known)
+
+  met_same : (why : ℕ → Reason) (place : ℕ) (rs : List Rule) → AreKnownRules dg R rs → met_view_rules (view_of dg R).sets a why place (map (view_rule dg) rs) ≡ met_rules R a why place rs
+  met_same why place [] known = refl
+  met_same why place (r ∷ rs) known =
+      let first = rule_same r known.0 in
+      let rest = met_same why (suc place) rs known.1 in
+      λ i. record { why = why place; action = r.action; matches = first i } ∷ rest i
+
   -- ---- profiles
 
-  ports_same : (end : End) (ps : List PortRange) → some_view_port (view_of dg R).sets end (map Range ps) a ≡ some_port ps a.proto.0 (port_at end a)
-  ports_same end [] = refl
-  ports_same end (p ∷ ps) = ap (λ b. holds_port p a.proto.0 (port_at end a) || b) (ports_same end ps)
-
-  given_same : (end : End) (ps : List PortRange) → some_view_port_given (view_of dg R).sets end (map Range ps) a ≡ some_port_given ps a.proto.0 (port_at end a)
-  given_same end [] = refl
-  given_same end (p ∷ ps) = ports_same end (p ∷ ps)
-
-  side_same : (end : End) (s : Side) → view_side_matches (view_of dg R).sets end (view_side s) a ≡ side_matches end s a
-  side_same end s =
-      ap (λ b. (lies_in_given s.nets (address_at end a) && not (lies_in s.not_nets (address_at end a))) && (b && not (some_view_port (view_of dg R).sets end (map Range s.not_ports) a))) (given_same end s.ports)
-      ∙ ap (λ b. (lies_in_given s.nets (address_at end a) && not (lies_in s.not_nets (address_at end a))) && (some_port_given s.ports a.proto.0 (port_at end a) && not b)) (ports_same end s.not_ports)
-
-  rule_same : (r : Rule) → view_rule_matches (view_of dg R).sets (view_rule r) a ≡ rule_matches R r a
-  rule_same r =
-      ap (λ b. not r.never && ((proto_is r.protocol a.proto.0 && proto_is_not r.not_protocol a.proto.0) && ((icmp_is r.icmp a && icmp_is_not r.not_icmp a) && (b && view_side_matches (view_of dg R).sets Dest (view_side r.destination) a)))) (side_same Source r.source)
-      ∙ ap (λ b. not r.never && ((proto_is r.protocol a.proto.0 && proto_is_not r.not_protocol a.proto.0) && ((icmp_is r.icmp a && icmp_is_not r.not_icmp a) && (side_matches Source r.source a && b)))) (side_same Dest r.destination)
-
-  met_same : (why : ℕ → Reason) (place : ℕ) (rs : List Rule) → met_view_rules (view_of dg R).sets a why place (map view_rule rs) ≡ met_rules R a why place rs
-  met_same why place [] = refl
-  met_same why place (r ∷ rs) =
-      ap (λ b. record { why = why place; action = r.action; matches = b } ∷ met_view_rules (view_of dg R).sets a why (suc place) (map view_rule rs)) (rule_same r)
-      ∙ ap (λ l. record { why = why place; action = r.action; matches = rule_matches R r a } ∷ l) (met_same why (suc place) rs)
-
-  listed_same : (d : Direction) (name : List ℕ) (o : Option Profile) → listed_of (view_of dg R).sets d a (Some (view_profile name o)) ≡ there_or_missing R d a name o
-  listed_same d name None = refl
-  listed_same Ingress name (Some p) = ap There (met_same (reason.Profile name) 1 p.ingress)
-  listed_same Egress name (Some p) = ap There (met_same (reason.Profile name) 1 p.egress)
+  listed_same : (d : Direction) (name : List ℕ) (o : Option Profile) → IsKnownProfile dg R o → listed_of (view_of dg R).sets d a (Some (view_profile dg name o)) ≡ there_or_missing R d a name o
+  listed_same d name None known = refl
+  listed_same Ingress name (Some p) known = ap There (met_same (reason.Profile name) 1 p.ingress known.0)
+  listed_same Egress name (Some p) known = ap There (met_same (reason.Profile name) 1 p.egress known.1)
 
   abbrev wanted : List ℕ → ViewProfile
-  wanted name = view_profile name (maps.get R.profiles name)
+  wanted name = view_profile dg name (maps.get R.profiles name)
 
   -- the profiles of these names are active
   abbrev Within : List (List ℕ) → Type 0
@@ -177,7 +247,7 @@ module _ (dg : Digest) (R : Resources) (a : Packet) where
   abbrev key : List ℕ → List ℕ
   key name = profile_key dg name
 
-  module _ (apart : AreApart) where
+  module _ (apart : AreApart) (known : (n : List ℕ) → is_active_profile R n ≡ true → IsKnownProfile dg R (maps.get R.profiles n)) where
     -- names that stand twice have one entry
     profile_kept : (names : List (List ℕ)) (q : List ℕ) → Within names → is_active_profile R q ≡ true → last (map (profile_entry dg R) names) (key q) (Some (wanted q)) ≡ Some (wanted q)
     profile_kept [] q within active = refl
@@ -206,7 +276,7 @@ module _ (dg : Digest) (R : Resources) (a : Packet) where
     active_listed : (d : Direction) (name : List ℕ) → is_active_profile R name ≡ true → view_listed (view_of dg R) d a (key name) ≡ listed_profile R d a name
     active_listed d name h =
         ap (listed_of (view_of dg R).sets d a) (get-collected nat_list_cmp_total (map (profile_entry dg R) (active_profiles R)) (key name) ∙ profile_found (active_profiles R) name None (λ q g. g) h h)
-        ∙ listed_same d name (maps.get R.profiles name)
+        ∙ listed_same d name (maps.get R.profiles name) (known name h)
 
     all_listed : (d : Direction) (names : List (List ℕ)) → Within names → map (view_listed (view_of dg R) d a) (map (profile_key dg) names) ≡ map (listed_profile R d a) names
     all_listed d [] within = refl
@@ -225,10 +295,10 @@ module _ (dg : Digest) (R : Resources) (a : Packet) where
   endpoint_same servable d k e within active = by_direction d
     where
       tiers : (d : Direction) → map (view_tier (view_of dg R) d a) (view_tiers dg R d e) ≡ tiers_for R d e a
-      tiers d = tiers_same dg R servable.policies_apart d e (active d) a met_same
+      tiers d = tiers_same dg R servable.policies_apart d e (active d) a (AreKnownRules dg R) met_same (active_known dg R servable d)
 
       joined : (d : Direction) → tiers_verdict (map (view_tier (view_of dg R) d a) (view_tiers dg R d e)) (profiles_verdict (map (view_listed (view_of dg R) d a) (map (profile_key dg) e.profiles))) ≡ endpoint_verdict R d e a
-      joined d = λ i. tiers_verdict (tiers d i) (profiles_verdict (all_listed servable.keys_apart d e.profiles within i))
+      joined d = λ i. tiers_verdict (tiers d i) (profiles_verdict (all_listed servable.keys_apart (listed_known dg R servable) d e.profiles within i))
 
       by_direction : (c : Direction) → view_endpoint_verdict (view_of dg R) c (view_endpoint dg R k e) a ≡ endpoint_verdict R c e a
       by_direction Ingress = joined Ingress

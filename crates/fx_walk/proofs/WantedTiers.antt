@@ -1,9 +1,8 @@
 -- What the tiers of the wanted view say of a packet is what those of the resources say.
-use Rattle.std.proofs.Common.{◌≡◌, ℕ, Bool, true, false, cond, List, [], ◌∷◌, ◌++◌, map, Option, Some, None, refl, sym, ap, ◌∙◌, subst}
+use Rattle.std.proofs.Common.{◌≡◌, ℕ, Bool, true, false, cond, List, [], ◌∷◌, ◌++◌, map, Option, Some, None, refl, sym, ap, ◌∙◌}
 use Rattle.std.specs.Prelude.{filter}
 use Rattle.std.specs.List.{AllByRecursion, flat_map}
-use Rattle.std.specs.Ordering.{nat_cmp}
-use Rattle.std.specs.Cmp.Lexicographic.{slice_cmp, nat_list_cmp_total}
+use Rattle.std.specs.Cmp.Lexicographic.{nat_list_cmp_total}
 use Rattle.std.specs.FinMap as maps
 use Rattle.fx_base.proofs.Found.{entries_found}
 use Rattle.fx_names.specs.Digests.{Digest}
@@ -19,7 +18,7 @@ use Rattle.fx_model.specs.declared.rules.Rule.{Rule}
 use Rattle.fx_model.specs.declared.view.ViewPolicy.{ViewPolicy}
 use Rattle.fx_model.specs.Directions.{Direction, Ingress, Egress}
 use Rattle.fx_model.specs.Active.{applies, applying, is_active, active_policies}
-use Rattle.fx_model.specs.Policy.{Tier, MetRule, met_rules, rules_of, met_policy, met_tier, tiers_for}
+use Rattle.fx_model.specs.Policy.{MetRule, met_rules, rules_of, met_policy, met_tier, tiers_for}
 use Rattle.fx_model.specs.TierOrder.{place_in, tiers_of}
 use Rattle.fx_model.specs.TierOrder as order
 use Rattle.fx_model.specs.Views.{view_of, view_rule, view_policy, policy_key, policy_entry, key_in_place, view_tiers}
@@ -43,21 +42,21 @@ module _ (dg : Digest) (R : Resources) (apart : (a b : PolicyId) (p q : Policy) 
 
   -- the last of these entries at a policy's key is its own, whatever was there before
   abbrev IsKept : List (PolicyId × Policy) → PolicyId × Policy → Type 0
-  IsKept xs x = (o : Option ViewPolicy) → last (map (policy_entry dg) xs) (key x) o ≡ Some (view_policy x.0 x.1)
+  IsKept xs x = (o : Option ViewPolicy) → last (map (policy_entry dg) xs) (key x) o ≡ Some (view_policy dg x.0 x.1)
 
-  one_policy : (x y : PolicyId × Policy) → Stands x → Stands y → key x ≡ key y → view_policy y.0 y.1 ≡ view_policy x.0 x.1
+  one_policy : (x y : PolicyId × Policy) → Stands x → Stands y → key x ≡ key y → view_policy dg y.0 y.1 ≡ view_policy dg x.0 x.1
   one_policy x y s t same =
       let ids : x.0 ≡ y.0 = apart x.0 y.0 x.1 y.1 s t same in
       let values : Some x.1 ≡ Some y.1 = sym s ∙ ap (maps.get R.policies) ids ∙ t in
       let policies : x.1 ≡ y.1 = cc in
-      λ i. view_policy (sym ids i) (sym policies i)
+      λ i. view_policy dg (sym ids i) (sym policies i)
 
   -- once it is there, it stays
-  stays : (xs : List (PolicyId × Policy)) (x : PolicyId × Policy) → Stands x → AllByRecursion Stands xs → last (map (policy_entry dg) xs) (key x) (Some (view_policy x.0 x.1)) ≡ Some (view_policy x.0 x.1)
+  stays : (xs : List (PolicyId × Policy)) (x : PolicyId × Policy) → Stands x → AllByRecursion Stands xs → last (map (policy_entry dg) xs) (key x) (Some (view_policy dg x.0 x.1)) ≡ Some (view_policy dg x.0 x.1)
   stays [] x s there = refl
   stays (y ∷ ys) x s there = by_test (stays ys x s there.1) (is (key x) (key y)) refl
     where
-      by_test : last (map (policy_entry dg) ys) (key x) (Some (view_policy x.0 x.1)) ≡ Some (view_policy x.0 x.1) → (b : Bool) → is (key x) (key y) ≡ b → last (map (policy_entry dg) ys) (key x) (cond b (Some (view_policy y.0 y.1)) (Some (view_policy x.0 x.1))) ≡ Some (view_policy x.0 x.1)
+      by_test : last (map (policy_entry dg) ys) (key x) (Some (view_policy dg x.0 x.1)) ≡ Some (view_policy dg x.0 x.1) → (b : Bool) → is (key x) (key y) ≡ b → last (map (policy_entry dg) ys) (key x) (cond b (Some (view_policy dg y.0 y.1)) (Some (view_policy dg x.0 x.1))) ≡ Some (view_policy dg x.0 x.1)
       by_test rest true t = ap (λ (v : ViewPolicy). last (map (policy_entry dg) ys) (key x) (Some v)) (one_policy x y s there.0 (is_same (key x) (key y) t)) ∙ rest
       by_test rest false t = rest
 
@@ -79,11 +78,11 @@ module _ (dg : Digest) (R : Resources) (apart : (a b : PolicyId) (p q : Policy) 
     -- one more entry in front changes nothing at the keys behind it
     behind : (x : PolicyId × Policy) (xs ys : List (PolicyId × Policy)) → AllByRecursion (IsKept xs) ys → AllByRecursion (IsKept (x ∷ xs)) ys
     behind x xs [] h = tt
-    behind x xs (y ∷ ys) h = (λ o. h.0 (cond (is (key y) (key x)) (Some (view_policy x.0 x.1)) o), behind x xs ys h.1)
+    behind x xs (y ∷ ys) h = (λ o. h.0 (cond (is (key y) (key x)) (Some (view_policy dg x.0 x.1)) o), behind x xs ys h.1)
 
     first : (x : PolicyId × Policy) (xs : List (PolicyId × Policy)) → Stands x → AllByRecursion Stands xs → IsKept (x ∷ xs) x
     first x xs s there o =
-        ap (λ b. last (map (policy_entry dg) xs) (key x) (cond b (Some (view_policy x.0 x.1)) o)) (is_itself (key x)) ∙ stays xs x s there
+        ap (λ b. last (map (policy_entry dg) xs) (key x) (cond b (Some (view_policy dg x.0 x.1)) o)) (is_itself (key x)) ∙ stays xs x s there
 
     kept : (xs : List (PolicyId × Policy)) → AllByRecursion Stands xs → AllByRecursion (IsKept (active_of xs)) (applying_of xs)
     kept [] there = tt
@@ -95,20 +94,32 @@ module _ (dg : Digest) (R : Resources) (apart : (a b : PolicyId) (p q : Policy) 
         by_tests rest false true p q = behind x (active_of xs) (applying_of xs) rest
         by_tests rest false false p q = rest
 
-    module _ (a : Packet) (rules_same : (why : ℕ → Reason) (place : ℕ) (rs : List Rule) → met_view_rules (view_of dg R).sets a why place (map view_rule rs) ≡ met_rules R a why place rs) where
+    -- what holds of the active policies holds of those that apply
+    among_applying : (P : PolicyId × Policy → Type 0) (xs : List (PolicyId × Policy)) → AllByRecursion P (active_of xs) → AllByRecursion P (applying_of xs)
+    among_applying P [] h = tt
+    among_applying P (x ∷ xs) h = by_tests (among_applying P xs) (applies R d x.1 e) (is_active R x.1) refl refl h
+      where
+        by_tests : (AllByRecursion P (active_of xs) → AllByRecursion P (applying_of xs)) → (b c : Bool) → applies R d x.1 e ≡ b → is_active R x.1 ≡ c → AllByRecursion P (cond c (x ∷ active_of xs) (active_of xs)) → AllByRecursion P (cond b (x ∷ applying_of xs) (applying_of xs))
+        by_tests rest true true p q g = (g.0, rest g.1)
+        by_tests rest true false p q g = let wrong : true ≡ false = sym (active x.1 p) ∙ q in cc
+        by_tests rest false true p q g = rest g.1
+        by_tests rest false false p q g = rest g
+
+    -- rules of which this holds say in the view what they say among the resources
+    module _ (a : Packet) (AreSo : List Rule → Type 0) (rules_same : (why : ℕ → Reason) (place : ℕ) (rs : List Rule) → AreSo rs → met_view_rules (view_of dg R).sets a why place (map (view_rule dg) rs) ≡ met_rules R a why place rs) where
       -- the view's policy at its key says what the policy says
       abbrev SaysSo : PolicyId × Policy → Type 0
       SaysSo x = rules_of_policy (view_of dg R).sets d a (maps.get (view_of dg R).policies (key x)) ≡ met_policy R d a x
 
-      view_rules : (d : Direction) (x : PolicyId × Policy) → rules_of_policy (view_of dg R).sets d a (Some (view_policy x.0 x.1)) ≡ met_policy R d a x
-      view_rules Ingress x = rules_same (reason.Policy x.0) 1 x.1.ingress
-      view_rules Egress x = rules_same (reason.Policy x.0) 1 x.1.egress
+      view_rules : (c : Direction) (x : PolicyId × Policy) → AreSo (rules_of c x.1) → rules_of_policy (view_of dg R).sets c a (Some (view_policy dg x.0 x.1)) ≡ met_policy R c a x
+      view_rules Ingress x so = rules_same (reason.Policy x.0) 1 x.1.ingress so
+      view_rules Egress x so = rules_same (reason.Policy x.0) 1 x.1.egress so
 
-      says : (xs : List (PolicyId × Policy)) → AllByRecursion (IsKept (active_policies R)) xs → AllByRecursion SaysSo xs
-      says [] h = tt
-      says (x ∷ xs) h = (
-        ap (rules_of_policy (view_of dg R).sets d a) (get-collected nat_list_cmp_total (map (policy_entry dg) (active_policies R)) (key x) ∙ h.0 None) ∙ view_rules d x,
-        says xs h.1,
+      says : (xs : List (PolicyId × Policy)) → AllByRecursion (IsKept (active_policies R)) xs → AllByRecursion (λ x. AreSo (rules_of d x.1)) xs → AllByRecursion SaysSo xs
+      says [] h so = tt
+      says (x ∷ xs) h so = (
+        ap (rules_of_policy (view_of dg R).sets d a) (get-collected nat_list_cmp_total (map (policy_entry dg) (active_policies R)) (key x) ∙ h.0 None) ∙ view_rules d x so.0,
+        says xs h.1 so.1,
       )
 
       says_placed : (xs : List (PolicyId × Policy)) → AllByRecursion SaysSo xs → AllByRecursion (λ (y : PolicyPlace × (PolicyId × Policy)). SaysSo y.1) (map in_place xs)
@@ -133,10 +144,10 @@ module _ (dg : Digest) (R : Resources) (apart : (a b : PolicyId) (p q : Policy) 
       keyed (x ∷ xs) = ap (λ (l : List (PolicyPlace × List ℕ)). key_in_place dg R x ∷ l) (keyed xs)
 
       -- the endpoint's tiers in the view say what those of the resources say
-      pub tiers_same : map (view_tier (view_of dg R) d a) (view_tiers dg R d e) ≡ tiers_for R d e a
-      tiers_same =
+      pub tiers_same : AllByRecursion (λ x. AreSo (rules_of d x.1)) (active_policies R) → map (view_tier (view_of dg R) d a) (view_tiers dg R d e) ≡ tiers_for R d e a
+      tiers_same so =
           let xs = applying R d e in
-          let all = says xs (kept (maps.entries R.policies) (entries_found policy_total R.policies)) in
+          let all = says xs (kept (maps.entries R.policies) (entries_found policy_total R.policies)) (among_applying (λ (x : PolicyId × Policy). AreSo (rules_of d x.1)) (maps.entries R.policies) so) in
           let pairs = map in_place xs in
           ap (λ (es : List (PolicyPlace × List ℕ)). map (view_tier (view_of dg R) d a) (map order.view_tier (tiers_of es))) (keyed xs)
           ∙ ap (λ (ts : List (List ℕ × List (List ℕ))). map (view_tier (view_of dg R) d a) (map order.view_tier ts)) (tiers-map key pairs)

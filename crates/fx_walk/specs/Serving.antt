@@ -1,6 +1,7 @@
 -- What holds of resources that can be served: by their claims on the kernel's names, which don't clash, no two served endpoints share
--- an interface and no two of their profiles share a key.
+-- an interface, no two of their profiles share a key, and no two uses share a set.
 use Rattle.std.specs.Prelude.{◌≡◌, ℕ, List, true, Some}
+use Rattle.std.specs.List.{AllByRecursion}
 use Rattle.std.specs.FinMap as maps
 use Rattle.fx_names.specs.Digests.{Digest}
 use Rattle.fx_model.specs.declared.ids.ItemKey.{ItemKey}
@@ -13,16 +14,18 @@ use Rattle.fx_model.specs.Formed.{is_formed_profile, is_formed_policy}
 use Rattle.fx_model.specs.Policy.{is_workload}
 use Rattle.fx_model.specs.Resources.{is_served}
 use Rattle.fx_model.specs.ViewPolicy.{IsServable}
-use Rattle.fx_model.specs.Views.{is_active_profile, profile_key, policy_key}
+use Rattle.fx_model.specs.Sets.{use_name, set_members}
+use Rattle.fx_model.specs.Views.{view_of, wanted_uses, is_active_profile, profile_key, policy_key}
 
 -- served endpoints stand on workloads' interfaces, each on its own; the rules of profiles and policies are formed; the profiles that
--- served endpoints list have each its own key, and so have policies
+-- served endpoints list have each its own key, and so have policies; each set that the wanted rules use has the members of its use
 pub record IsServedApart (dg : Digest) (R : Resources) : Type 0 where
   pub rules : (name : List ℕ) (p : Profile) → maps.get R.profiles name ≡ Some p → is_formed_profile p ≡ true
   pub on_workloads : (k : ItemKey) (e : Endpoint) → maps.get R.endpoints k ≡ Some e → is_served R e ≡ true → is_workload e.iface ≡ true
   pub apart : (k l : ItemKey) (e f : Endpoint) → maps.get R.endpoints k ≡ Some e → maps.get R.endpoints l ≡ Some f → is_served R e ≡ true → is_served R f ≡ true → e.iface ≡ f.iface → k ≡ l
   pub policies : (id : PolicyId) (p : Policy) → maps.get R.policies id ≡ Some p → is_formed_policy p ≡ true
   pub policies_apart : (a b : PolicyId) (p q : Policy) → maps.get R.policies a ≡ Some p → maps.get R.policies b ≡ Some q → policy_key dg a ≡ policy_key dg b → a ≡ b
+  pub members : AllByRecursion (λ u. maps.get (view_of dg R).sets (use_name dg u) ≡ Some (set_members R u)) (wanted_uses R)
   pub keys_apart : (a b : List ℕ) → is_active_profile R a ≡ true → is_active_profile R b ≡ true → profile_key dg a ≡ profile_key dg b → a ≡ b
 
 -- whatever resources have that are read and whose updates are let through, however many endpoints run here

@@ -1,10 +1,14 @@
 //! Which packets a rule's matches hold for, and what MARK makes of a mark.
-ghost use Rattle.std.specs.Prelude.{◌≡◌, ◌&&◌, nat_eq};
+ghost use Rattle.std.specs.Prelude.{◌≡◌, true};
+ghost use Rattle.std.specs.List.{list_any};
+ghost use Rattle.fx_base.specs.Set as set;
 ghost use Rattle.fx_model.specs.Criteria.{address_at, code_is, has_ports, in_net, in_range, in_ranges, is_icmp, is_message, port_at};
 ghost use Rattle.fx_model.specs.Machine.{hold_all, holds, iface_at, marked, member_holds, names_iface, negated, set_holds, state_in};
+ghost use Rattle.fx_model.specs.Shapes.{is_of};
 
-use fx_base::{Ipv4, Net, PortRange, Proto, SetMap, SetName, Text};
+use fx_base::{Ipv4, Net, PortRange, SetKind, SetName, Text};
 use fx_model::{End, Icmp, Match, Member, MemberSet, Packet, State, has_ports};
+use fx_tables::Tables;
 
 fn iface_of(packet: &Packet, end: End) -> &Text
     ensures { result.now ≡ iface_at end packet.now }
@@ -105,43 +109,50 @@ fn is_of_message(icmp: Icmp, packet: &Packet) -> bool
 
 // ---- sets
 
-fn is_address_and_port(packet: &Packet, end: End, addr: Ipv4, proto: Proto, number: u16) -> bool
-    ensures { result ≡ (nat_eq (address_at end packet.now) addr.0 &&
-        (nat_eq packet.now.proto.0 proto.0 && nat_eq (port_at end packet.now) number)) }
+/// Whether a set of nets, none of length 0, has one that contains the packet's address: the net around it of some length.
+fn is_in_nets(members: &MemberSet, packet: &Packet, end: End) -> bool
+    requires { (member : Member) → set.contains members.now member ≡ true → is_of SetKind.Nets member ≡ true }
+    ensures { result ≡ list_any (member_holds end packet.now) (set.items members.now) }
 {
-    address_of(packet, end).0 == addr.0
-        && packet.proto.0 == proto.0
-        && port_of(packet, end) == number
-}
-
-fn is_met_by(packet: &Packet, end: End, member: Member) -> bool
-    ensures { result ≡ member_holds end packet.now member }
-{
-    match member {
-        Member::Net(net) => is_in_net(net, address_of(packet, end)),
-        Member::PortAt {
-            addr,
-            proto,
-            number,
-        } => is_address_and_port(packet, end, addr, proto, number),
+    let address = address_of(packet, end);
+    for len in 1..=32 {
+        if members.contains(Member::Net(Net::around(address, len))) {
+            return true;
+        }
     }
+    false
 }
 
-/// Whether some member of the set holds; a set that isn't there has none.
-fn is_in_set(sets: &SetMap<MemberSet>, packet: &Packet, end: End, name: SetName) -> bool
-    ensures { result ≡ set_holds sets.now end name packet.now }
+/// Whether a set of ports has the one of the packet's address, protocol and port.
+fn is_in_ports(members: &MemberSet, packet: &Packet, end: End) -> bool
+    requires { (member : Member) → set.contains members.now member ≡ true → is_of SetKind.Ports member ≡ true }
+    ensures { result ≡ list_any (member_holds end packet.now) (set.items members.now) }
 {
-    match sets.get(&name) {
+    members.contains(Member::PortAt {
+        addr: address_of(packet, end),
+        proto: packet.proto,
+        number: port_of(packet, end),
+    })
+}
+
+/// Whether some member of the set holds, found by look-ups and not by a walk; a set that isn't there has none.
+fn is_in_set(tables: &Tables, packet: &Packet, end: End, name: SetName) -> bool
+    ensures { result ≡ set_holds tables.now.sets end name packet.now }
+{
+    match tables.set(name) {
         None => false,
-        Some(members) => members.iter().any(|member| is_met_by(packet, end, *member)),
+        Some(members) => match name.kind() {
+            SetKind::Nets => is_in_nets(members, packet, end),
+            SetKind::Ports => is_in_ports(members, packet, end),
+        },
     }
 }
 
 // ---- matches
 
 #[tactic(auto, unfolding(fx_model::specs::Machine::holds))]
-fn holds_for(sets: &SetMap<MemberSet>, packet: &Packet, mark: u32, m: &Match) -> bool
-    ensures { result ≡ holds sets.now packet.now mark m.now }
+fn holds_for(tables: &Tables, packet: &Packet, mark: u32, m: &Match) -> bool
+    ensures { result ≡ holds tables.now.sets packet.now mark m.now }
 {
     match m {
         Match::Proto { proto, not } => with_sign(*not, packet.proto.0 == proto.0),
@@ -153,7 +164,7 @@ fn holds_for(sets: &SetMap<MemberSet>, packet: &Packet, mark: u32, m: &Match) ->
         Match::State {
             related_established,
         } => is_in_state(packet.state, *related_established),
-        Match::Set { end, name, not } => with_sign(*not, is_in_set(sets, packet, *end, *name)),
+        Match::Set { end, name, not } => with_sign(*not, is_in_set(tables, packet, *end, *name)),
         Match::Ports { end, list, not } => {
             has_ports(packet.proto)
                 && with_sign(*not, is_in_ranges(list.as_slice(), port_of(packet, *end)))
@@ -164,10 +175,10 @@ fn holds_for(sets: &SetMap<MemberSet>, packet: &Packet, mark: u32, m: &Match) ->
     }
 }
 
-pub fn all_hold(sets: &SetMap<MemberSet>, packet: &Packet, mark: u32, matches: &[Match]) -> bool
-    ensures { result ≡ hold_all (holds sets.now packet.now) mark matches.now }
+pub fn all_hold(tables: &Tables, packet: &Packet, mark: u32, matches: &[Match]) -> bool
+    ensures { result ≡ hold_all (holds tables.now.sets packet.now) mark matches.now }
 {
-    matches.iter().all(|m| holds_for(sets, packet, mark, m))
+    matches.iter().all(|m| holds_for(tables, packet, mark, m))
 }
 
 pub fn with_mark(mark: u32, value: u32, mask: u32) -> u32

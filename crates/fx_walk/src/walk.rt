@@ -86,7 +86,7 @@ fn walk_rule<'a, N: Notes>(
         hop.chain hop.place rule.entry.now seen.entry.mark
         (N.noted notes.old (reasons_of seen.entry)))) }
 {
-    if all_hold(tables.sets(), packet, seen.mark, rule.matches.as_slice()) {
+    if all_hold(tables, packet, seen.mark, rule.matches.as_slice()) {
         let now = note_match(&hop, rule, seen, notes)?;
         follow(tables, packet, depth, &rule.target, now, notes)
     } else {

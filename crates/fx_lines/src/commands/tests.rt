@@ -1,5 +1,5 @@
 use super::*;
-use fx_model::{Item, Key};
+use fx_model::{Item, ItemKey, Key};
 use std::test::Fail;
 
 // What a line is answered.
@@ -25,10 +25,12 @@ fn answered_update(update: &Update) -> &'static str {
             Item::Endpoint(_) => "endpoint",
             Item::Tier(_) => "tier",
             Item::Policy(_) => "policy",
+            Item::NetSet(_) => "network set",
         },
         Update::Delete { key } => match key {
             Key::Profile { .. } => "no profile",
-            Key::Item(_) => "no endpoint",
+            Key::Item(ItemKey::Endpoint { .. }) => "no endpoint",
+            Key::Item(ItemKey::NetSet { .. }) => "no network set",
             Key::Tier { .. } => "no tier",
             Key::Policy(_) => "no policy",
         },
@@ -82,6 +84,9 @@ null => bad line
 {"delete":{"apiVersion":"projectcalico.org/v3","kind":"Profile","metadata":{"name":"p"}}} => no profile
 {"delete":{"apiVersion":"projectcalico.org/v3","kind":"WorkloadEndpoint","metadata":{"name":"w","namespace":"a"}}} => no endpoint
 {"put":{"apiVersion":"projectcalico.org/v3","kind":"WorkloadEndpoint","metadata":{"name":"w","namespace":"a"},"spec":{"node":"n1","interfaceName":"cali1"}}} => endpoint
+{"put":{"apiVersion":"projectcalico.org/v3","kind":"NetworkSet","metadata":{"name":"s","namespace":"a"}}} => network set
+{"put":{"apiVersion":"projectcalico.org/v3","kind":"NetworkSet","metadata":{"name":"s"}}} => missing field
+{"delete":{"apiVersion":"projectcalico.org/v3","kind":"GlobalNetworkSet","metadata":{"name":"s"}}} => no network set
 {"packet":{"in":"eth0","out":"cali1","src":"10.0.0.1","dst":"10.0.0.2","proto":"udp"}} => a packet"#;
 
 #[test]

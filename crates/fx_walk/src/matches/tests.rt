@@ -1,7 +1,12 @@
 //! Each match over two packets and some sets. What is wanted follows from iptables(8), iptables-extensions(8) and ipset(8).
+ghost use Rattle.std.specs.Prelude.{◌≡◌, true};
+ghost use Rattle.fx_base.specs.SetName.{kind_of};
+ghost use Rattle.fx_model.specs.Shapes.{is_of};
+
 use super::all_hold;
-use fx_base::{Ipv4, Memory, Net, PortRange, Proto, Seq, SetKind, SetMap, SetName, Text};
-use fx_model::{End, Icmp, Match, Member, MemberSet, Packet, State};
+use fx_base::{Ipv4, Memory, Net, PortRange, Proto, Seq, SetKind, SetName, Text};
+use fx_model::{End, Icmp, Match, Member, Packet, State};
+use fx_tables::Tables;
 use std::alloc::Global;
 use std::test::Fail;
 
@@ -25,36 +30,49 @@ fn packet(alloc: Global, proto: u8) -> Result<Packet, Memory> {
     })
 }
 
-fn set_name(kind: SetKind, letter: u8) -> SetName {
-    SetName::new(kind, [letter; 23])
+fn nets() -> SetName
+    ensures { kind_of result ≡ SetKind.Nets }
+{
+    SetName::new(SetKind::Nets, [b'a'; 23])
 }
 
-fn nets() -> SetName {
-    set_name(SetKind::Nets, b'a')
-}
-
-fn ports() -> SetName {
-    set_name(SetKind::Ports, b'a')
+fn ports() -> SetName
+    ensures { kind_of result ≡ SetKind.Ports }
+{
+    SetName::new(SetKind::Ports, [b'a'; 23])
 }
 
 fn missing() -> SetName {
-    set_name(SetKind::Nets, b'b')
+    SetName::new(SetKind::Nets, [b'b'; 23])
 }
 
-/// 10.0.0.0/8 in the one set, and port 443 of TCP at 192.0.2.1 in the other.
-fn sets(alloc: Global) -> Result<SetMap<MemberSet>, Memory> {
-    let mut inner = MemberSet::new(alloc);
-    inner.insert(Member::Net(INNER))?;
-    let mut web = MemberSet::new(alloc);
-    web.insert(Member::PortAt {
-        addr: Ipv4(THERE),
-        proto: Proto(6),
-        number: 443,
-    })?;
-    let mut sets = SetMap::new(alloc);
-    sets.insert(&nets(), inner)?;
-    sets.insert(&ports(), web)?;
-    Ok(sets)
+/// One set, with one member.
+#[tactic(auto, using(fx_tables::proofs::Filled::filled))]
+fn tables(alloc: Global, name: SetName, member: Member) -> Result<Tables, Memory>
+    requires { is_of (kind_of name) member ≡ true }
+{
+    let mut tables = Tables::new(alloc);
+    tables.create_set(name)?;
+    tables.add_member(name, member)?;
+    Ok(tables)
+}
+
+/// 10.0.0.0/8 in a set of nets.
+fn inner(alloc: Global) -> Result<Tables, Memory> {
+    tables(alloc, nets(), Member::Net(INNER))
+}
+
+/// Port 443 of TCP at 192.0.2.1 in a set of ports.
+fn web(alloc: Global) -> Result<Tables, Memory> {
+    tables(
+        alloc,
+        ports(),
+        Member::PortAt {
+            addr: Ipv4(THERE),
+            proto: Proto(6),
+            number: 443,
+        },
+    )
 }
 
 /// What a match asks for.
@@ -65,6 +83,13 @@ enum Asked {
     Set(End, SetName),
     Ports(PortRange, PortRange),
     Icmp(u8, Option<u8>),
+}
+
+fn is_of_ports(asked: Asked) -> bool {
+    match asked {
+        Asked::Set(_, name) => name.kind() == SetKind::Ports,
+        Asked::Proto(_) | Asked::Net(..) | Asked::Ports(..) | Asked::Icmp(..) => false,
+    }
 }
 
 fn match_of(alloc: Global, asked: Asked, not: bool) -> Result<Match, Memory> {
@@ -111,13 +136,44 @@ const WEB: PortRange = PortRange {
     high: 443,
 };
 
+/// A set of each kind in tables of its own, and a packet of TCP and one of ICMP.
+#[derive(Drop)]
+struct Bench {
+    alloc: Global,
+    inner: Tables,
+    web: Tables,
+    tcp: Packet,
+    icmp: Packet,
+}
+
+fn given(alloc: Global) -> Result<Bench, Memory> {
+    Ok(Bench {
+        alloc,
+        inner: inner(alloc)?,
+        web: web(alloc)?,
+        tcp: packet(alloc, 6)?,
+        icmp: packet(alloc, 1)?,
+    })
+}
+
+/// Whether the match, with a `!` or without, holds for the packet of TCP, and for that of ICMP.
+fn holds(bench: &Bench, asked: Asked, not: bool) -> Result<(bool, bool), Memory> {
+    let matches = vec![in bench.alloc; match_of(bench.alloc, asked, not)?]?;
+    let tables = if is_of_ports(asked) {
+        &bench.web
+    } else {
+        &bench.inner
+    };
+    Ok((
+        all_hold(tables, &bench.tcp, 0, matches.as_slice()),
+        all_hold(tables, &bench.icmp, 0, matches.as_slice()),
+    ))
+}
+
 /// Each row, from 0, says what the match, with a `!` or without, says of a TCP packet and of one of ICMP.
 #[test]
 fn matches_hold_or_not(rt: HostRuntime) -> Result<(), Fail> {
-    let alloc = rt.alloc();
-    let sets = sets(alloc)?;
-    let tcp = packet(alloc, 6)?;
-    let icmp = packet(alloc, 1)?;
+    let bench = given(rt.alloc())?;
     let rows = [
         (Asked::Proto(6), false, true, false),
         (Asked::Proto(6), true, false, true),
@@ -137,6 +193,19 @@ fn matches_hold_or_not(rt: HostRuntime) -> Result<(), Fail> {
         (Asked::Icmp(0, None), false, false, false),
         (Asked::Icmp(8, None), true, false, false),
         (Asked::Icmp(8, Some(1)), true, false, true),
+    ];
+    for (number, (asked, not, for_tcp, for_icmp)) in rows.into_iter().enumerate() {
+        let found = holds(&bench, asked, not)?;
+        assert_eq!(rt; found, (for_tcp, for_icmp), "row {number}");
+    }
+    Ok(())
+}
+
+/// The same of sets.
+#[test]
+fn sets_hold_or_not(rt: HostRuntime) -> Result<(), Fail> {
+    let bench = given(rt.alloc())?;
+    let rows = [
         (Asked::Set(End::Source, nets()), false, true, true),
         (Asked::Set(End::Source, nets()), true, false, false),
         (Asked::Set(End::Dest, nets()), false, false, false),
@@ -147,17 +216,8 @@ fn matches_hold_or_not(rt: HostRuntime) -> Result<(), Fail> {
         (Asked::Set(End::Source, missing()), true, true, true),
     ];
     for (number, (asked, not, for_tcp, for_icmp)) in rows.into_iter().enumerate() {
-        let matches = vec![in alloc; match_of(alloc, asked, not)?]?;
-        assert_eq!(rt;
-            all_hold(&sets, &tcp, 0, matches.as_slice()),
-            for_tcp,
-            "TCP in row {number}"
-        );
-        assert_eq!(rt;
-            all_hold(&sets, &icmp, 0, matches.as_slice()),
-            for_icmp,
-            "ICMP in row {number}"
-        );
+        let found = holds(&bench, asked, not)?;
+        assert_eq!(rt; found, (for_tcp, for_icmp), "row {number}");
     }
     Ok(())
 }

@@ -1,7 +1,7 @@
 use Rattle.std.proofs.Common.{◌≡◌}
 use Rattle.std.specs.FinMap as maps
 use Rattle.serde_json.specs.View.{members_view}
-use Rattle.fx_json.specs.Resources.{with_labels}
+use Rattle.fx_json.specs.Labels.{with_labels}
 use Rattle.fx_json.proofs.labels.labels_of.Given as goal
 
 -- the members that are left, beside the labels so far, give all labels

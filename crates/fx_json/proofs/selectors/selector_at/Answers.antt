@@ -1,11 +1,12 @@
 use Rattle.serde_json.specs.View.{view}
 use Rattle.fx_json.specs.Paths.{text_of}
 use Rattle.fx_json.specs.Selectors.{selector_at}
-use Rattle.fx_json.proofs.FormedRules.{answered-if}
-use Rattle.fx_json.proofs.SelectorTexts.{IsShallow, selector_at-shallow}
+use Rattle.fx_json.proofs.Readings.{answered-if, weaker-if}
+use Rattle.fx_json.proofs.SelectorTexts.{IsPart, IsShallow, selector_at-part, part-shallow}
 use Rattle.fx_json.proofs.selectors.selector_at.Goals as goal
 
 pub returns-clause-shallow : goal.returns-clause-shallow
 returns-clause-shallow c =
-    answered-if IsShallow (selector_at (text_of c.args.path.now) c.args.key.now (view c.args.object.now)) c.given_selector.result
-    (selector_at-shallow (text_of c.args.path.now) c.args.key.now (view c.args.object.now)) c.given_selector.ensures
+    let answer = selector_at (text_of c.args.path.now) c.args.key.now (view c.args.object.now) in
+    answered-if IsShallow answer c.given_selector.result
+    (weaker-if IsPart IsShallow answer part-shallow (selector_at-part (text_of c.args.path.now) c.args.key.now (view c.args.object.now))) c.given_selector.ensures

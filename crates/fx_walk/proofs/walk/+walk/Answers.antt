@@ -36,7 +36,7 @@ walk_rule-returns-in_err-now-clause-err g t c =
 
 pub walk_rule-returns-in_ok-now-clause-err : goal.walk_rule-returns-in_ok-now-clause-err
 walk_rule-returns-in_ok-now-clause-err g t c =
-    on_err_then c.follow.result _ _ (λ h. breaks_hit g.N.Notes.note (holds c.args.tables.now.sets c.args.packet.now) _ _ _ _ c.args.rule.now c.args.seen.mark _ _ _ (ap (hold_all (holds c.args.tables.now.sets c.args.packet.now) c.args.seen.mark) (sym c.as_slice.ensures) ∙ ap (λ s. hold_all (holds s c.args.packet.now) c.args.seen.mark c.as_slice.result.now) (sym c.sets.ensures.all) ∙ sym c.all_hold.ensures ∙ c.if-all_hold.true) c.in_ok-now.ensures.mark c.in_ok-now.ensures.ok h) c.follow.ensures.err
+    on_err_then c.follow.result _ _ (λ h. breaks_hit g.N.Notes.note (holds c.args.tables.now.sets c.args.packet.now) _ _ _ _ c.args.rule.now c.args.seen.mark _ _ _ (ap (hold_all (holds c.args.tables.now.sets c.args.packet.now) c.args.seen.mark) (sym c.as_slice.ensures) ∙ sym c.all_hold.ensures ∙ c.if-all_hold.true) c.in_ok-now.ensures.mark c.in_ok-now.ensures.ok h) c.follow.ensures.err
 
 pub walk_rules-returns-in_err-other-clause-err : goal.walk_rules-returns-in_err-other-clause-err
 walk_rules-returns-in_err-other-clause-err g t c =

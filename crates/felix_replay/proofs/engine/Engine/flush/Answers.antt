@@ -7,6 +7,7 @@ use Rattle.fx_model.specs.Views.{view_of}
 use Rattle.fx_laws.proofs.Flushes.{flush-ends}
 use Rattle.felix_replay.specs.Engine.{state_of}
 use Rattle.felix_replay.proofs.SendingLemmas.{on_ok_always}
+use Rattle.fx_laws.proofs.SetKinds.{wanted_sets-of-kinds}
 use Rattle.fx_laws.proofs.ViewClosed.{view_of-closed}
 use Rattle.fx_laws.proofs.FormedLemmas.{is_formed_view-view_of}
 use Rattle.felix_replay.specs.Output.{messages_text, message_count, flush_text}
@@ -17,6 +18,9 @@ use Rattle.felix_replay.proofs.engine.Engine.flush.Goals as goal
 
 pub tables_of-requires-clause-closed : goal.tables_of-requires-clause-closed
 tables_of-requires-clause-closed g c = rw (c.in_ok-wanted.ensures ∙ ap (view_of g.R.DigestRule.digest_of) c.resources.ensures) (view_of-closed g.R.DigestRule.digest_of c.args.self.now.store.resources)
+
+pub tables_of-requires-clause-kinds : goal.tables_of-requires-clause-kinds
+tables_of-requires-clause-kinds g c = rw (c.in_ok-wanted.ensures ∙ ap (view_of g.R.DigestRule.digest_of) c.resources.ensures) (wanted_sets-of-kinds g.R.DigestRule.digest_of c.args.self.now.store.resources)
 
 pub tables_of-requires-clause-formed : goal.tables_of-requires-clause-formed
 tables_of-requires-clause-formed g c = ap is_formed_view (c.in_ok-wanted.ensures ∙ ap (view_of g.R.DigestRule.digest_of) c.resources.ensures) ∙ is_formed_view-view_of g.R.DigestRule.digest_of c.args.self.now.store.resources c.requires.invariant.formed

@@ -9,7 +9,7 @@ use Rattle.fx_base.proofs.net.Net.read.Goals as goal
 
 pub returns-in-Ok-clause-ok : goal.returns-in-Ok-clause-ok
 returns-in-Ok-clause-ok c =
-    (c.if-has_colon.ensures, net_means c.args.text.now c.in-Ok.address c.in-Ok.len _ _ c.of.ensures.address c.of.ensures.length (means_alike (Dotted true 0 3) IsCidr (λ v. v) (λ v. v) cidr_alike c.args.text.now _ c.in-Ok.ensures))
+    (c.if-has_colon.ensures, net_means c.args.text.now c.in-Ok.address c.in-Ok.len _ _ c.around.ensures.address c.around.ensures.length (means_alike (Dotted true 0 3) IsCidr (λ v. v) (λ v. v) cidr_alike c.args.text.now _ c.in-Ok.ensures))
 
 pub returns-in-Err-clause-bad : goal.returns-in-Err-clause-bad
 returns-in-Err-clause-bad c = (c.if-has_colon.ensures, net_leaves c.args.text.now c.in-Err.at (leaves_alike (Dotted true 0 3) IsCidr (λ v. v) (λ v. v) cidr_alike c.args.text.now c.in-Err.at c.in-Err.ensures))

@@ -13,3 +13,6 @@ invariant_of-result-2 c =
     subst IsSelector
     (sym (c.all_of.ensures ∙ (ap (together each) c.in_ok-nodes.ensures.trees ∙ and_of-filled c.args.parts.items filled)))
     (and_selector c.args.parts.items c.in_ok-nodes.ensures.sound c.requires)
+
+pub returns-clause-selector : goal.returns-clause-selector
+returns-clause-selector c = invariant_of-result-2 c

@@ -9,3 +9,6 @@ invariant_of-result c = subst IsSelector (sym c.in_ok-node.ensures) (subst (λ t
 
 pub returns-clause-shallow : goal.returns-clause-shallow
 returns-clause-shallow c = subst (λ t. height t ≤ height c.args.self.now + 1) (sym (c.in_ok-node.ensures ∙ ap namespace_tree c.self.view_is)) (height-rewritten (codes "pcns.") (codes "projectcalico.org/namespace") c.args.self.now)
+
+pub returns-clause-selector : goal.returns-clause-selector
+returns-clause-selector c = invariant_of-result c

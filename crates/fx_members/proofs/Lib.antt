@@ -1,0 +1,12 @@
+pub mod Sorted
+pub mod Keyed
+pub mod PairLemmas
+pub mod CountLemmas
+pub mod TellLemmas
+pub mod TotalLemmas
+pub mod Passed
+pub mod WalkLemmas
+pub mod MemberLemmas
+pub mod NodeLemmas
+pub mod UseLemmas
+pub mod ListLemmas

@@ -1,0 +1,10 @@
+use Rattle.std.proofs.Common.{ap, sym, ◌∙◌}
+use Rattle.fx_base.specs.Set as set
+use Rattle.fx_members.specs.Indexes.{has_key}
+use Rattle.fx_members.proofs.PairLemmas.{in_pairs}
+use Rattle.fx_members.proofs.matches.Matches.items.Goals as goal
+
+pub returns : goal.returns
+returns c = λ item.
+    ap (λ o. has_key o item) c.get.ensures ∙ sym (in_pairs c.self.inside.by_text c.args.text.now item)
+    ∙ ap (λ s. set.contains s (c.args.text.now, item)) c.self.view_is

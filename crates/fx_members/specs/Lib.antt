@@ -1,0 +1,6 @@
+pub mod Inputs
+pub mod UseText
+pub mod Members
+pub mod Indexes
+pub mod Counts
+pub mod Kept

@@ -1,0 +1,13 @@
+pub mod Bags
+pub mod SameUses
+pub mod Texts
+pub mod TellSteps
+pub mod Walking
+pub mod FilledUses
+pub mod Entering
+pub mod ByKeys
+pub mod InputBags
+pub mod ApartUses
+pub mod Scanning
+pub mod Lonely
+pub mod Replacing

@@ -1,0 +1,14 @@
+//! The active policies and profiles as they are rendered, and the sets that their rules use, brought up to date where policies and
+//! profiles change.
+#![tactic(auto)]
+
+pub use apart::fewer_are_apart;
+pub use scanner::RuleScanner;
+
+mod apart;
+mod changes;
+mod counts;
+mod inputs;
+mod scanner;
+mod state;
+mod used;
