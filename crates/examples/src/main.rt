@@ -11,8 +11,15 @@ use std::alloc::Global;
 use std::rt::Files;
 use std::{fs, io};
 
-const EXAMPLES: [&str; 7] = [
-    "first", "packets", "rules", "policies", "sets", "refusals", "delete",
+const EXAMPLES: [&str; 8] = [
+    "first",
+    "packets",
+    "rules",
+    "policies",
+    "sets",
+    "endpoints",
+    "refusals",
+    "delete",
 ];
 
 const MOST_WRITTEN: u32 = 1_048_576;

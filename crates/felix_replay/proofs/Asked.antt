@@ -1,8 +1,6 @@
 -- What the reader of a line answers where it doesn't want memory.
-use Rattle.std.proofs.Common.{◌≡◌, ◌⊎◌, inl, inr, true, false, Result, Err, sym, ap, ◌∙◌}
-use Rattle.fx_json.specs.declared.fault.ReadFault.TheVariants.{Memory}
+use Rattle.std.proofs.Common.{◌≡◌, inl, inr, true, false, Result, Err, sym, ap, ◌∙◌}
 use Rattle.fx_json.specs.declared.refusal.Refusal.{Refusal}
-use Rattle.fx_json.specs.declared.refusal.Refusal.TheVariants.{Read}
 use Rattle.fx_json.specs.Refusals.{Refuses, is_memory}
 
 no_truth : {A : Type 0} → true ≡ false → A

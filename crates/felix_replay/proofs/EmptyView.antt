@@ -15,6 +15,7 @@ use Rattle.fx_model.specs.Views.{empty_view}
 use Rattle.fx_model.specs.contracts.ids.ItemKeyOrd.TheImpl as item_cmp
 use Rattle.fx_model.specs.contracts.ids.PolicyIdOrd.TheImpl as policy_cmp
 use Rattle.fx_names.specs.Digests.{Digest}
+use Rattle.fx_driver.specs.Stepping.{IsDrivable}
 use Rattle.felix_replay.specs.Output.{start}
 
 nothing_there : {A : Type 0} (e : ViewEndpoint) → None ≡ Some e → A
@@ -42,7 +43,10 @@ empty_view-kinds name ms is = no_set ms (sym (get_empty name) ∙ is)
 pub empty_view-formed : is_formed_view empty_view ≡ true
 empty_view-formed = rw (entries-empty (slice_cmp nat_cmp), entries-empty (slice_cmp nat_cmp)) refl
 
--- and so are the resources at the start
+pub empty_view-drivable : IsDrivable empty_view
+empty_view-drivable = record { closed = empty_view-closed; formed = empty_view-formed; kinds = empty_view-kinds }
+
+-- the resources at the start are formed
 pub start-formed : (dg : Digest) (node : List ℕ) → are_formed (start dg node).resources ≡ true
 start-formed dg node = rw (entries-empty item_cmp.cmp-value.it, entries-empty (slice_cmp nat_cmp), entries-empty policy_cmp.cmp-value.it) refl
 

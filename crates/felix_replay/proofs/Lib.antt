@@ -1,5 +1,3 @@
-pub mod Writing
-pub mod SetWriting
 pub mod Runs
 pub mod SendingLemmas
 pub mod Writings
@@ -10,3 +8,4 @@ pub mod Served
 pub mod Policing
 pub mod Checking
 pub mod Asked
+pub mod Driving

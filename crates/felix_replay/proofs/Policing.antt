@@ -1,6 +1,5 @@
 -- What a packet line writes, and that after a flush it is the policy reference's answer.
-use Rattle.std.proofs.Common.{◌≡◌, ℕ, List, [], ◌∷◌, Bool, true, false, Option, None, Some, Result, Ok, Err, refl, sym, ◌∙◌, ap, subst, ◌+◌}
-use Rattle.std.specs.Prelude.{IfOk, if◌then◌else◌, codes}
+use Rattle.std.proofs.Common.{◌≡◌, ℕ, List, [], true, Option, Ok, sym, ◌∙◌, ap, subst}
 use Rattle.std.specs.List.{concat}
 use Rattle.std.specs.FinMap as maps
 use Rattle.fx_model.specs.declared.packet.Packet.{Packet}
@@ -12,7 +11,8 @@ use Rattle.fx_model.specs.declared.view.View.{View}
 use Rattle.fx_model.specs.Machine.{Trace, holds, hops_and_reasons, Decides, Traces}
 use Rattle.fx_model.specs.Policy.{Outcome, packet_verdict}
 use Rattle.fx_model.specs.Ranks.{IsRanked}
-use Rattle.fx_model.specs.Tables.{ChainName, Tables, forward, tables_of}
+use Rattle.fx_model.specs.Tables.{ChainName, Tables, forward}
+use Rattle.fx_model.specs.ViewTables.{tables_of}
 use Rattle.fx_model.specs.ViewPolicy.{IsServable}
 use Rattle.fx_model.specs.Closed.{IsClosedView}
 use Rattle.fx_names.specs.Digests.{Digest}
@@ -40,11 +40,11 @@ use Rattle.felix_replay.proofs.Served.{run_servable}
 pub wanted_closed : (dg : Digest) (R : Resources) → IsClosedView (view_of dg R)
 wanted_closed = view_of-closed
 
-pub rendered_first : (e : Engine) → IsRendered e → maps.contains_key e.tables.chains forward ≡ true
-rendered_first e is = subst (λ (t : Tables). maps.contains_key t.chains forward ≡ true) (sym is.rendered) (first_there e.sent)
+pub rendered_first : (e : Engine) → IsRendered e → maps.contains_key e.driver.tables.chains forward ≡ true
+rendered_first e is = subst (λ (t : Tables). maps.contains_key t.chains forward ≡ true) (sym is.drives.tables) (first_there e.sequencer.sent)
 
-pub rendered_ranked : (e : Engine) → IsRendered e → IsRanked e.tables.chains
-rendered_ranked e is = subst (λ (t : Tables). IsRanked t.chains) (sym is.rendered) (ranked-tables e.sent is.closed)
+pub rendered_ranked : (e : Engine) → IsRendered e → IsRanked e.driver.tables.chains
+rendered_ranked e is = subst (λ (t : Tables). IsRanked t.chains) (sym is.drives.tables) (ranked-tables e.sequencer.sent is.from.closed)
 
 -- where a run ends so, the packet's text is this
 pub run_text : (tables : Tables) (a : Packet) → IsRanked tables.chains → (path : List (ChainName × ℕ)) (v : Verdict) (e i : Option Reason) → Traces tables a [] path v e i
@@ -54,10 +54,10 @@ run_text tables a ranked path v e i run =
     ap (λ (w : Verdict). concat (packet_lines path a.iface_in a.iface_out e i w)) end.0
     ∙ ap (λ (t : Trace). concat (packet_lines t.hops a.iface_in a.iface_out t.reasons.egress t.reasons.ingress (verdict_of (first_walk tables a [])))) end.1
 
-pub rendered_text : (e : Engine) → IsRendered e → (a : Packet) (path : List (ChainName × ℕ)) (v : Verdict) (egress ingress : Option Reason) → Traces e.tables a [] path v egress ingress
-    → concat (packet_lines path a.iface_in a.iface_out egress ingress v) ≡ packet_text (tables_of e.sent) a
+pub rendered_text : (e : Engine) → IsRendered e → (a : Packet) (path : List (ChainName × ℕ)) (v : Verdict) (egress ingress : Option Reason) → Traces e.driver.tables a [] path v egress ingress
+    → concat (packet_lines path a.iface_in a.iface_out egress ingress v) ≡ packet_text (tables_of e.sequencer.sent) a
 rendered_text e is a path v egress ingress run =
-    run_text e.tables a (rendered_ranked e is) path v egress ingress run ∙ ap (λ (t : Tables). packet_text t a) is.rendered
+    run_text e.driver.tables a (rendered_ranked e is) path v egress ingress run ∙ ap (λ (t : Tables). packet_text t a) is.drives.tables
 
 -- ---- the run of a packet
 

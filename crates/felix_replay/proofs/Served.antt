@@ -1,6 +1,6 @@
 -- The resources stay such that they can be served, after any lines.
-use Rattle.std.proofs.Common.{◌≡◌, ℕ, List, [], ◌∷◌, Bool, true, false, Option, None, Some, Result, Ok, Err, refl, sym, subst, ◌+◌}
-use Rattle.std.specs.Prelude.{IfOk, if◌then◌else◌, codes}
+use Rattle.std.proofs.Common.{◌≡◌, ℕ, List, [], ◌∷◌, Option, None, Some, Result, Ok, Err, refl, sym, subst, ◌+◌}
+use Rattle.std.specs.Prelude.{IfOk}
 use Rattle.fx_model.specs.declared.resources.Update.{Update}
 use Rattle.fx_model.specs.Claims.{clash}
 use Rattle.fx_model.specs.ViewPolicy.{IsServable}
@@ -9,15 +9,13 @@ use Rattle.fx_names.specs.Digests.{Digest}
 use Rattle.fx_laws.proofs.ClaimsApart.{clash_free_after, clash_free_none}
 use Rattle.fx_laws.proofs.FormedLemmas.{are_formed-after, have_workload_interfaces-after}
 use Rattle.fx_json.specs.declared.refusal.Refusal.{Refusal}
-use Rattle.fx_json.specs.declared.refusal.Refusal.TheVariants.{Read}
-use Rattle.fx_json.specs.declared.fault.ReadFault.TheVariants.{Unsupported}
 use Rattle.fx_lines.specs.declared.commands.Command.{Command}
 use Rattle.fx_lines.specs.declared.commands.Command.TheVariants as command
 use Rattle.fx_lines.specs.Commands.{command_of}
 use Rattle.fx_lines.specs.Formed.{IsReadCommand}
 use Rattle.fx_lines.proofs.ReadForms.{command_of-read}
 use Rattle.felix_replay.specs.Run.{state_after}
-use Rattle.felix_replay.specs.Output.{State, start, is_second_local, unless_taken, checked, accepted, answer_of, after_answer, next}
+use Rattle.felix_replay.specs.Output.{State, start, unless_taken, checked, accepted, answer_of, after_answer, next}
 use Rattle.felix_replay.proofs.EmptyView.{start-formed, start-on_workloads}
 
 start-servable : (dg : Digest) (node : List ℕ) → IsServable dg (start dg node).resources
@@ -35,15 +33,11 @@ untaken s was u read None is = record {
   on_workloads = have_workload_interfaces-after s.resources was.on_workloads u (read.on_workloads s.resources.node);
 }
 
-updated : (s : State) → IsServable s.digest s.resources → (u : Update) → IsReadCommand (command.Update u) → (b : Bool) → is_second_local s.resources u ≡ b → IsServable s.digest (after_answer s (if b then Err (Read (Unsupported (codes "spec.node"))) else unless_taken (clash s.digest s.resources u) u)).resources
-updated s was u read true is = was
-updated s was u read false is = untaken s was u read (clash s.digest s.resources u) refl
-
 answered : (s : State) → IsServable s.digest s.resources → (said : Result Command Refusal) → IfOk said IsReadCommand → IsServable s.digest (after_answer s (checked s.digest s.resources said)).resources
 answered s was (Ok command.Blank) read = was
 answered s was (Ok command.Tables) read = was
 answered s was (Ok command.Flush) read = was
-answered s was (Ok (command.Update u)) read = updated s was u read (is_second_local s.resources u) refl
+answered s was (Ok (command.Update u)) read = untaken s was u read (clash s.digest s.resources u) refl
 answered s was (Ok (command.Packet a)) read = was
 answered s was (Err r) read = was
 

@@ -2,7 +2,7 @@
 use Rattle.std.specs.Prelude.{ℕ, List, [], ◌∷◌, ◌++◌, None, Result, Ok, Err}
 use Rattle.fx_model.specs.declared.view.View.{View}
 use Rattle.fx_model.specs.Views.{view_of}
-use Rattle.fx_model.specs.Tables.{tables_of}
+use Rattle.fx_model.specs.ViewTables.{tables_of}
 use Rattle.fx_model.specs.Closed.{IsClosedView, AreClosedTables}
 use Rattle.fx_model.specs.Messages.{flush, sent_views}
 use Rattle.fx_json.specs.declared.refusal.Refusal.{Refusal}

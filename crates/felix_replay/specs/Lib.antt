@@ -1,4 +1,3 @@
-pub mod Rendering
 pub mod Words
 pub mod Run
 pub mod PacketRuns
@@ -10,3 +9,4 @@ pub mod Fitting
 pub mod Top
 pub mod Closing
 pub mod Policed
+pub mod Driven

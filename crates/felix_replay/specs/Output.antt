@@ -1,25 +1,19 @@
 -- The output of a replay: what each line writes, and what stands between two lines. The rules that it follows stand in
 -- docs/INPUT.md and docs/OUTPUT.md of this repository.
-use Rattle.std.specs.Prelude.{ℕ, ◌+◌, ◌-◌, ◌^◌, min, List, [], ◌++◌, map, length, Bool, true, false, ◌&&◌, not, Option, Some, None, Result, Ok, Err, codes, if◌then◌else◌}
-use Rattle.std.specs.List.{concat, list_any}
-use Rattle.std.specs.FinMap as maps
-use Rattle.fx_model.specs.contracts.ids.ItemKeyPartialEq.TheImpl as item_eq
-use Rattle.fx_model.specs.declared.ids.Key.TheVariants as key
-use Rattle.fx_model.specs.declared.resources.Item.TheVariants as item
+use Rattle.std.specs.Prelude.{ℕ, ◌+◌, ◌-◌, ◌^◌, min, List, [], ◌++◌, map, length, Bool, true, false, Option, Some, None, Result, Ok, Err}
+use Rattle.std.specs.List.{concat}
 use Rattle.fx_model.specs.declared.resources.Update.{Update}
-use Rattle.fx_model.specs.declared.resources.Update.TheVariants as update
 use Rattle.fx_model.specs.declared.resources.Resources.{Resources}
 use Rattle.fx_model.specs.declared.view.View.{View}
-use Rattle.fx_model.specs.Resources.{after, is_local, empty_resources}
+use Rattle.fx_model.specs.Resources.{after, empty_resources}
 use Rattle.fx_names.specs.Digests.{Digest}
 use Rattle.fx_names.specs.Claims.{Clash}
 use Rattle.fx_model.specs.Claims.{clash}
 use Rattle.fx_model.specs.Views.{view_of, empty_view}
-use Rattle.fx_model.specs.Tables.{tables_of}
+use Rattle.fx_model.specs.ViewTables.{tables_of}
 use Rattle.fx_model.specs.Messages.{Change, flush}
 use Rattle.fx_json.specs.declared.refusal.Refusal.{Refusal}
-use Rattle.fx_json.specs.declared.refusal.Refusal.TheVariants.{Read, Taken}
-use Rattle.fx_json.specs.declared.fault.ReadFault.TheVariants.{Unsupported}
+use Rattle.fx_json.specs.declared.refusal.Refusal.TheVariants.{Taken}
 use Rattle.fx_lines.specs.declared.commands.Command.{Command}
 use Rattle.fx_lines.specs.declared.commands.Command.TheVariants as command
 use Rattle.fx_lines.specs.Lines.{lines_of}
@@ -51,31 +45,13 @@ start dg node = record {
 
 -- ---- what a line says of the resources
 
--- a put of a local endpoint beside another one; one local endpoint can be there
-abbrev pub is_second_local : Resources → Update → Bool
-is_second_local R update.InSync = false
-is_second_local R (update.Put (key.Item k) (item.Endpoint e)) = is_local R e && list_any (λ x. is_local R x.1 && not (item_eq.eq-value.it x.0 k)) (maps.entries R.endpoints)
-is_second_local R (update.Put (key.Item k) (item.Profile p)) = false
-is_second_local R (update.Put (key.Item k) (item.Tier t)) = false
-is_second_local R (update.Put (key.Item k) (item.Policy p)) = false
-is_second_local R (update.Put (key.Item k) (item.NetSet s)) = false
-is_second_local R (update.Put (key.Profile name) x) = false
-is_second_local R (update.Put (key.Tier name) x) = false
-is_second_local R (update.Put (key.Policy id) x) = false
-is_second_local R (update.Delete k) = false
-
 -- an update whose claims clash is refused, with the first clash
 abbrev pub unless_taken : Option Clash → Update → Result Command Refusal
 unless_taken None u = Ok (command.Update u)
 unless_taken (Some c) u = Err (Taken c.name c.holder)
 
--- the same where the refusal is known, if there is one
-abbrev pub unless_refused : Option Refusal → Update → Result Command Refusal
-unless_refused None u = Ok (command.Update u)
-unless_refused (Some r) u = Err r
-
 abbrev pub update_answer : Digest → Resources → Update → Result Command Refusal
-update_answer dg R u = if is_second_local R u then Err (Read (Unsupported (codes "spec.node"))) else unless_taken (clash dg R u) u
+update_answer dg R u = unless_taken (clash dg R u) u
 
 abbrev pub checked : Digest → Resources → Result Command Refusal → Result Command Refusal
 checked dg R (Ok command.Blank) = Ok command.Blank

@@ -10,7 +10,8 @@ use Rattle.fx_model.specs.declared.chain.Reason.{Reason}
 use Rattle.fx_model.specs.declared.resources.Resources.{Resources}
 use Rattle.fx_model.specs.Machine.{Traces}
 use Rattle.fx_model.specs.Policy.{packet_verdict}
-use Rattle.fx_model.specs.Tables.{ChainName, tables_of}
+use Rattle.fx_model.specs.Tables.{ChainName}
+use Rattle.fx_model.specs.ViewTables.{tables_of}
 use Rattle.fx_names.specs.Digests.{Digest}
 use Rattle.fx_model.specs.Views.{view_of}
 use Rattle.fx_lines.specs.declared.commands.Command.TheVariants as command

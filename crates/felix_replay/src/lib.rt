@@ -3,11 +3,8 @@
 
 pub use top::{Status, felix_replay};
 
-mod chains;
-mod driver;
 mod engine;
 mod run_fault;
 mod sending;
-mod sets;
 mod top;
 mod words;

@@ -3,12 +3,14 @@ ghost use Rattle.std.specs.Prelude.{◌≡◌, ◌≤◌, OnOk, IfOk, [], is_som
 ghost use Rattle.std.specs.List.{concat};
 ghost use Rattle.fx_model.specs.Messages.{next_message, step};
 ghost use Rattle.felix_replay.specs.Output.{messages_text, message_count, first_text};
+ghost use Rattle.felix_replay.specs.Driven.{IsDriven};
 ghost use Rattle.felix_replay.specs.Writing.{Writes};
 
 use crate::run_fault::RunFault;
 use fx_base::{Sink, Text};
-use fx_model::{View, next_message, place_of, take_at};
+use fx_driver::Driver;
 use fx_print::message_text;
+use fx_sequencer::Sequencer;
 use std::alloc::Global;
 
 /// Writes a line by one put.
@@ -29,23 +31,27 @@ pub fn put_all<K: Sink>(lines: &[Text], sink: &mut K) -> Result<(), RunFault>
     Ok(())
 }
 
-// Sends the next message, and tells whether there was one.
+// Sends the next message: the tables take it, then it is written. Tells whether there was one.
 fn send_next<K: Sink>(
     alloc: Global,
-    sent: &mut View,
-    wanted: &View,
+    sequencer: &mut Sequencer,
+    driver: &mut Driver,
     sink: &mut K,
 ) -> Result<bool, RunFault>
-    ensures found { IfOk result (λ found. found ≡ is_some (next_message sent.old wanted.now)) }
-    ensures step { OnOk result (sent.new ≡ step sent.old wanted.now) }
-    ensures writes { Writes (K.state sink.old) (K.state sink.new) (first_text (next_message sent.old wanted.now)) result }
+    requires driven { IsDriven sequencer.old driver.old }
+    ensures driven { OnOk result (IsDriven sequencer.new driver.new) }
+    ensures found { IfOk result (λ found. found ≡ is_some (next_message sequencer.old.sent sequencer.old.now)) }
+    ensures step { OnOk result (sequencer.new
+        ≡ record sequencer.old { sent = step sequencer.old.sent sequencer.old.now }) }
+    ensures writes { Writes (K.state sink.old) (K.state sink.new)
+        (first_text (next_message sequencer.old.sent sequencer.old.now)) result }
 {
-    let Some(message) = next_message(sent, wanted) else {
+    let Some(message) = sequencer.peek() else {
         return Ok(false);
     };
     let line = message_text(alloc, &message)?;
-    let place = place_of(&message)?;
-    take_at(sent, wanted, place)?;
+    driver.apply(&message)?;
+    sequencer.sent()?;
     put_one(&line, sink)?;
     Ok(true)
 }
@@ -53,16 +59,19 @@ fn send_next<K: Sink>(
 /// Sends all messages that lead to the wanted view, and tells how many they were.
 pub fn send<K: Sink>(
     alloc: Global,
-    sent: &mut View,
-    wanted: &View,
+    sequencer: &mut Sequencer,
+    driver: &mut Driver,
     sink: &mut K,
 ) -> Result<u64, RunFault>
-    ensures count { IfOk result (λ count. count ≡ message_count sent.old wanted.now) }
-    ensures reached { OnOk result (sent.new ≡ wanted.now) }
-    ensures writes { Writes (K.state sink.old) (K.state sink.new) (messages_text sent.old wanted.now) result }
+    requires driven { IsDriven sequencer.old driver.old }
+    ensures driven { OnOk result (IsDriven sequencer.new driver.new) }
+    ensures count { IfOk result (λ count. count ≡ message_count sequencer.old.sent sequencer.old.now) }
+    ensures reached { OnOk result (sequencer.new ≡ record sequencer.old { sent = sequencer.old.now }) }
+    ensures writes { Writes (K.state sink.old) (K.state sink.new)
+        (messages_text sequencer.old.sent sequencer.old.now) result }
 {
     let mut count: u64 = 0;
-    while send_next(alloc, sent, wanted, sink)? {
+    while send_next(alloc, sequencer, driver, sink)? {
         count = count.saturating_add(1);
     }
     Ok(count)

@@ -2,6 +2,8 @@
 #![tactic(auto)]
 
 #[cfg(test)]
+mod endpoint_rows;
+#[cfg(test)]
 mod policy_rows;
 #[cfg(test)]
 mod policy_tests;

@@ -1,5 +1,5 @@
 //! Whole runs, from the bytes of a source to the bytes of a sink.
-use crate::run_rows::RUNS;
+use crate::{endpoint_rows, run_rows};
 use felix_replay::{Status, felix_replay};
 use fx_base::{MemSink, MemSource, SureSource, Text};
 use fx_names::{Namer, PlainRule};
@@ -31,16 +31,30 @@ fn lines_behind(alloc: Global, run: &str, mark: &str) -> Result<Vec<u8>, Fail> {
     Ok(lines)
 }
 
+// Whether a run writes what is stored, and refuses lines only where that says so.
+fn is_stored(alloc: Global, run: &str) -> Result<bool, Fail> {
+    let (status, held) = replayed(alloc, lines_behind(alloc, run, "> ")?)?;
+    let want = lines_behind(alloc, run, "< ")?;
+    let ends = if run.contains("\n< refused ") {
+        Status::Refused
+    } else {
+        Status::Done
+    };
+    Ok(held == want && status == ends)
+}
+
 #[test]
 fn runs_write_what_is_stored(rt: HostRuntime) -> Result<(), Fail> {
-    let alloc = rt.alloc();
-    for (row, run) in RUNS.split("\n= ").enumerate() {
-        let (status, held) = replayed(alloc, lines_behind(alloc, run, "> ")?)?;
-        let want = lines_behind(alloc, run, "< ")?;
-        assert_eq!(rt; held.as_slice(), want.as_slice(), "run {row}");
-        let is_refused = run.contains("\n< refused ");
-        assert_eq!(rt; status == Status::Refused, is_refused, "run {row}");
-        assert_eq!(rt; status == Status::Done, !is_refused, "run {row}");
+    for run in run_rows::RUNS.split("\n= ") {
+        assert!(rt; is_stored(rt.alloc(), run)?, "{run}");
+    }
+    Ok(())
+}
+
+#[test]
+fn endpoints_are_told_apart(rt: HostRuntime) -> Result<(), Fail> {
+    for run in endpoint_rows::RUNS.split("\n= ") {
+        assert!(rt; is_stored(rt.alloc(), run)?, "{run}");
     }
     Ok(())
 }

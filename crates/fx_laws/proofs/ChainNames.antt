@@ -23,11 +23,12 @@ use Rattle.fx_model.specs.declared.policy.Policy.{Policy}
 use Rattle.fx_model.specs.declared.resources.Endpoint.{Endpoint}
 use Rattle.fx_model.specs.declared.resources.Profile.{Profile}
 use Rattle.fx_model.specs.declared.resources.Resources.{Resources}
+use Rattle.fx_model.specs.declared.view.View.{View}
 use Rattle.fx_model.specs.declared.view.ViewEndpoint.{ViewEndpoint}
 use Rattle.fx_model.specs.declared.view.ViewPolicy.{ViewPolicy}
 use Rattle.fx_model.specs.declared.view.ViewProfile.{ViewProfile}
 use Rattle.fx_model.specs.declared.chain.ChainRule.{ChainRule}
-use Rattle.fx_model.specs.Directions.{Ingress, Egress}
+use Rattle.fx_model.specs.Directions.{Direction, Ingress, Egress}
 use Rattle.fx_model.specs.Resources.{is_served, is_local, served_endpoints}
 use Rattle.fx_model.specs.Formed.{is_formed_namespace, is_formed_item_key, is_formed_endpoint, is_formed_endpoint_entry, are_formed}
 use Rattle.fx_model.specs.Claims.{item_text, profile_chains as claimed_chains, profile_claims, policy_claims, interface_claims, endpoint_claims, all_claims}
@@ -35,17 +36,53 @@ use Rattle.fx_model.specs.Views.{view_of, policy_entry, profile_entry, endpoint_
 use Rattle.fx_model.specs.Active.{is_active, active_policies}
 use Rattle.fx_model.specs.PolicyIdTexts.{policy_id_text}
 use Rattle.fx_model.proofs.Orders.{policy_total}
-use Rattle.fx_model.specs.Tables.{ChainName, policy_chain, profile_chain, endpoint_chain, policy_chains, profile_chains, endpoint_chains, dispatch_chains, chains_of, tables_of}
-use Rattle.fx_laws.specs.ChainNames.{IsFixedOrClaimed}
+use Rattle.fx_model.specs.Tables.{ChainName, root_of, policy_chain, profile_chain, endpoint_chain}
+use Rattle.fx_model.specs.Tree.{Branch, children, child_chain, child_entry, root_rules, chains_towards, dispatch_chains_of}
+use Rattle.fx_model.specs.ViewTables.{policy_chains, profile_chains, endpoint_chains, first_chain, dispatch_chains, chains_of, tables_of}
+use Rattle.fx_laws.specs.ChainNames.{is_fixed_chain, IsFixedOrClaimed}
+use Rattle.fx_laws.proofs.Uses.{all-append}
+use Rattle.fx_laws.proofs.BranchLemmas.{IsChildOf, children_within, one_byte}
 use Rattle.fx_laws.proofs.ClaimsOfKeys.{ingress_claimed, egress_claimed, policy_ingress_claimed, policy_egress_claimed}
 use Rattle.fx_laws.proofs.FormedLemmas.{endpoints_formed, not_formed}
 
 abbrev Written : Type 0
 Written = ChainName × List ChainRule
 
-fixed-append : (P : Written → Type 0) (xs ys : List Written) → AllByRecursion P xs → AllByRecursion P ys → AllByRecursion P (xs ++ ys)
-fixed-append P [] ys h g = g
-fixed-append P (x ∷ xs) ys h g = (h.0, fixed-append P xs ys h.1 g)
+-- ---- the way to endpoints' chains
+
+abbrev AreFixed : List Written → Type 0
+AreFixed ws = AllByRecursion (λ w. is_fixed_chain w.0 ≡ true) ws
+
+child_fixed : (d : Direction) (n : ℕ) → is_fixed_chain (child_chain d (n ∷ [])) ≡ true
+child_fixed Ingress n = refl
+child_fixed Egress n = refl
+
+root_fixed : (d : Direction) → is_fixed_chain (root_of d) ≡ true
+root_fixed Ingress = refl
+root_fixed Egress = refl
+
+abbrev AnyName : List ℕ → Type 0
+AnyName name = Unit {0}
+
+any_names : (names : List (List ℕ)) → AllByRecursion AnyName names
+any_names [] = tt
+any_names (name ∷ names) = (tt, any_names names)
+
+children_fixed : (d : Direction) (bs : List Branch) → AllByRecursion (IsChildOf AnyName) bs → AreFixed (map (child_entry d) bs)
+children_fixed d [] h = tt
+children_fixed d (b ∷ bs) h = (one_byte (λ c. is_fixed_chain (child_chain d c) ≡ true) b.0 b.1 h.0.branch.short h.0.has (child_fixed d), children_fixed d bs h.1)
+
+towards_fixed : (d : Direction) (names : List (List ℕ)) → AreFixed (chains_towards d names)
+towards_fixed d names =
+    all-append (λ (w : Written). is_fixed_chain w.0 ≡ true) (map (child_entry d) (children names)) ((root_of d, root_rules d names) ∷ [])
+    (children_fixed d (children names) (children_within AnyName names (any_names names))) (root_fixed d, tt)
+
+dispatch_fixed : (v : View) → AreFixed (dispatch_chains v)
+dispatch_fixed v =
+    let names = maps.keys v.endpoints in
+    all-append (λ (w : Written). is_fixed_chain w.0 ≡ true) (dispatch_chains_of names) first_chain
+    (all-append (λ (w : Written). is_fixed_chain w.0 ≡ true) (chains_towards Ingress names) (chains_towards Egress names) (towards_fixed Ingress names) (towards_fixed Egress names))
+    (refl, tt)
 
 -- an interface's name stands behind a prefix as it is
 short_whole : (n : ℕ) (b : Bool) → nat_le n 15 ≡ true → (nat_lt n 20 || b) ≡ true
@@ -194,16 +231,16 @@ module _ (dg : Digest) where
         let v = view_of dg R in
         let profiles = flat_map profile_chains (maps.entries v.profiles) in
         let endpoints = flat_map endpoint_chains (maps.entries v.endpoints) in
-        fixed-append IsHeld (flat_map policy_chains (maps.entries v.policies)) (profiles ++ (endpoints ++ dispatch_chains v))
+        all-append IsHeld (flat_map policy_chains (maps.entries v.policies)) (profiles ++ (endpoints ++ dispatch_chains v))
         (policy_chains_held (maps.entries v.policies)
         (each (λ e. maps.get v.policies e.0 ≡ Some e.1) (λ e. PolicyHeld e.0 e.1) (λ e is. policy_held e.0 e.1 is) (maps.entries v.policies) (entries_found nat_list_cmp_total v.policies)))
-        (fixed-append IsHeld profiles (endpoints ++ dispatch_chains v)
+        (all-append IsHeld profiles (endpoints ++ dispatch_chains v)
         (profile_chains_held (maps.entries v.profiles)
         (each (λ e. maps.get v.profiles e.0 ≡ Some e.1) (λ e. ProfileHeld e.0 e.1) (λ e is. profile_held e.0 e.1 is) (maps.entries v.profiles) (entries_found nat_list_cmp_total v.profiles)))
-        (fixed-append IsHeld endpoints (dispatch_chains v)
+        (all-append IsHeld endpoints (dispatch_chains v)
         (endpoint_chains_held (maps.entries v.endpoints)
         (each (λ e. maps.get v.endpoints e.0 ≡ Some e.1) (λ e. EndpointHeld e.0 e.1) (λ e is. endpoints_held formed e.0 e.1 is) (maps.entries v.endpoints) (entries_found nat_list_cmp_total v.endpoints)))
-        (inl refl, (inl refl, (inl refl, tt)))))
+        (each (λ (w : Written). is_fixed_chain w.0 ≡ true) IsHeld (λ w fixed. inl fixed) (dispatch_chains v) (dispatch_fixed v))))
 
 no_chain : {A : Type 0} (rules : List ChainRule) → None ≡ Some rules → A
 no_chain rules is = cc

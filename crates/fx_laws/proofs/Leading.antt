@@ -4,7 +4,8 @@ use Rattle.std.specs.FinMap as maps
 use Rattle.fx_base.specs.Extended.{extended}
 use Rattle.fx_model.specs.declared.view.View.{View}
 use Rattle.fx_model.specs.declared.chain.ChainRule.{ChainRule}
-use Rattle.fx_model.specs.Tables.{ChainName, Chains, Sets, chains_of, tables_of}
+use Rattle.fx_model.specs.Tables.{ChainName, Chains, Sets}
+use Rattle.fx_model.specs.ViewTables.{chains_of, tables_of}
 use Rattle.fx_model.specs.Ranks.{IsRanked}
 use Rattle.fx_model.specs.Closed.{AreClosedTables, IsClosedView}
 use Rattle.fx_model.specs.Writing.{CanBeWritten}

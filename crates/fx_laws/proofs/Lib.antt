@@ -2,6 +2,8 @@ pub mod Removing
 pub mod Keys
 pub mod FormedLemmas
 pub mod Shaping
+pub mod Leads
+pub mod TreeWritten
 pub mod Writable
 pub mod Leading
 pub mod TiersClosed
@@ -13,6 +15,7 @@ pub mod Apart
 pub mod NextCases
 pub mod Nearer
 pub mod StepClosed
+pub mod StepFormed
 pub mod Flushes
 pub mod ClaimsCounted
 pub mod Clashing
@@ -20,3 +23,13 @@ pub mod ClaimsApart
 pub mod ClaimsOfKeys
 pub mod SetsClaimed
 pub mod ChainNames
+pub mod EntryLookups
+pub mod ChainPairs
+pub mod NamesApart
+pub mod TreeNames
+pub mod TablesAt
+pub mod Gathering
+pub mod BranchLemmas
+pub mod Lines
+pub mod TreeAt
+pub mod Beginnings

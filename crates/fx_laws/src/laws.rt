@@ -12,7 +12,8 @@ ghost use Rattle.fx_model.specs.Formed.{is_formed, are_formed, is_formed_view, p
 ghost use Rattle.fx_model.specs.Claims.{clash, IsClashFree};
 ghost use Rattle.fx_model.specs.Views.{view_of};
 ghost use Rattle.fx_model.specs.declared.chain.ChainRule.{ChainRule};
-ghost use Rattle.fx_model.specs.Tables.{ChainName, chains_of, tables_of};
+ghost use Rattle.fx_model.specs.Tables.{ChainName};
+ghost use Rattle.fx_model.specs.ViewTables.{chains_of, tables_of};
 ghost use Rattle.fx_laws.specs.ChainNames.{IsFixedOrClaimed};
 ghost use Rattle.fx_model.specs.Closed.{IsClosedView, AreClosedTables};
 ghost use Rattle.fx_model.specs.Ranks.{IsRanked};
@@ -70,6 +71,29 @@ pub fn flush_keeps_views_closed()
         → AllByRecursion IsClosedView (sent_views (flush limit sent wanted).messages sent wanted) }
 {}
 
+/// A change towards a formed view leaves a formed view formed. The same holds of views whose interfaces are those of workloads, and
+/// of views whose sets have members of their kinds.
+pub fn stepped_views_are_drivable()
+    ensures formed { (sent wanted : View) (change : Change) → is_formed_view sent ≡ true → is_formed_view wanted ≡ true
+        → is_formed_view (step_at change sent wanted) ≡ true }
+    ensures interfaces { (sent wanted : View) (change : Change) → has_workload_interfaces sent ≡ true
+        → has_workload_interfaces wanted ≡ true → has_workload_interfaces (step_at change sent wanted) ≡ true }
+    ensures kinds { (sent wanted : View) (change : Change) → AreOfKinds sent.sets → AreOfKinds wanted.sets
+        → AreOfKinds (step_at change sent wanted).sets }
+{}
+
+/// Each view on the way of a flush is formed if both ends are, whatever its limit. The same holds of interfaces of workloads, and of
+/// members of their kinds.
+pub fn flushed_views_are_drivable()
+    ensures formed { (limit : Option ℕ) (sent wanted : View) → is_formed_view sent ≡ true → is_formed_view wanted ≡ true
+        → AllByRecursion (λ v. is_formed_view v ≡ true) (sent_views (flush limit sent wanted).messages sent wanted) }
+    ensures interfaces { (limit : Option ℕ) (sent wanted : View) → has_workload_interfaces sent ≡ true
+        → has_workload_interfaces wanted ≡ true
+        → AllByRecursion (λ v. has_workload_interfaces v ≡ true) (sent_views (flush limit sent wanted).messages sent wanted) }
+    ensures kinds { (limit : Option ℕ) (sent wanted : View) → AreOfKinds sent.sets → AreOfKinds wanted.sets
+        → AllByRecursion (λ v. AreOfKinds v.sets) (sent_views (flush limit sent wanted).messages sent wanted) }
+{}
+
 /// Formed updates leave formed resources, which have a formed view.
 pub fn formed_updates_keep_resources_formed()
     ensures after { (R : Resources) → are_formed R ≡ true → (u : Update) → is_formed u ≡ true
@@ -92,7 +116,7 @@ pub fn accepted_updates_keep_claims_apart()
         → clash dg R u ≡ None → IsClashFree dg (after R u) }
 {}
 
-/// Each chain of the tables is one of the three that always stand, or some resource claims its name.
+/// Each chain of the tables is the first one or a chain of dispatch, or some resource claims its name.
 pub fn chains_are_claimed()
     ensures { (dg : Digest) (R : Resources) (name : ChainName) (rules : List ChainRule) → are_formed R ≡ true
         → map.get (tables_of (view_of dg R)).chains name ≡ Some rules → IsFixedOrClaimed dg R name }

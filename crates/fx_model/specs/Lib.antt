@@ -16,6 +16,8 @@ pub mod Views
 pub mod Claims
 pub mod Rendering
 pub mod Tables
+pub mod Tree
+pub mod ViewTables
 pub mod Shapes
 pub mod Closed
 pub mod Writing

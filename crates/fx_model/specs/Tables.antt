@@ -1,16 +1,13 @@
--- The tables that a view is rendered to: IP sets, and chains of the filter table by iptables(8). The names of the chains
--- and their prefixes are Felix's.
+-- The chains that policies, profiles and endpoints are rendered to, and the first chain: chains of the filter table by iptables(8). The
+-- names of the chains and their prefixes are Felix's.
 use Rattle.std.specs.Prelude.{ℕ, List, [], ◌∷◌, ◌++◌, Bool, true, false, codes}
-use Rattle.std.specs.List.{flat_map}
 use Rattle.std.specs.Ordering.{nat_cmp}
 use Rattle.std.specs.Cmp.Lexicographic.{slice_cmp}
 use Rattle.std.specs.FinMap as maps
-use Rattle.fx_base.specs.Extended.{collected}
 use Rattle.fx_base.specs.Set as set
 use Rattle.fx_names.specs.Names.{prefix_text}
 use Rattle.fx_names.specs.declared.prefix.Prefix.TheVariants.{PolicyIn, PolicyOut, ProfileIn, ProfileOut, ToEndpoint, FromEndpoint}
 use Rattle.fx_model.specs.contracts.member.MemberOrd.TheImpl.{cmp-value}
-use Rattle.fx_model.specs.declared.view.View.{View}
 use Rattle.fx_model.specs.declared.view_rule.ViewRule.{ViewRule}
 use Rattle.fx_model.specs.declared.view.ViewPolicy.{ViewPolicy}
 use Rattle.fx_model.specs.declared.view.ViewProfile.{ViewProfile}
@@ -136,30 +133,3 @@ forward_rules =
     ∷ plain (match.Iface Source (codes "cali") true ∷ []) (target.Jump (root_of Egress))
     ∷ plain (match.Iface Dest (codes "cali") true ∷ []) (target.Jump (root_of Ingress))
     ∷ []
-
--- ---- the tables of a view
-
-abbrev pub policy_chains : List ℕ × ViewPolicy → List (ChainName × List ChainRule)
-policy_chains x = (policy_chain Ingress x.0, policy_rules Ingress x.1) ∷ (policy_chain Egress x.0, policy_rules Egress x.1) ∷ []
-
-abbrev pub profile_chains : List ℕ × ViewProfile → List (ChainName × List ChainRule)
-profile_chains x = (profile_chain Ingress x.0, profile_rules Ingress x.1) ∷ (profile_chain Egress x.0, profile_rules Egress x.1) ∷ []
-
-abbrev pub endpoint_chains : List ℕ × ViewEndpoint → List (ChainName × List ChainRule)
-endpoint_chains x = (endpoint_chain Ingress x.0, endpoint_rules Ingress x.1) ∷ (endpoint_chain Egress x.0, endpoint_rules Egress x.1) ∷ []
-
-abbrev pub dispatch_chains : View → List (ChainName × List ChainRule)
-dispatch_chains v =
-    (root_of Ingress, dispatch_rules Ingress (maps.keys v.endpoints))
-    ∷ (root_of Egress, dispatch_rules Egress (maps.keys v.endpoints))
-    ∷ (forward, forward_rules)
-    ∷ []
-
--- all chains of a view, each behind those that it leads to
-abbrev pub chains_of : View → List (ChainName × List ChainRule)
-chains_of v =
-    flat_map policy_chains (maps.entries v.policies) ++ (flat_map profile_chains (maps.entries v.profiles)
-    ++ (flat_map endpoint_chains (maps.entries v.endpoints) ++ dispatch_chains v))
-
-abbrev pub tables_of : View → Tables
-tables_of v = record { sets = v.sets; chains = collected (chains_of v) }

@@ -25,7 +25,8 @@ use Rattle.fx_names.specs.Digests.{Digest}
 use Rattle.fx_model.specs.Views.{view_of}
 use Rattle.fx_model.specs.Claims.{IsClashFree}
 use Rattle.fx_model.specs.Closed.{IsClosedView}
-use Rattle.fx_model.specs.Tables.{Tables, Sets, tables_of, policy_side, profile_side, tiers_side}
+use Rattle.fx_model.specs.Tables.{Tables, Sets, policy_side, profile_side, tiers_side}
+use Rattle.fx_model.specs.ViewTables.{tables_of}
 use Rattle.fx_model.specs.Policy.{MetRule, Tier, Listed, Missing, There, Decision, Outcome, tiers_verdict, profiles_verdict, side_verdict, both_sides, packet_verdict}
 use Rattle.fx_model.specs.Machine.{set_holds, Decides}
 use Rattle.fx_model.specs.Criteria.{address_at, port_at, proto_is, proto_is_not, lies_in, lies_in_given, holds_port, icmp_is, icmp_is_not}

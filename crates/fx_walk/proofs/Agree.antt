@@ -4,7 +4,8 @@ use Rattle.fx_model.specs.declared.packet.Packet.{Packet}
 use Rattle.fx_model.specs.declared.packet.Verdict.{Verdict}
 use Rattle.fx_model.specs.declared.chain.Reason.{Reason}
 use Rattle.fx_model.specs.Views.{view_of}
-use Rattle.fx_model.specs.Tables.{ChainName, Tables, forward, tables_of}
+use Rattle.fx_model.specs.Tables.{ChainName, Tables, forward}
+use Rattle.fx_model.specs.ViewTables.{tables_of}
 use Rattle.fx_model.specs.Ranks.{IsRanked}
 use Rattle.fx_model.specs.Machine.{holds, Reasons, Trace, nothing_noted, last_reason, hops_and_reasons, Run, at_rule, Decides, Traces, RunHasOneEnd}
 use Rattle.fx_model.specs.Walk.{Ended, Accepted, Dropped, Left, Through, verdict_of, noted_in, over_chain}

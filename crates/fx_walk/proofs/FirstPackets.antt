@@ -64,7 +64,7 @@ module _ (a : Packet) (v : View) (chains : Chains) (given : Renders v chains) (f
   side_reached : (d : Direction) (rs : List ChainRule) (m : ℕ) (s : Reasons) (o : Option ViewEndpoint) → a.state ≡ New → maps.get v.endpoints (iface_at (end_of d) a) ≡ o → is_workload (iface_at (end_of d) a) ≡ true → DecidedSide d (place_of d) rs (from_side d rs m s) s (root_decision a v chains given formed d o).verdict (root_decision a v chains given formed d o).why
   side_reached d rs m s o new e h =
       subst (λ x. DecidedSide d (place_of d) rs x s (root_decision a v chains given formed d o).verdict (root_decision a v chains given formed d o).why) (sym hit)
-      (after_root d (place_of d) rs (call a v chains given formed 4 (root_of d) m (turned d s)) s _ _ (root_ends a v chains given formed 1 d new m (turned d s) o e))
+      (after_root d (place_of d) rs (call a v chains given formed 4 (root_of d) m (turned d s)) s _ _ (root_ends a v chains given formed 0 d new m (turned d s) o e))
     where
       hit : from_side d rs m s ≡ onward (after_jump (call a v chains given formed 4 (root_of d) m (turned d s))) (first (suc (place_of d)) rs)
       hit =

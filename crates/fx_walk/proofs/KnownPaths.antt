@@ -1,5 +1,5 @@
 -- The paths of some packets, computed: over the tables of a node with one endpoint that lists one profile.
-use Rattle.std.proofs.Common.{◌≡◌, ℕ, zero, suc, List, [], ◌∷◌, ◌++◌, map, filter, Option, Some, None, true, false, refl, ap, ◌∙◌, codes, lit≤}
+use Rattle.std.proofs.Common.{◌≡◌, ℕ, List, [], ◌∷◌, ◌++◌, map, filter, Option, Some, None, true, false, refl, ap, ◌∙◌, codes, lit≤}
 use Rattle.std.specs.List.{flat_map}
 use Rattle.std.specs.Ordering.{nat_cmp}
 use Rattle.std.specs.Cmp.Lexicographic.{slice_cmp, nat_list_cmp_total}
@@ -35,21 +35,13 @@ use Rattle.fx_names.specs.Digests.{Digest, plain_digest}
 use Rattle.fx_model.specs.Views.{view_of, view_profile, view_endpoint, view_tiers, namespace_of, item_name, profile_key, endpoint_entry, policy_entry, profile_entry, key_in_place}
 use Rattle.fx_model.specs.Active.{applies, is_active}
 use Rattle.fx_model.specs.TierOrder.{tier_by_tier, tiers_of, view_tier}
-use Rattle.fx_model.specs.Tables.{ChainName, Chains, forward, forward_rules, root_of, dispatch_rules, dispatch_chains, policy_chains, profile_chains, endpoint_chains, chains_of, tables_of}
-use Rattle.fx_model.specs.Machine.{Test, Notes, Trace, holds, hops_and_reasons, last_reason, nothing_noted, rules_found, rules_in}
-use Rattle.fx_model.specs.Walk.{Onward, Ended, Accepted, Dropped, Through, over_rule, over_rules, over_chain}
-use Rattle.fx_walk.proofs.Lookups.{last_at, get-collected}
-
--- ---- a walk over chains that are looked up in any way
-
-unfoldable over_look : {S : Type 0} → Notes S → Test → (ChainName → List ChainRule) → ℕ → ChainName → Onward S
-over_look note test look zero c m s = Through m s
-over_look note test look (suc n) c m s = over_rules note test (over_look note test look n) c 1 (look c) m s
-
-same_look : {S : Type 0} (note : Notes S) (test : Test) (chains : Chains) (look : ChainName → List ChainRule) → ((q : ChainName) → rules_in chains q ≡ look q) → (n : ℕ) (c : ChainName) (m : ℕ) (s : S) → over_chain note test chains n c m s ≡ over_look note test look n c m s
-unfolding over_chain over_look
-same_look note test chains look h zero c m s = refl
-same_look note test chains look h (suc n) c m s = λ i. over_rules note test (λ d k t. same_look note test chains look h n d k t i) c 1 (h c i) m s
+use Rattle.fx_model.specs.Tables.{ChainName, forward, forward_rules, root_of, dispatch_rules}
+use Rattle.fx_model.specs.Tree.{dispatch_chains_of}
+use Rattle.fx_model.specs.ViewTables.{first_chain, dispatch_chains, policy_chains, profile_chains, endpoint_chains, chains_of, tables_of}
+use Rattle.fx_model.specs.Machine.{Trace, holds, hops_and_reasons, last_reason}
+use Rattle.fx_model.specs.Walk.{Ended, Accepted, Dropped, Through, over_rule, over_rules}
+use Rattle.fx_walk.specs.PacketPaths.{first_walk}
+use Rattle.fx_walk.proofs.KnownWalks.{over_look, known_walk, walk_known, packet}
 
 -- ---- a node with one endpoint
 
@@ -122,36 +114,13 @@ module _ (dg : Digest) (profiles : maps.FinMap (slice_cmp nat_cmp) Profile) (o :
       ap (λ ps. flat_map policy_chains ps ++ (flat_map profile_chains (maps.entries (view_of dg R).profiles) ++ (flat_map endpoint_chains (maps.entries (view_of dg R).endpoints) ++ dispatch_chains (view_of dg R)))) policies_are
       ∙ ap (λ fs. flat_map profile_chains fs ++ (flat_map endpoint_chains (maps.entries (view_of dg R).endpoints) ++ dispatch_chains (view_of dg R))) profiles_are
       ∙ ap (λ (es : List (List ℕ × ViewEndpoint)). profile_chains (codes "open", view_profile dg (codes "open") o) ++ (flat_map endpoint_chains es
-      ++ ((root_of Ingress, dispatch_rules Ingress (map (λ e. e.0) es)) ∷ (root_of Egress, dispatch_rules Egress (map (λ e. e.0) es)) ∷ (forward, forward_rules) ∷ []))) endpoints_are
-
-  abbrev look : ChainName → List ChainRule
-  look q = rules_found (last_at (slice_cmp nat_cmp) known q None)
-
-  looked : (q : ChainName) → rules_in (tables_of (view_of dg R)).chains q ≡ look q
-  looked q = ap rules_found (get-collected nat_list_cmp_total (chains_of (view_of dg R)) q ∙ ap (λ cs. last_at (slice_cmp nat_cmp) cs q None) known_chains)
+      ++ (dispatch_chains_of (map (λ e. e.0) es) ++ first_chain))) endpoints_are
 
   abbrev trace_of : Packet → Ended Trace
-  trace_of a = over_chain hops_and_reasons (holds (view_of dg R).sets a) (tables_of (view_of dg R)).chains 5 forward 0 (record { hops = []; reasons = nothing_noted })
+  trace_of a = first_walk (tables_of (view_of dg R)) a []
 
-  abbrev known_trace : Packet → Ended Trace
-  known_trace a = over_look hops_and_reasons (holds (view_of dg R).sets a) look 5 forward 0 (record { hops = []; reasons = nothing_noted })
-
-  trace_known : (a : Packet) → trace_of a ≡ known_trace a
-  trace_known a = same_look hops_and_reasons (holds (view_of dg R).sets a) (tables_of (view_of dg R)).chains look looked 5 forward 0 (record { hops = []; reasons = nothing_noted })
-
-abbrev packet : List ℕ → List ℕ → State → Packet
-packet into out state = record {
-  iface_in = into;
-  iface_out = out;
-  src = record { 0 = 0x0a000001 };
-  dst = record { 0 = 0xc0000201 };
-  proto = record { 0 = 6 };
-  sport = 40000;
-  dport = 443;
-  icmp_kind = 0;
-  icmp_code = 0;
-  state = state;
-}
+  trace_known : (a : Packet) → trace_of a ≡ known_walk (view_of dg R) known a
+  trace_known a = walk_known (view_of dg R) known known_chains a
 
 abbrev from_endpoint : State → Packet
 from_endpoint state = packet (codes "cali1") (codes "eth0") state

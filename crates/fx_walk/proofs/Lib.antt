@@ -6,8 +6,8 @@ pub mod Blocks
 pub mod PortLists
 pub mod Criteria
 pub mod Rules
-pub mod Lookups
 pub mod Families
+mod TreeWalks
 pub mod Sides
 pub mod FirstPackets
 pub mod TierLists
@@ -20,7 +20,9 @@ pub mod WantedTiers
 pub mod Wanted
 pub mod Agree
 pub mod Whole
+mod KnownWalks
 mod KnownPaths
+mod KnownTreePaths
 mod Interfaces
 mod PolicyKeys
 pub mod Servable

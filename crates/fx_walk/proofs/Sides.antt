@@ -1,12 +1,12 @@
 -- The machine's run over the chains of a view has the view's verdict and reasons.
-use Rattle.std.proofs.Common.{◌≡◌, ℕ, suc, Bool, true, false, not, ◌||◌, List, [], ◌∷◌, ◌++◌, map, Option, Some, None, is_some, refl, sym, ap, ◌∙◌, subst, arith, lit<, codes}
+use Rattle.std.proofs.Common.{◌≡◌, ◌⊎◌, inl, inr, ℕ, suc, Bool, true, false, not, ◌||◌, List, [], ◌∷◌, ◌++◌, map, Option, Some, None, is_some, refl, sym, ap, ◌∙◌, subst, arith, lit<, codes}
 use Rattle.std.specs.Int.{bit_at}
 use Rattle.std.specs.List.{list_any, list_all, flat_map}
 use Rattle.std.specs.Str.{bytes_eq}
 use Rattle.std.specs.Ordering.{nat_cmp, eq_by_cmp}
 use Rattle.std.specs.Cmp.Lexicographic.{slice_cmp, texts_ties}
 use Rattle.std.specs.FinMap as maps
-use Rattle.fx_base.specs.Same.{same_bytes, both_pass}
+use Rattle.fx_base.specs.Same.{both_pass}
 use Rattle.fx_model.specs.declared.packet.State.TheVariants.{New}
 use Rattle.fx_model.specs.declared.packet.Packet.{Packet}
 use Rattle.fx_model.specs.declared.packet.Verdict.{Verdict}
@@ -29,9 +29,9 @@ use Rattle.fx_model.specs.declared.view.ViewEndpoint.{ViewEndpoint}
 use Rattle.fx_model.specs.Directions.{Direction, Ingress, Egress}
 use Rattle.fx_model.specs.Formed.{passes, is_formed_view_profile_rule}
 use Rattle.fx_model.specs.Rendering.{plain, tagged, is_set, is_clear, accept_mark, pass_mark, rendered_rules}
-use Rattle.fx_model.specs.Tables.{ChainName, Chains, Sets, forward, policy_chain, policy_rules, policy_jumps, policy_side, profile_chain, profile_rules, profile_jumps, profile_side, present_or_missing, tier_rules, tiers_side, endpoint_chain, endpoint_rules, end_of, root_of, dispatch_rules}
+use Rattle.fx_model.specs.Tables.{ChainName, Chains, Sets, forward, policy_chain, policy_rules, policy_jumps, policy_side, profile_chain, profile_rules, profile_jumps, profile_side, present_or_missing, tier_rules, tiers_side, endpoint_chain, endpoint_rules, end_of, root_of}
 use Rattle.fx_model.specs.Machine.{holds, hold_all, marked, iface_at, state_in, rules_in, Reasons, with_reason, last_reason}
-use Rattle.fx_model.specs.Walk.{Onward, Ended, Accepted, Dropped, Left, Through, onward, after_jump, after_goto, over_rules, over_chain}
+use Rattle.fx_model.specs.Walk.{Onward, Ended, Dropped, Left, onward, after_jump, after_goto, over_rules, over_chain}
 use Rattle.fx_model.specs.Policy.{MetRule, Answer, Silent, Passed, Allowed, Denied, answer_of, first_answer, Decision, end_of_tier, after_policies, tiers_verdict, or_rest, profile_verdict, profiles_verdict, is_workload}
 use Rattle.fx_model.specs.ViewPolicy.{met_view_rules, view_rule_matches, rules_of_policy, view_tier, missing_or_there, listed_of, view_listed, view_endpoint_verdict, HasFormedRules}
 use Rattle.fx_walk.proofs.Walks.{walk_hit, walk-end}
@@ -40,6 +40,7 @@ use Rattle.fx_walk.proofs.Blocks.{only, noted_as, plain_hit, miss}
 use Rattle.fx_walk.specs.Endings.{EndsAs}
 use Rattle.fx_walk.proofs.Rules.{tagged_drop, return_hit, return_miss, formed_parts, each_formed, all_clear, profile_clear, rules_end}
 use Rattle.fx_walk.proofs.Families.{found, Renders}
+use Rattle.fx_walk.proofs.TreeWalks.{root_arrives, root_drops}
 
 -- rules of profiles don't pass
 never_passed : (sets : Sets) (a : Packet) (why : ℕ → Reason) (place : ℕ) (rs : List ViewRule) → list_all is_formed_view_profile_rule rs ≡ true → first_answer (met_view_rules sets a why place rs) ≡ Passed → ⊥
@@ -123,10 +124,6 @@ module _ (a : Packet) (v : View) (chains : Chains) (given : Renders v chains) (f
   endpoint_inner : (d : Direction) (iface : List ℕ) → bytes_eq (endpoint_chain d iface) forward ≡ false
   endpoint_inner Ingress iface = refl
   endpoint_inner Egress iface = refl
-
-  root_inner : (d : Direction) → bytes_eq (root_of d) forward ≡ false
-  root_inner Ingress = refl
-  root_inner Egress = refl
 
   abbrev back : ChainRule
   back = plain (is_set accept_mark ∷ []) target.Return
@@ -251,10 +248,6 @@ module _ (a : Packet) (v : View) (chains : Chains) (given : Renders v chains) (f
   state_misses true m h = only v.sets a m (match.State true) false (ap (state_in true) h)
   state_misses false m h = only v.sets a m (match.State false) false (ap (state_in false) h)
 
-  iface_met : (m : ℕ) (end : End) (name : List ℕ) (b : Bool) → bytes_eq (iface_at end a) name ≡ b → hold_all (holds v.sets a) m (match.Iface end name false ∷ []) ≡ b
-  unfolding holds
-  iface_met m end name b h = only v.sets a m (match.Iface end name false) b h
-
   pub workload_met : (m : ℕ) (end : End) (b : Bool) → is_workload (iface_at end a) ≡ b → hold_all (holds v.sets a) m (match.Iface end (codes "cali") true ∷ []) ≡ b
   unfolding holds
   workload_met m end b h = only v.sets a m (match.Iface end (codes "cali") true) b h
@@ -277,12 +270,6 @@ module _ (a : Packet) (v : View) (chains : Chains) (given : Renders v chains) (f
 
   -- ---- the roots
 
-  goto_ends : (x : Ended Reasons) (go : Onward Reasons) → onward (after_goto x) go ≡ after_goto x
-  goto_ends (Accepted s) go = refl
-  goto_ends (Dropped s) go = refl
-  goto_ends (Left m s) go = refl
-  goto_ends (Through m s) go = refl
-
   goto_concludes : (x : Ended Reasons) (s : Reasons) (y : Decision) → ConcludesAs x s y → ConcludesAs (after_goto x) s y
   goto_concludes x s y h = by_verdict y.verdict y.why h
     where
@@ -290,31 +277,11 @@ module _ (a : Packet) (v : View) (chains : Chains) (given : Renders v chains) (f
       by_verdict Allow why k = (k.0, ap after_goto k.1)
       by_verdict Deny why k = ap after_goto k
 
-  -- where a root leads
-  abbrev dispatched : ℕ → Direction → Bool → ℕ → Reasons → Ended Reasons
-  dispatched n d true m s = after_goto (call n (endpoint_chain d (iface_at (end_of d) a)) m s)
-  dispatched n d false m s = Dropped (with_reason s.side reason.UnknownInterface s)
-
-  dispatch : (n : ℕ) (c : ChainName) (inner : bytes_eq c forward ≡ false) (d : Direction) (ifaces : List (List ℕ)) (p m : ℕ) (s : Reasons) → over_rules last_reason (holds v.sets a) (call n) c p (dispatch_rules d ifaces) m s ≡ dispatched n d (list_any (bytes_eq (iface_at (end_of d) a)) ifaces) m s
-  dispatch n c inner d [] p m s = tagged_drop v.sets a (call n) c inner p [] reason.UnknownInterface [] m s refl
-  dispatch n c inner d (x ∷ ifaces) p m s = by_test (bytes_eq (iface_at (end_of d) a) x) refl (dispatch n c inner d ifaces (suc p) m s)
-    where
-      r : ChainRule
-      r = plain (match.Iface (end_of d) x false ∷ []) (target.Goto (endpoint_chain d x))
-
-      by_test : (b : Bool) → bytes_eq (iface_at (end_of d) a) x ≡ b → over_rules last_reason (holds v.sets a) (call n) c (suc p) (dispatch_rules d ifaces) m s ≡ dispatched n d (list_any (bytes_eq (iface_at (end_of d) a)) ifaces) m s → over_rules last_reason (holds v.sets a) (call n) c p (dispatch_rules d (x ∷ ifaces)) m s ≡ dispatched n d (b || list_any (bytes_eq (iface_at (end_of d) a)) ifaces) m s
-      by_test true h ih =
-          walk_hit last_reason (holds v.sets a) (call n) c p r (dispatch_rules d ifaces) m s (iface_met m (end_of d) x true h)
-          ∙ goto_ends (call n (endpoint_chain d x) m (last_reason c p r s)) (over_rules last_reason (holds v.sets a) (call n) c (suc p) (dispatch_rules d ifaces))
-          ∙ ap (λ t. after_goto (call n (endpoint_chain d x) m t)) (noted_as v.sets a (call n) c inner p r s)
-          ∙ ap (λ i. after_goto (call n (endpoint_chain d i) m s)) (sym (same_bytes (iface_at (end_of d) a) x h))
-      by_test false h ih = miss v.sets a (call n) c inner p r (dispatch_rules d ifaces) m s (iface_met m (end_of d) x false h) ∙ ih
-
   any_same : (q : List ℕ) (ks : List (List ℕ)) → list_any (bytes_eq q) ks ≡ list_any (eq_by_cmp (slice_cmp nat_cmp) q) ks
   any_same q [] = refl
   any_same q (k ∷ ks) = ap (λ b. b || list_any (bytes_eq q) ks) (texts_ties q k) ∙ ap (λ b. eq_by_cmp (slice_cmp nat_cmp) q k || b) (any_same q ks)
 
-  -- a root has the interfaces of the view
+  -- the tree has the interfaces of the view
   listed_there : (q : List ℕ) → list_any (bytes_eq q) (maps.keys v.endpoints) ≡ is_some (maps.get v.endpoints q)
   listed_there q = any_same q (maps.keys v.endpoints) ∙ sym (maps.contains_key-keys v.endpoints q)
 
@@ -323,14 +290,16 @@ module _ (a : Packet) (v : View) (chains : Chains) (given : Renders v chains) (f
   root_decision d None = record { verdict = Deny; why = reason.UnknownInterface }
   root_decision d (Some e) = view_endpoint_verdict v d e a
 
-  root_leads : (n : ℕ) (d : Direction) (m : ℕ) (s : Reasons) (o : Option ViewEndpoint) → maps.get v.endpoints (iface_at (end_of d) a) ≡ o → call (suc n) (root_of d) m s ≡ dispatched n d (is_some o) m s
-  root_leads n d m s o e =
-      called n (root_of d) (dispatch_rules d (maps.keys v.endpoints)) m s (given.at_root d)
-      ∙ dispatch n (root_of d) (root_inner d) d (maps.keys v.endpoints) 1 m s
-      ∙ ap (λ b. dispatched n d b m s) (listed_there (iface_at (end_of d) a) ∙ ap is_some e)
+  there_or_not : (d : Direction) (o : Option ViewEndpoint) → maps.get v.endpoints (iface_at (end_of d) a) ≡ o → list_any (bytes_eq (iface_at (end_of d) a)) (maps.keys v.endpoints) ≡ is_some o
+  there_or_not d o e = listed_there (iface_at (end_of d) a) ∙ ap is_some e
 
-  pub root_ends : (n : ℕ) (d : Direction) → a.state ≡ New → (m : ℕ) (s : Reasons) (o : Option ViewEndpoint) → maps.get v.endpoints (iface_at (end_of d) a) ≡ o → ConcludesAs (call (suc (suc (suc n))) (root_of d) m s) s (root_decision d o)
-  root_ends n d new m s None e = root_leads (suc (suc n)) d m s None e
+  -- a root is two chains above its endpoints' chains, or one
+  pub root_ends : (n : ℕ) (d : Direction) → a.state ≡ New → (m : ℕ) (s : Reasons) (o : Option ViewEndpoint) → maps.get v.endpoints (iface_at (end_of d) a) ≡ o → ConcludesAs (call (suc (suc (suc (suc n)))) (root_of d) m s) s (root_decision d o)
+  root_ends n d new m s None e = root_drops v.sets a chains d (maps.keys v.endpoints) given.tree (suc (suc n)) m s (there_or_not d None e)
   root_ends n d new m s (Some x) e =
-      concludes_from _ _ s _ (root_leads (suc (suc n)) d m s (Some x) e)
-      (goto_concludes _ s _ (endpoint_ends n d (iface_at (end_of d) a) x e new m s))
+      let arrived = root_arrives v.sets a chains d (maps.keys v.endpoints) given.tree (suc (suc n)) m s (there_or_not d (Some x) e) in
+      concludes_from _ _ s _ arrived.2 (goto_concludes _ s _ (at_endpoint arrived.0 arrived.1))
+    where
+      at_endpoint : (k : ℕ) → (k ≡ suc (suc n)) ⊎ (k ≡ suc (suc (suc n))) → ConcludesAs (call k (endpoint_chain d (iface_at (end_of d) a)) m s) s (view_endpoint_verdict v d x a)
+      at_endpoint k (inl h) = subst (λ j. ConcludesAs (call j (endpoint_chain d (iface_at (end_of d) a)) m s) s (view_endpoint_verdict v d x a)) (sym h) (endpoint_ends n d (iface_at (end_of d) a) x e new m s)
+      at_endpoint k (inr h) = subst (λ j. ConcludesAs (call j (endpoint_chain d (iface_at (end_of d) a)) m s) s (view_endpoint_verdict v d x a)) (sym h) (endpoint_ends (suc n) d (iface_at (end_of d) a) x e new m s)

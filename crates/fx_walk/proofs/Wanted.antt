@@ -48,7 +48,7 @@ use Rattle.fx_model.specs.Active.{applies, is_active, active_policies}
 use Rattle.fx_model.specs.Policy.{side_matches, rule_matches, There, met_rules, rules_of, there_or_missing, listed_profile, tiers_verdict, profiles_verdict, tiers_for, endpoint_verdict, with_iface, endpoint_at, verdict_at, side_verdict, both_sides, packet_verdict}
 use Rattle.fx_model.specs.ViewPolicy.{view_side_matches, view_rule_matches, HasFormedRules, met_view_rules, listed_of, view_tier, view_listed, view_endpoint_verdict, view_verdict_at, view_verdict}
 use Rattle.fx_walk.specs.Serving.{IsServedApart}
-use Rattle.fx_walk.proofs.Lookups.{is, last, is_itself, is_same, get-collected, first, second}
+use Rattle.fx_laws.proofs.EntryLookups.{is, last, is_itself, is_same, get-collected, first, second}
 use Rattle.fx_walk.proofs.KnownSets.{IsKnown, HasPortsIfGiven, ports_allowed, plain_rules, active_stand}
 use Rattle.fx_walk.proofs.SetTruth.{side_same}
 use Rattle.fx_walk.proofs.WantedTiers.{tiers_same}

@@ -24,7 +24,7 @@ use Rattle.fx_model.specs.TierOrder as order
 use Rattle.fx_model.specs.Views.{view_of, view_rule, view_policy, policy_key, policy_entry, key_in_place, view_tiers}
 use Rattle.fx_model.specs.ViewPolicy.{met_view_rules, rules_of_policy, view_tier}
 use Rattle.fx_model.proofs.Orders.{policy_total}
-use Rattle.fx_walk.proofs.Lookups.{is, last, is_itself, is_same, get-collected}
+use Rattle.fx_laws.proofs.EntryLookups.{is, last, is_itself, is_same, get-collected}
 use Rattle.fx_walk.proofs.TierLists.{AllInTiers, tiers_all, tiers-map}
 
 module _ (dg : Digest) (R : Resources) (apart : (a b : PolicyId) (p q : Policy) → maps.get R.policies a ≡ Some p → maps.get R.policies b ≡ Some q → policy_key dg a ≡ policy_key dg b → a ≡ b) where

@@ -2,3 +2,4 @@ pub mod WalkEnds
 pub mod Endings
 pub mod Serving
 pub mod PacketPaths
+pub mod TreeLaws

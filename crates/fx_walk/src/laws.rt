@@ -3,11 +3,13 @@ ghost use Rattle.std.specs.Prelude.{◌≡◌, true};
 ghost use Rattle.std.specs.FinMap as map;
 ghost use Rattle.fx_model.specs.declared.view.View.{View};
 ghost use Rattle.fx_model.specs.Machine.{RunHasOneEnd};
-ghost use Rattle.fx_model.specs.Tables.{forward, tables_of};
+ghost use Rattle.fx_model.specs.Tables.{forward};
+ghost use Rattle.fx_model.specs.ViewTables.{tables_of};
 ghost use Rattle.fx_model.specs.ViewPolicy.{PolicyIsKept, TablesAgree};
 ghost use Rattle.fx_walk.specs.Endings.{RulesEndAsTheySay};
 ghost use Rattle.fx_walk.specs.PacketPaths.{PacketHasOnePath, WalkIsRun};
 ghost use Rattle.fx_walk.specs.Serving.{ServedEndpointsAreApart};
+ghost use Rattle.fx_walk.specs.TreeLaws.{TreesArrive, TreesDrop};
 
 /// A run has one end.
 pub fn run_has_one_end()
@@ -27,6 +29,13 @@ pub fn packet_has_one_path()
 /// The rendered rules of a policy or a profile do with each packet what the rules say.
 pub fn rules_end_as_they_say()
     ensures { RulesEndAsTheySay }
+{}
+
+/// Over the tree of dispatch chains a packet comes to the chain of its interface's endpoint, as over one chain with a rule
+/// for each interface; a packet of any other interface is dropped.
+pub fn trees_lead_to_endpoints()
+    ensures arrives { TreesArrive }
+    ensures drops { TreesDrop }
 {}
 
 /// The tables of a view give each first packet the view's verdict and reasons.

@@ -4,7 +4,8 @@
 pub use decision::decide;
 pub use laws::{
     first_chain_is_there, packet_has_one_path, policy_is_kept, rules_end_as_they_say,
-    run_has_one_end, served_endpoints_are_apart, tables_agree, walk_is_a_run,
+    run_has_one_end, served_endpoints_are_apart, tables_agree, trees_lead_to_endpoints,
+    walk_is_a_run,
 };
 pub use outcome::{Hop, Outcome};
 pub use path::trace;

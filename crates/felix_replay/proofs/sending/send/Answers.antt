@@ -3,6 +3,7 @@ use Rattle.std.proofs.lemmas.Result.{err_from_is_err_and}
 use Rattle.fx_base.proofs.Compose.{Appends-more}
 use Rattle.fx_model.specs.declared.view.View.{View}
 use Rattle.fx_model.specs.Messages.{flush, step, next_message, differences}
+use Rattle.fx_sequencer.specs.declared.sides.Sides.{Sides}
 use Rattle.felix_replay.specs.Output.{messages_text, first_text}
 use Rattle.felix_replay.proofs.Writings.{Writes-stopped}
 use Rattle.felix_replay.proofs.SendingLemmas.{messages_step, messages_end, reached, none_left, one_fewer, nearer, stays, nothing_told}
@@ -11,29 +12,31 @@ use Rattle.felix_replay.proofs.sending.send.Goals as goal
 pub loop-count-smaller : goal.loop-count-smaller
 loop-count-smaller g c =
     let s = c.in_ok-send_next.ensures in
-    let there : is_some (next_message c.loop-count.sent c.args.wanted.now) ≡ true = sym s.found ∙ c.if-branch.true in
-    let fewer = nearer c.loop-count.sent c.args.wanted.now there in
-    omega (arith, fewer, ap (λ (v : View). differences v c.args.wanted.now) s.step)
+    let there : is_some (next_message c.loop-count.sequencer.sent c.loop-count.sequencer.now) ≡ true = sym s.found ∙ c.if-branch.true in
+    let fewer = nearer c.loop-count.sequencer.sent c.loop-count.sequencer.now there in
+    omega (arith, fewer, ap (λ (v : Sides). differences v.sent v.now) s.step)
 
 pub loop-count-preserved : goal.loop-count-preserved
 loop-count-preserved g c =
     let i = c.loop-count.invariant in
     let s = c.in_ok-send_next.ensures in
-    let w = c.args.wanted.now in
-    let there : is_some (next_message c.loop-count.sent w) ≡ true = sym s.found ∙ c.if-branch.true in
-    let first = first_text (next_message c.loop-count.sent w) in
+    let w = c.loop-count.sequencer.now in
+    let there : is_some (next_message c.loop-count.sequencer.sent w) ≡ true = sym s.found ∙ c.if-branch.true in
+    let first = first_text (next_message c.loop-count.sequencer.sent w) in
     record {
       output = (
         i.output.0 ++ first,
         Appends-more _ _ _ i.output.0 first i.output.1 s.writes.whole,
         append_assoc i.output.0 first _
-            ∙ ap (λ (v : View). i.output.0 ++ (first ++ messages_text v w)) s.step
-            ∙ ap (λ (l : List ℕ). i.output.0 ++ l) (sym (messages_step c.loop-count.sent w))
+            ∙ ap (λ (v : Sides). i.output.0 ++ (first ++ messages_text v.sent v.now)) s.step
+            ∙ ap (λ (l : List ℕ). i.output.0 ++ l) (sym (messages_step c.loop-count.sequencer.sent w))
             ∙ i.output.2,
       );
-      count = omega (arith, one_fewer c.loop-count.sent w there, ap (λ (v : View). length (flush None v w).messages) s.step, c.saturating_add-count.ensures, i.count);
+      count = omega (arith, one_fewer c.loop-count.sequencer.sent w there, ap (λ (v : Sides). length (flush None v.sent v.now).messages) s.step, c.saturating_add-count.ensures, i.count);
       fits = omega (arith, c.saturating_add-count.ensures);
       later = omega (arith, s.writes.later, i.later);
+      now = ap (λ (v : Sides). v.now) s.step ∙ i.now;
+      driven = s.driven;
     }
 
 pub returns-in_err-send_next-clause-writes : goal.returns-in_err-send_next-clause-writes
@@ -41,34 +44,37 @@ returns-in_err-send_next-clause-writes g c =
     let p = err_from_is_err_and c.from_residual.result c.from_residual.ensures.1 in
     let i = c.loop-count.invariant in
     let s = c.in_err-send_next.ensures.writes in
-    let w = c.args.wanted.now in
-    let first = first_text (next_message c.loop-count.sent w) in
-    let whole : i.output.0 ++ (first ++ messages_text (step c.loop-count.sent w) w) ≡ messages_text c.args.sent.now w =
-    ap (λ (l : List ℕ). i.output.0 ++ l) (sym (messages_step c.loop-count.sent w)) ∙ i.output.2 in
-    rw (p.1, p.2, ← whole) (Writes-stopped (g.K.Sink.state c.args.sink.now) (g.K.Sink.state c.loop-count.sink) _ i.output.0 first (messages_text (step c.loop-count.sent w) w) _ i.output.1 i.later s.prefix s.later s.cause)
+    let w = c.loop-count.sequencer.now in
+    let first = first_text (next_message c.loop-count.sequencer.sent w) in
+    let whole : i.output.0 ++ (first ++ messages_text (step c.loop-count.sequencer.sent w) w) ≡ messages_text c.args.sequencer.now.sent c.args.sequencer.now.now =
+    ap (λ (l : List ℕ). i.output.0 ++ l) (sym (messages_step c.loop-count.sequencer.sent w)) ∙ i.output.2 in
+    rw (p.1, p.2, ← whole) (Writes-stopped (g.K.Sink.state c.args.sink.now) (g.K.Sink.state c.loop-count.sink) _ i.output.0 first (messages_text (step c.loop-count.sequencer.sent w) w) _ i.output.1 i.later s.prefix s.later s.cause)
 
 pub returns-clause-count : goal.returns-clause-count
 returns-clause-count g c =
     let s = c.in_ok-send_next.ensures in
-    let none : is_some (next_message c.loop-count.sent c.args.wanted.now) ≡ false = sym s.found ∙ c.if-branch.false in
-    omega (arith, none_left c.loop-count.sent c.args.wanted.now none, c.loop-count.invariant.count, c.loop-count.invariant.fits)
+    let none : is_some (next_message c.loop-count.sequencer.sent c.loop-count.sequencer.now) ≡ false = sym s.found ∙ c.if-branch.false in
+    omega (arith, none_left c.loop-count.sequencer.sent c.loop-count.sequencer.now none, c.loop-count.invariant.count, c.loop-count.invariant.fits)
 
 pub returns-clause-reached : goal.returns-clause-reached
 returns-clause-reached g c =
     let s = c.in_ok-send_next.ensures in
-    let none : is_some (next_message c.loop-count.sent c.args.wanted.now) ≡ false = sym s.found ∙ c.if-branch.false in
-    s.step ∙ stays c.loop-count.sent c.args.wanted.now none ∙ reached c.loop-count.sent c.args.wanted.now none
+    let none : is_some (next_message c.loop-count.sequencer.sent c.loop-count.sequencer.now) ≡ false = sym s.found ∙ c.if-branch.false in
+    let both : View → View → Sides = λ v w. record { sent = v; now = w } in
+    s.step
+    ∙ ap (λ v. both v c.loop-count.sequencer.now) (stays c.loop-count.sequencer.sent c.loop-count.sequencer.now none ∙ reached c.loop-count.sequencer.sent c.loop-count.sequencer.now none)
+    ∙ ap (λ v. both v v) c.loop-count.invariant.now
 
 pub returns-clause-writes : goal.returns-clause-writes
 returns-clause-writes g c =
     let i = c.loop-count.invariant in
     let s = c.in_ok-send_next.ensures in
-    let w = c.args.wanted.now in
-    let none : is_some (next_message c.loop-count.sent w) ≡ false = sym s.found ∙ c.if-branch.false in
-    let whole : i.output.0 ++ first_text (next_message c.loop-count.sent w) ≡ messages_text c.args.sent.now w =
-    ap (λ (l : List ℕ). i.output.0 ++ l) (nothing_told c.loop-count.sent w none ∙ sym (messages_end c.loop-count.sent w none)) ∙ i.output.2 in
+    let w = c.loop-count.sequencer.now in
+    let none : is_some (next_message c.loop-count.sequencer.sent w) ≡ false = sym s.found ∙ c.if-branch.false in
+    let whole : i.output.0 ++ first_text (next_message c.loop-count.sequencer.sent w) ≡ messages_text c.args.sequencer.now.sent c.args.sequencer.now.now =
+    ap (λ (l : List ℕ). i.output.0 ++ l) (nothing_told c.loop-count.sequencer.sent w none ∙ sym (messages_end c.loop-count.sequencer.sent w none)) ∙ i.output.2 in
     record {
-      whole = rw (← whole) (Appends-more _ _ _ i.output.0 (first_text (next_message c.loop-count.sent w)) i.output.1 s.writes.whole);
+      whole = rw (← whole) (Appends-more _ _ _ i.output.0 (first_text (next_message c.loop-count.sequencer.sent w)) i.output.1 s.writes.whole);
       prefix = tt;
       later = omega (arith, s.writes.later, i.later);
       cause = tt;

@@ -7,5 +7,5 @@ pub returns-clause-invariant : goal.returns-clause-invariant
 returns-clause-invariant g c = record {
   formed = ap are_formed c.in_ok-apply.ensures.made ∙ are_formed-after c.args.self.now.store.resources c.requires.invariant.formed c.args.update c.requires.fits.0;
   claims = c.in_ok-apply.ensures.claims;
-  sent = record { closed = c.requires.invariant.sent.closed; rendered = c.requires.invariant.sent.rendered };
+  sent = c.requires.invariant.sent;
 }

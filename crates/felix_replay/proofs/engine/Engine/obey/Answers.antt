@@ -5,3 +5,6 @@ returns-in-Err-clause-writes g c = rw c.in-Err.is c.refuse.ensures.writes
 
 pub returns-in-Ok-Packet-clause-writes : goal.returns-in-Ok-Packet-clause-writes
 returns-in-Ok-Packet-clause-writes g c = rw (c.in-Ok-Packet.is, c.in-Ok-Packet.field-0-is) c.put_packet.ensures.writes
+
+pub returns-in-Ok-Flush-clause-writes : goal.returns-in-Ok-Flush-clause-writes
+returns-in-Ok-Flush-clause-writes g c = rw (c.in-Ok-Flush.is, c.in-Ok-Flush.field-0-is) c.flush.ensures.writes

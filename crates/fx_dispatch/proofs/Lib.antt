@@ -1,0 +1,12 @@
+pub mod SharedLemmas
+pub mod OwnWays
+pub mod Lookups
+pub mod TreeLookups
+pub mod Written
+pub mod Changed
+pub mod Writable
+pub mod Deletable
+pub mod Planned
+pub mod Once
+pub mod Others
+pub mod Endpoints

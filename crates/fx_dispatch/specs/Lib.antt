@@ -1,0 +1,5 @@
+pub mod SameWays
+pub mod Ways
+pub mod Differences
+pub mod Narrowing
+pub mod Plans

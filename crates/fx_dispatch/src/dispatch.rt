@@ -1,0 +1,122 @@
+//! The dispatch chains of a node, as its interfaces come and go.
+ghost use Rattle.std.specs.Prelude.{◌≡◌, ◌≤◌, [], length, IfOk, OnOk, OnErr};
+ghost use Rattle.fx_base.specs.Set as set;
+ghost use Rattle.fx_model.specs.Tree.{dispatch_chains_of};
+ghost use Rattle.fx_dispatch.specs.Plans.{Replaces, ChangesOnly, AreWritable, AreDeletable};
+
+use crate::interfaces::{Interface, Interfaces};
+use crate::names::root_name;
+use crate::plan::{Plan, Writes};
+use crate::rules::way_rules;
+use crate::tree::Tree;
+use fx_base::{Memory, Seq, Text};
+use std::alloc::Global;
+use std::marker::Model;
+
+/// The local interfaces, seen as the set of their names.
+#[derive(Drop)]
+pub struct Dispatch {
+    alloc: Global,
+    names: Interfaces,
+}
+
+impl Model for Dispatch {
+    ghost use Rattle.std.specs.Ordering.{nat_cmp};
+    ghost use Rattle.std.specs.Cmp.Lexicographic.{slice_cmp};
+    ghost use Rattle.std.specs.Coded.{coded_ℕ, coded_list};
+    ghost use Rattle.fx_base.specs.Set as set;
+
+    ghost Value = { set.Set (slice_cmp nat_cmp) };
+
+    ghost coded = { set.code (coded_list coded_ℕ) };
+
+    ghost view = { λ d. d.names };
+}
+
+/// The dispatch chains of a node without interfaces.
+pub fn first_chains(alloc: Global) -> Result<Writes, Memory>
+    ensures { IfOk result (λ chains. chains ≡ dispatch_chains_of []) }
+{
+    let none = Seq::new(alloc);
+    let mut chains = Seq::new(alloc);
+    chains.push((root_name(true), way_rules(alloc, true, &none)?))?;
+    chains.push((root_name(false), way_rules(alloc, false, &none)?))?;
+    Ok(chains)
+}
+
+// What takes the chains of these interfaces to those of others.
+fn plan_between(alloc: Global, old: &Interfaces, new: &Interfaces) -> Result<Plan, Memory>
+    ensures written { IfOk result (λ plan. Replaces old.now new.now plan.writes plan.deletes) }
+    ensures changed { IfOk result (λ plan. ChangesOnly old.now new.now plan.writes plan.deletes) }
+    ensures writable { IfOk result (λ plan. AreWritable old.now new.now plan.writes) }
+    ensures deletable { IfOk result (λ plan. AreDeletable old.now plan.writes plan.deletes) }
+{
+    let before = Tree::new(alloc, old)?;
+    let after = Tree::new(alloc, new)?;
+    let plan = Plan::between(alloc, &before, &after)?;
+    Ok(plan)
+}
+
+// Nothing to do where nothing changes.
+fn no_plan(alloc: Global, names: &Interfaces) -> Plan
+    ensures written { Replaces names.now names.now result.writes result.deletes }
+    ensures changed { ChangesOnly names.now names.now result.writes result.deletes }
+    ensures writable { AreWritable names.now names.now result.writes }
+    ensures deletable { AreDeletable names.now result.writes result.deletes }
+{
+    Plan::empty(alloc)
+}
+
+impl Dispatch {
+    /// No interface.
+    pub fn new(alloc: Global) -> Dispatch
+        ensures { result ≡ set.empty }
+    {
+        Dispatch {
+            alloc,
+            names: Interfaces::new(alloc),
+        }
+    }
+
+    /// Adds an interface. Nothing is planned where it is there.
+    pub fn put(&mut self, iface: &Text) -> Result<Plan, Memory>
+        requires { length iface.now ≤ 15 }
+        ensures interfaces { OnOk result (self.new ≡ set.insert self.old iface.now) }
+        ensures err { OnErr result (self.new ≡ self.old) }
+        ensures written { IfOk result (λ plan. Replaces self.old self.new plan.writes plan.deletes) }
+        ensures changed { IfOk result (λ plan. ChangesOnly self.old self.new plan.writes plan.deletes) }
+        ensures writable { IfOk result (λ plan. AreWritable self.old self.new plan.writes) }
+        ensures deletable { IfOk result (λ plan. AreDeletable self.old plan.writes plan.deletes) }
+    {
+        let name = Interface::join(b"", iface.bytes());
+        if self.names.contains(&name) {
+            return Ok(no_plan(self.alloc, &self.names));
+        }
+        let mut names = self.names.clone()?;
+        names.insert(name)?;
+        let plan = plan_between(self.alloc, &self.names, &names)?;
+        self.names = names;
+        Ok(plan)
+    }
+
+    /// Removes an interface. Nothing is planned where it isn't there.
+    pub fn remove(&mut self, iface: &Text) -> Result<Plan, Memory>
+        requires { length iface.now ≤ 15 }
+        ensures interfaces { OnOk result (self.new ≡ set.remove self.old iface.now) }
+        ensures err { OnErr result (self.new ≡ self.old) }
+        ensures written { IfOk result (λ plan. Replaces self.old self.new plan.writes plan.deletes) }
+        ensures changed { IfOk result (λ plan. ChangesOnly self.old self.new plan.writes plan.deletes) }
+        ensures writable { IfOk result (λ plan. AreWritable self.old self.new plan.writes) }
+        ensures deletable { IfOk result (λ plan. AreDeletable self.old plan.writes plan.deletes) }
+    {
+        let name = Interface::join(b"", iface.bytes());
+        if !self.names.contains(&name) {
+            return Ok(no_plan(self.alloc, &self.names));
+        }
+        let mut names = self.names.clone()?;
+        names.remove(&name);
+        let plan = plan_between(self.alloc, &self.names, &names)?;
+        self.names = names;
+        Ok(plan)
+    }
+}

@@ -1,0 +1,19 @@
+//! The dispatch chains of a node's interfaces, and what to write and delete where an interface comes or goes.
+#![tactic(auto)]
+
+pub use dispatch::{Dispatch, first_chains};
+pub use names::{child_name, root_name};
+pub use plan::{Plan, Writes};
+pub use way::NextByte;
+
+mod branches;
+mod dispatch;
+mod interfaces;
+mod names;
+mod plan;
+mod rules;
+mod shared;
+#[cfg(test)]
+mod tests;
+mod tree;
+mod way;

@@ -1,0 +1,11 @@
+pub mod Stepped
+pub mod SetSteps
+pub mod SetMembers
+pub mod Told
+pub mod Elsewhere
+pub mod ChainSteps
+pub mod Interfaces
+pub mod Steps
+pub mod EndpointSteps
+pub mod Following
+pub mod Bare

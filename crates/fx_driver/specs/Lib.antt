@@ -1,0 +1,4 @@
+pub mod Driven
+pub mod Stepping
+pub mod Members
+pub mod Drives

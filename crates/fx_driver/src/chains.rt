@@ -1,0 +1,158 @@
+//! Chains, one by one and in pairs.
+ghost use Rattle.std.specs.Prelude.{◌≡◌, ◌≢◌, OnOk, OnErr, true};
+ghost use Rattle.std.specs.List.{AllByRecursion};
+ghost use Rattle.std.specs.FinMap as maps;
+ghost use Rattle.fx_base.specs.Extended.{extended};
+ghost use Rattle.fx_model.specs.Formed.{is_formed_view_endpoint, is_formed_view_profile};
+ghost use Rattle.fx_model.specs.Tables.{forward};
+ghost use Rattle.fx_model.specs.ViewTables.{policy_chains, profile_chains, endpoint_chains};
+ghost use Rattle.fx_model.specs.Writing.{CanBeWritten, IsWritable};
+ghost use Rattle.fx_tables.specs.Leads.{NoneLeadsTo};
+ghost use Rattle.fx_dispatch.specs.Plans.{CanBeDeleted, applied, without};
+ghost use Rattle.fx_driver.specs.Driven.{HasFirst};
+
+use fx_base::{ChainName, Memory, NameKey, Seq, Text};
+use fx_chains::{endpoint_chain, endpoint_name, policy_name, profile_name};
+use fx_dispatch::{Plan, Writes};
+use fx_model::{ChainRule, ViewEndpoint, ViewPolicy, ViewProfile};
+use fx_rules::{policy_chain, profile_chain};
+use fx_tables::Tables;
+use std::alloc::Global;
+
+/// Writes a chain.
+pub fn write(name: ChainName, rules: Seq<ChainRule>, tables: &mut Tables) -> Result<(), Memory>
+    requires { IsWritable tables.old.sets tables.old.chains name rules }
+    ensures ok { OnOk result (tables.new ≡ record tables.old { chains = maps.insert tables.old.chains name rules }) }
+    ensures err { OnErr result (tables.new ≡ tables.old) }
+    ensures first { HasFirst tables.old.chains → HasFirst tables.new.chains }
+{
+    tables.write_chain(name, rules)?;
+    Ok(())
+}
+
+/// Deletes a chain that isn't the first.
+pub fn delete(name: ChainName, tables: &mut Tables)
+    requires unused { NoneLeadsTo tables.old.chains name }
+    requires other { forward ≢ name }
+    ensures gone { tables.new ≡ record tables.old { chains = maps.remove tables.old.chains name } }
+    ensures first { HasFirst tables.old.chains → HasFirst tables.new.chains }
+{
+    tables.delete_chain(name);
+}
+
+/// Deletes two chains that lead not to one another.
+pub fn delete_both(to: ChainName, from: ChainName, tables: &mut Tables)
+    requires unused_to { NoneLeadsTo tables.old.chains to }
+    requires unused_from { NoneLeadsTo tables.old.chains from }
+    requires other_to { forward ≢ to }
+    requires other_from { forward ≢ from }
+    ensures gone { tables.new ≡ record tables.old { chains = maps.remove (maps.remove tables.old.chains to) from } }
+    ensures first { HasFirst tables.old.chains → HasFirst tables.new.chains }
+{
+    delete(to, tables);
+    delete(from, tables);
+}
+
+/// Writes a policy's two chains.
+pub fn write_policy(
+    alloc: Global,
+    key: &NameKey,
+    policy: &ViewPolicy,
+    tables: &mut Tables,
+) -> Result<(), Memory>
+    requires { CanBeWritten tables.old.sets tables.old.chains (policy_chains (key.now, policy.now)) }
+    ensures ok { OnOk result (tables.new ≡ record tables.old {
+      chains = extended tables.old.chains
+          (policy_chains (key.now, policy.now));
+    }) }
+    ensures first { HasFirst tables.old.chains → HasFirst tables.new.chains }
+{
+    let ingress = policy_chain(alloc, policy, true)?;
+    write(policy_name(true, key), ingress, tables)?;
+    let egress = policy_chain(alloc, policy, false)?;
+    write(policy_name(false, key), egress, tables)?;
+    Ok(())
+}
+
+/// Writes a profile's two chains.
+pub fn write_profile(
+    alloc: Global,
+    key: &NameKey,
+    profile: &ViewProfile,
+    tables: &mut Tables,
+) -> Result<(), Memory>
+    requires writable { CanBeWritten tables.old.sets tables.old.chains (profile_chains (key.now, profile.now)) }
+    requires formed { is_formed_view_profile (key.now, profile.now) ≡ true }
+    ensures ok { OnOk result (tables.new ≡ record tables.old {
+      chains = extended tables.old.chains
+          (profile_chains (key.now, profile.now));
+    }) }
+    ensures first { HasFirst tables.old.chains → HasFirst tables.new.chains }
+{
+    let ingress = profile_chain(alloc, profile, true)?;
+    write(profile_name(true, key), ingress, tables)?;
+    let egress = profile_chain(alloc, profile, false)?;
+    write(profile_name(false, key), egress, tables)?;
+    Ok(())
+}
+
+/// Writes an endpoint's two chains.
+pub fn write_endpoint(
+    alloc: Global,
+    iface: &Text,
+    endpoint: &ViewEndpoint,
+    tables: &mut Tables,
+) -> Result<(), Memory>
+    requires writable { CanBeWritten tables.old.sets tables.old.chains (endpoint_chains (iface.now, endpoint.now)) }
+    requires formed { is_formed_view_endpoint (iface.now, endpoint.now) ≡ true }
+    ensures ok { OnOk result (tables.new ≡ record tables.old {
+      chains = extended tables.old.chains
+          (endpoint_chains (iface.now, endpoint.now));
+    }) }
+    ensures first { HasFirst tables.old.chains → HasFirst tables.new.chains }
+{
+    let ingress = endpoint_chain(alloc, endpoint, true)?;
+    write(endpoint_name(true, iface), ingress, tables)?;
+    let egress = endpoint_chain(alloc, endpoint, false)?;
+    write(endpoint_name(false, iface), egress, tables)?;
+    Ok(())
+}
+
+/// Writes chains, one after another.
+pub fn write_all(writes: Writes, tables: &mut Tables) -> Result<(), Memory>
+    requires { CanBeWritten tables.old.sets tables.old.chains writes }
+    ensures ok { OnOk result (tables.new ≡ record tables.old { chains = extended tables.old.chains writes }) }
+    ensures first { HasFirst tables.old.chains → HasFirst tables.new.chains }
+{
+    for (name, rules) in writes.into_vec() {
+        write(name, rules, tables)?;
+    }
+    Ok(())
+}
+
+fn delete_all(names: Seq<ChainName>, tables: &mut Tables)
+    requires unused { CanBeDeleted tables.old.chains names }
+    requires others { AllByRecursion (λ name. forward ≢ name) names }
+    ensures gone { tables.new ≡ record tables.old { chains = without tables.old.chains names } }
+    ensures first { HasFirst tables.old.chains → HasFirst tables.new.chains }
+{
+    for name in names.into_vec() {
+        delete(name, tables);
+    }
+}
+
+/// Carries out a plan.
+pub fn carry_out(plan: Plan, tables: &mut Tables) -> Result<(), Memory>
+    requires writable { CanBeWritten tables.old.sets tables.old.chains plan.writes }
+    requires unused { CanBeDeleted (extended tables.old.chains plan.writes) plan.deletes }
+    requires others { AllByRecursion (λ name. forward ≢ name) plan.deletes }
+    ensures ok { OnOk result (tables.new ≡ record tables.old {
+      chains = applied plan.writes plan.deletes tables.old.chains;
+    }) }
+    ensures first { HasFirst tables.old.chains → HasFirst tables.new.chains }
+{
+    let Plan { writes, deletes } = plan;
+    write_all(writes, tables)?;
+    delete_all(deletes, tables);
+    Ok(())
+}

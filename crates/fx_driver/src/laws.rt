@@ -1,0 +1,39 @@
+//! What chains stand in the tables of a view, and how they change where one of its keys does. Each law is a contract; no function
+//! does anything.
+ghost use Rattle.std.specs.Prelude.{◌≡◌, List, ℕ, Some, true};
+ghost use Rattle.std.specs.Prelude.{option_map as mapped};
+ghost use Rattle.std.specs.FinMap as map;
+ghost use Rattle.fx_base.specs.Extended.{put_or_removed, taken_from};
+ghost use Rattle.fx_model.specs.declared.view.View.{View};
+ghost use Rattle.fx_model.specs.Directions.{Direction, Ingress, Egress};
+ghost use Rattle.fx_model.specs.Tables.{ChainName, forward, forward_rules, policy_chain, policy_rules, profile_chain, profile_rules, endpoint_chain, endpoint_rules};
+ghost use Rattle.fx_model.specs.Tree.{tree_of};
+ghost use Rattle.fx_driver.specs.Driven.{driven_chains};
+ghost use Rattle.fx_laws.specs.DispatchNames.{is_dispatch};
+
+/// Each chain of a view stands under its own name, and no other is in its place.
+pub fn chains_stand_under_their_names()
+    ensures policies { (v : View) (d : Direction) (key : List ℕ)
+        → map.get (driven_chains v) (policy_chain d key) ≡ mapped (policy_rules d) (map.get v.policies key) }
+    ensures profiles { (v : View) (d : Direction) (key : List ℕ)
+        → map.get (driven_chains v) (profile_chain d key) ≡ mapped (profile_rules d) (map.get v.profiles key) }
+    ensures endpoints { (v : View) (d : Direction) (iface : List ℕ)
+        → map.get (driven_chains v) (endpoint_chain d iface) ≡ mapped (endpoint_rules d) (map.get v.endpoints iface) }
+    ensures dispatch { (v : View) (name : ChainName) → is_dispatch name ≡ true
+        → map.get (driven_chains v) name ≡ map.get (tree_of (map.keys v.endpoints)) name }
+    ensures first { (v : View) → map.get (driven_chains v) forward ≡ Some forward_rules }
+{}
+
+/// Where a policy or a profile is taken from another view, or is gone there, its own two chains alone change.
+pub fn one_key_changes_its_own_chains()
+    ensures policies { (sent now : View) (key : List ℕ)
+        → driven_chains (record sent { policies = taken_from sent.policies now.policies key })
+        ≡ put_or_removed (put_or_removed (driven_chains sent)
+        (policy_chain Ingress key) (mapped (policy_rules Ingress) (map.get now.policies key)))
+        (policy_chain Egress key) (mapped (policy_rules Egress) (map.get now.policies key)) }
+    ensures profiles { (sent now : View) (key : List ℕ)
+        → driven_chains (record sent { profiles = taken_from sent.profiles now.profiles key })
+        ≡ put_or_removed (put_or_removed (driven_chains sent)
+        (profile_chain Ingress key) (mapped (profile_rules Ingress) (map.get now.profiles key)))
+        (profile_chain Egress key) (mapped (profile_rules Egress) (map.get now.profiles key)) }
+{}

@@ -1,0 +1,11 @@
+//! The view that was sent, the view that is wanted now, and the next message from one towards the other.
+#![tactic(auto)]
+
+pub use sequencer::Sequencer;
+pub use sides::Sides;
+
+mod held_sets;
+mod sequencer;
+mod sides;
+#[cfg(test)]
+mod tests;

@@ -1,0 +1,224 @@
+//! Felix's event sequencer.
+//!
+//! - **Takes** what the nodes tell of the view: policies, profiles and endpoints as a `ViewSink`, sets and their members as a
+//!   `SetSink`. These calls change the view that is wanted now, and no other.
+//! - **Gives** the next message from the view that was sent towards that one, by `next_message`. `sent` marks it as sent. So of
+//!   what comes and goes between two messages only the difference is told.
+//! - **Holds** both views whole.
+ghost use Rattle.std.specs.Prelude.{◌≡◌, ◌↔◌, IsOk, OnOk, OnErr, IsSome, IsNone, Some, true, false, option_map};
+ghost use Rattle.std.specs.FinMap as map;
+ghost use Rattle.fx_base.specs.Set as set;
+ghost use Rattle.fx_model.specs.Lent.{change_of};
+ghost use Rattle.fx_model.specs.Messages.{members_of, next_message, step};
+ghost use Rattle.fx_model.specs.Views.{empty_view};
+ghost use Rattle.fx_sequencer.specs.Sides.{SameSentAndSets};
+
+use crate::held_sets::{put_member, remove_member};
+use crate::sides::Sides;
+use fx_base::{Memory, NameKey, SetName, Text};
+use fx_model::{
+    Member, MemberSet, Message, SetSink, View, ViewEndpoint, ViewPolicy, ViewProfile, ViewSink,
+    next_message, place_of, take_at,
+};
+use std::alloc::Global;
+use std::marker::Model;
+
+/// The sent view and the one that is wanted now. Want of memory leaves both as they were.
+#[derive(Drop)]
+pub struct Sequencer {
+    alloc: Global,
+    sides: Sides,
+}
+
+impl Model for Sequencer {
+    ghost use Rattle.fx_sequencer.specs.declared.sides.Sides.{Sides};
+    ghost use Rattle.fx_sequencer.specs.contracts.sides.Sides as both;
+
+    ghost Value = { Sides };
+
+    ghost coded = { both.the_row.coded };
+
+    ghost view = { λ a. a.sides };
+}
+
+impl Sequencer {
+    pub fn new(alloc: Global) -> Self
+        ensures { result ≡ record { sent = empty_view; now = empty_view } }
+    {
+        Sequencer {
+            alloc,
+            sides: Sides::new(alloc),
+        }
+    }
+
+    /// The next message, if the views differ.
+    #[tactic(auto, using(crate::proofs::Silent::equal_if_silent, crate::proofs::Silent::silent_if_equal))]
+    pub fn peek(&self) -> Option<Message<'_>>
+        ensures message { option_map change_of result ≡ next_message self.now.sent self.now.now }
+        ensures none { IsNone result ↔ (self.now.sent ≡ self.now.now) }
+    {
+        next_message(&self.sides.sent, &self.sides.now)
+    }
+
+    /// Marks the next message as sent.
+    pub fn sent(&mut self) -> Result<(), Memory>
+        requires { IsSome (next_message self.old.sent self.old.now) }
+        ensures ok { OnOk result (self.new ≡ record self.old { sent = step self.old.sent self.old.now }) }
+        ensures err { OnErr result (self.new ≡ self.old) }
+    {
+        if let Some(message) = next_message(&self.sides.sent, &self.sides.now) {
+            let place = place_of(&message)?;
+            take_at(&mut self.sides.sent, &self.sides.now, place)?;
+        }
+        Ok(())
+    }
+
+    /// Puts a whole view in the place of the one that is wanted now. Of the two only what differs is told.
+    pub fn want(&mut self, view: View)
+        ensures { self.new ≡ record self.old { now = view } }
+    {
+        self.sides.now = view;
+    }
+
+    /// The view that the messages so far have made.
+    pub fn sent_view(&self) -> &View
+        ensures { result.now ≡ self.now.sent }
+    {
+        &self.sides.sent
+    }
+
+    /// The view that is wanted now.
+    pub fn now(&self) -> &View
+        ensures { result.now ≡ self.now.now }
+    {
+        &self.sides.now
+    }
+}
+
+impl ViewSink for Sequencer {
+    ghost policies = { λ a. a.now.policies };
+
+    ghost profiles = { λ a. a.now.profiles };
+
+    ghost endpoints = { λ a. a.now.endpoints };
+
+    ghost is_kept = { SameSentAndSets };
+
+    fn policy_put(&mut self, key: NameKey, policy: ViewPolicy) -> Result<(), Memory>
+        ensures ok { OnOk result (self.new ≡ record self.old {
+          now = record self.old.now { policies = map.insert self.old.now.policies key policy };
+        }) }
+        ensures err { OnErr result (self.new ≡ self.old) }
+    {
+        self.sides.now.policies.insert(&key, policy)?;
+        Ok(())
+    }
+
+    fn policy_gone(&mut self, key: NameKey) -> Result<(), Memory>
+        requires { IsSome (map.get self.old.now.policies key) }
+        ensures ok { IsOk result }
+        ensures gone { self.new ≡ record self.old {
+          now = record self.old.now { policies = map.remove self.old.now.policies key };
+        } }
+    {
+        self.sides.now.policies.remove(&key);
+        Ok(())
+    }
+
+    fn profile_put(&mut self, key: NameKey, profile: ViewProfile) -> Result<(), Memory>
+        ensures ok { OnOk result (self.new ≡ record self.old {
+          now = record self.old.now { profiles = map.insert self.old.now.profiles key profile };
+        }) }
+        ensures err { OnErr result (self.new ≡ self.old) }
+    {
+        self.sides.now.profiles.insert(&key, profile)?;
+        Ok(())
+    }
+
+    fn profile_gone(&mut self, key: NameKey) -> Result<(), Memory>
+        requires { IsSome (map.get self.old.now.profiles key) }
+        ensures ok { IsOk result }
+        ensures gone { self.new ≡ record self.old {
+          now = record self.old.now { profiles = map.remove self.old.now.profiles key };
+        } }
+    {
+        self.sides.now.profiles.remove(&key);
+        Ok(())
+    }
+
+    fn endpoint_put(&mut self, iface: &Text, endpoint: ViewEndpoint) -> Result<(), Memory>
+        ensures ok { OnOk result (self.new ≡ record self.old {
+          now = record self.old.now { endpoints = map.insert self.old.now.endpoints iface.now endpoint };
+        }) }
+        ensures err { OnErr result (self.new ≡ self.old) }
+    {
+        self.sides.now.endpoints.insert(iface.clone()?, endpoint)?;
+        Ok(())
+    }
+
+    fn endpoint_gone(&mut self, iface: &Text) -> Result<(), Memory>
+        requires { IsSome (map.get self.old.now.endpoints iface.now) }
+        ensures ok { IsOk result }
+        ensures gone { self.new ≡ record self.old {
+          now = record self.old.now { endpoints = map.remove self.old.now.endpoints iface.now };
+        } }
+    {
+        self.sides.now.endpoints.remove(iface);
+        Ok(())
+    }
+}
+
+impl SetSink for Sequencer {
+    ghost sets = { λ a. a.now.sets };
+
+    fn set_on(&mut self, name: SetName) -> Result<(), Memory>
+        requires { map.contains_key self.old.now.sets name ≡ false }
+        ensures ok { OnOk result (self.new ≡ record self.old {
+          now = record self.old.now { sets = map.insert self.old.now.sets name set.empty };
+        }) }
+        ensures err { OnErr result (self.new ≡ self.old) }
+    {
+        let members = MemberSet::new(self.alloc);
+        self.sides.now.sets.insert(&name, members)?;
+        Ok(())
+    }
+
+    fn set_off(&mut self, name: SetName) -> Result<(), Memory>
+        requires { map.get self.old.now.sets name ≡ Some set.empty }
+        ensures ok { IsOk result }
+        ensures gone { self.new ≡ record self.old {
+          now = record self.old.now { sets = map.remove self.old.now.sets name };
+        } }
+    {
+        self.sides.now.sets.remove(&name);
+        Ok(())
+    }
+
+    fn member_on(&mut self, name: SetName, member: Member) -> Result<(), Memory>
+        requires there { IsSome (map.get self.old.now.sets name) }
+        requires absent { set.contains (members_of (map.get self.old.now.sets name)) member ≡ false }
+        ensures ok { OnOk result (self.new ≡ record self.old {
+          now = record self.old.now {
+            sets = map.insert self.old.now.sets name (set.insert (members_of (map.get self.old.now.sets name)) member);
+          };
+        }) }
+        ensures err { OnErr result (self.new ≡ self.old) }
+    {
+        put_member(self.alloc, &mut self.sides.now.sets, &name, member)?;
+        Ok(())
+    }
+
+    fn member_off(&mut self, name: SetName, member: Member) -> Result<(), Memory>
+        requires there { IsSome (map.get self.old.now.sets name) }
+        requires member { set.contains (members_of (map.get self.old.now.sets name)) member ≡ true }
+        ensures ok { IsOk result }
+        ensures gone { self.new ≡ record self.old {
+          now = record self.old.now {
+            sets = map.insert self.old.now.sets name (set.remove (members_of (map.get self.old.now.sets name)) member);
+          };
+        } }
+    {
+        remove_member(self.alloc, &mut self.sides.now.sets, &name, member);
+        Ok(())
+    }
+}
