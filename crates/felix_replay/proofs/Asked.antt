@@ -1,7 +1,7 @@
 -- What the reader of a line answers where it doesn't want memory.
 use Rattle.std.proofs.Common.{◌≡◌, inl, inr, true, false, Result, Err, sym, ap, ◌∙◌}
-use Rattle.fx_json.specs.declared.refusal.Refusal.{Refusal}
-use Rattle.fx_json.specs.Refusals.{Refuses, is_memory}
+use Rattle.fx_fields.specs.declared.refusal.Refusal.{Refusal}
+use Rattle.fx_fields.specs.Refusals.{Refuses, is_memory}
 
 no_truth : {A : Type 0} → true ≡ false → A
 no_truth e = cc

@@ -8,7 +8,7 @@ use Rattle.fx_model.specs.Claims.{clash}
 use Rattle.fx_model.specs.Formed.{is_formed}
 use Rattle.fx_model.specs.declared.resources.Resources.{Resources}
 use Rattle.fx_model.specs.declared.resources.Update.{Update}
-use Rattle.fx_json.specs.declared.refusal.Refusal.{Refusal}
+use Rattle.fx_fields.specs.declared.refusal.Refusal.{Refusal}
 use Rattle.fx_lines.specs.declared.commands.Command.{Command}
 use Rattle.fx_lines.specs.declared.commands.Command.TheVariants as command
 use Rattle.fx_lines.specs.Formed.{IsReadCommand}

@@ -7,7 +7,7 @@ use Rattle.fx_model.specs.Views.{view_of}
 use Rattle.fx_laws.proofs.Flushes.{flush-closed, flush-ends}
 use Rattle.fx_laws.proofs.Leading.{closed-tables}
 use Rattle.fx_laws.proofs.ViewClosed.{view_of-closed}
-use Rattle.fx_json.specs.declared.refusal.Refusal.{Refusal}
+use Rattle.fx_fields.specs.declared.refusal.Refusal.{Refusal}
 use Rattle.fx_names.specs.Digests.{Digest}
 use Rattle.fx_lines.specs.Lines.{lines_of}
 use Rattle.fx_lines.specs.declared.commands.Command.{Command}

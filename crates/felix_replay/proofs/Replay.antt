@@ -11,7 +11,7 @@ use Rattle.fx_lines.proofs.Cuts.{answerable-lines, nothing_given}
 use Rattle.fx_names.specs.Digests.{Digest}
 use Rattle.felix_replay.specs.Top.{Stopped}
 use Rattle.felix_replay.specs.Run.{state_after, written}
-use Rattle.fx_json.specs.declared.refusal.Refusal.{Refusal}
+use Rattle.fx_fields.specs.declared.refusal.Refusal.{Refusal}
 use Rattle.fx_lines.specs.declared.commands.Command.{Command}
 use Rattle.fx_lines.specs.declared.commands.Command.TheVariants as command
 use Rattle.felix_replay.specs.Output.{State, start, next, after_answer, text, output}

@@ -8,7 +8,7 @@ use Rattle.fx_names.specs.Claims.{Clash}
 use Rattle.fx_names.specs.Digests.{Digest}
 use Rattle.fx_laws.proofs.ClaimsApart.{clash_free_after, clash_free_none}
 use Rattle.fx_laws.proofs.FormedLemmas.{are_formed-after, have_workload_interfaces-after}
-use Rattle.fx_json.specs.declared.refusal.Refusal.{Refusal}
+use Rattle.fx_fields.specs.declared.refusal.Refusal.{Refusal}
 use Rattle.fx_lines.specs.declared.commands.Command.{Command}
 use Rattle.fx_lines.specs.declared.commands.Command.TheVariants as command
 use Rattle.fx_lines.specs.Commands.{command_of}

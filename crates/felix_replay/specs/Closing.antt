@@ -5,7 +5,7 @@ use Rattle.fx_model.specs.Views.{view_of}
 use Rattle.fx_model.specs.ViewTables.{tables_of}
 use Rattle.fx_model.specs.Closed.{IsClosedView, AreClosedTables}
 use Rattle.fx_model.specs.Messages.{flush, sent_views}
-use Rattle.fx_json.specs.declared.refusal.Refusal.{Refusal}
+use Rattle.fx_fields.specs.declared.refusal.Refusal.{Refusal}
 use Rattle.fx_lines.specs.declared.commands.Command.{Command}
 use Rattle.fx_lines.specs.declared.commands.Command.TheVariants as command
 use Rattle.felix_replay.specs.Output.{State, answer_of, next}

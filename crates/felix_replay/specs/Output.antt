@@ -12,8 +12,8 @@ use Rattle.fx_model.specs.Claims.{clash}
 use Rattle.fx_model.specs.Views.{view_of, empty_view}
 use Rattle.fx_model.specs.ViewTables.{tables_of}
 use Rattle.fx_model.specs.Messages.{Change, flush}
-use Rattle.fx_json.specs.declared.refusal.Refusal.{Refusal}
-use Rattle.fx_json.specs.declared.refusal.Refusal.TheVariants.{Taken}
+use Rattle.fx_fields.specs.declared.refusal.Refusal.{Refusal}
+use Rattle.fx_fields.specs.declared.refusal.Refusal.TheVariants.{Taken}
 use Rattle.fx_lines.specs.declared.commands.Command.{Command}
 use Rattle.fx_lines.specs.declared.commands.Command.TheVariants as command
 use Rattle.fx_lines.specs.Lines.{lines_of}

@@ -1,7 +1,7 @@
 -- The words of the command line, as POSIX utilities take an option with its argument: `--node` and a name.
 use Rattle.std.specs.Prelude.{ℕ, List, [], ◌∷◌, Bool, ◌&&◌, ◌==◌, not, slice_index, if◌then◌else◌, Option, Some, None, unwrap_or, codes}
 use Rattle.std.specs.Str.{bytes_eq}
-use Rattle.fx_json.specs.Forms.{is_name}
+use Rattle.fx_fields.specs.Forms.{is_name}
 
 -- a name whose first byte isn't `-`
 abbrev pub is_node_name : List ℕ → Bool

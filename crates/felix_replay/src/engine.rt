@@ -21,7 +21,7 @@ use crate::run_fault::RunFault;
 use crate::sending::{put_all, put_one, send};
 use fx_base::{Memory, Sink, Text};
 use fx_driver::Driver;
-use fx_json::Refusal;
+use fx_fields::Refusal;
 use fx_lines::{Command, read_command};
 use fx_model::{Packet, Update, view_of};
 use fx_names::{DigestFunction, DigestRule, Namer};

@@ -7,7 +7,7 @@ ghost use Rattle.felix_replay.specs.Driven.{IsDriven};
 ghost use Rattle.felix_replay.specs.Writing.{Writes};
 
 use crate::run_fault::RunFault;
-use fx_base::{Sink, Text};
+use fx_base::{Counter, Sink, Text};
 use fx_driver::Driver;
 use fx_print::message_text;
 use fx_sequencer::Sequencer;
@@ -50,7 +50,7 @@ fn send_next<K: Sink>(
         return Ok(false);
     };
     let line = message_text(alloc, &message)?;
-    driver.apply(&message)?;
+    driver.apply(&message, &mut Counter::new())?;
     sequencer.sent()?;
     put_one(&line, sink)?;
     Ok(true)

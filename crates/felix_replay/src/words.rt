@@ -4,7 +4,7 @@ ghost use Rattle.std.specs.Option.{option_copied};
 ghost use Rattle.felix_replay.specs.Words.{is_node_name, node_of};
 
 use fx_base::Text;
-use fx_json::is_name;
+use fx_fields::is_name;
 
 /// The node's name, where the words are `--node` and a name.
 pub fn node_word(words: &[Text]) -> Option<&Text>

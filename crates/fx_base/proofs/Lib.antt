@@ -25,3 +25,4 @@ pub mod SumOver
 pub mod FilledLemmas
 pub mod AnyCollected
 pub mod NetLemmas
+pub mod TickLemmas

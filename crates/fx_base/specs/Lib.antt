@@ -1,6 +1,7 @@
 pub mod Extended
 pub mod Addresses
 pub mod Forms
+pub mod Given
 pub mod Keyed
 pub mod KernelName
 pub mod MemSink
@@ -16,3 +17,4 @@ pub mod Set
 pub mod SetName
 pub mod Streams
 pub mod TextValues
+pub mod Ticks

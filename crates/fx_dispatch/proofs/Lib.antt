@@ -10,3 +10,4 @@ pub mod Planned
 pub mod Once
 pub mod Others
 pub mod Endpoints
+pub mod Exact

@@ -1,6 +1,6 @@
 -- What a plan does to chains: it writes chains one after another, and then deletes others. By iptables(8) a rule leads only to a
 -- chain that is there, and a chain can be deleted only where no rule leads to it.
-use Rattle.std.specs.Prelude.{◌≡◌, ◌≢◌, ℕ, List, [], ◌∷◌, true, false, Some}
+use Rattle.std.specs.Prelude.{◌≡◌, ◌≢◌, ℕ, List, [], ◌∷◌, ◌++◌, map, true, false, Some}
 use Rattle.std.specs.List.{AllByRecursion}
 use Rattle.std.specs.Ordering.{nat_cmp}
 use Rattle.std.specs.Cmp.Lexicographic.{slice_cmp}
@@ -75,6 +75,25 @@ pub record ChangesOnly (old new : Names) (writes : Writes) (deletes : List Chain
   pub differ : AllByRecursion (λ w. maps.get (tree_of old) w.0 ≢ Some w.1) writes
   pub stood : AllByRecursion (λ name. maps.contains_key (tree_of old) name ≡ true) deletes
   pub gone : AllByRecursion (λ name. maps.contains_key (tree_of new) name ≡ false) deletes
+
+-- no name stands twice
+abbrev pub AreApart : List ChainName → Type 0
+AreApart [] = Unit {0}
+AreApart (name ∷ names) = AllByRecursion (λ n. n ≢ name) names × AreApart names
+
+-- the chains differ at exactly these names, each of which stands once
+pub record DifferAt (old new : Chains) (names : List ChainName) : Type 0 where
+  pub once : AreApart names
+  pub differ : AllByRecursion (λ name. maps.get old name ≢ maps.get new name) names
+  pub others : (name : ChainName) → AllByRecursion (λ n. n ≢ name) names → maps.get old name ≡ maps.get new name
+
+-- the chains that it writes and deletes
+abbrev pub touched : Writes → List ChainName → List ChainName
+touched writes deletes = map (λ w. w.0) writes ++ deletes
+
+-- it writes or deletes each dispatch chain that differs, once, and no other
+abbrev pub IsExact : Names → Names → Writes → List ChainName → Type 0
+IsExact old new writes deletes = DifferAt (tree_of old) (tree_of new) (touched writes deletes)
 
 -- where the endpoints' chains are there, each chain can be written at its turn
 abbrev pub AreWritable : Names → Names → Writes → Type 0

@@ -2,7 +2,7 @@
 ghost use Rattle.std.specs.Prelude.{◌≡◌, ◌≤◌, [], length, IfOk, OnOk, OnErr};
 ghost use Rattle.fx_base.specs.Set as set;
 ghost use Rattle.fx_model.specs.Tree.{dispatch_chains_of};
-ghost use Rattle.fx_dispatch.specs.Plans.{Replaces, ChangesOnly, AreWritable, AreDeletable};
+ghost use Rattle.fx_dispatch.specs.Plans.{Replaces, ChangesOnly, IsExact, AreWritable, AreDeletable};
 
 use crate::interfaces::{Interface, Interfaces};
 use crate::names::root_name;
@@ -48,6 +48,7 @@ pub fn first_chains(alloc: Global) -> Result<Writes, Memory>
 fn plan_between(alloc: Global, old: &Interfaces, new: &Interfaces) -> Result<Plan, Memory>
     ensures written { IfOk result (λ plan. Replaces old.now new.now plan.writes plan.deletes) }
     ensures changed { IfOk result (λ plan. ChangesOnly old.now new.now plan.writes plan.deletes) }
+    ensures exact { IfOk result (λ plan. IsExact old.now new.now plan.writes plan.deletes) }
     ensures writable { IfOk result (λ plan. AreWritable old.now new.now plan.writes) }
     ensures deletable { IfOk result (λ plan. AreDeletable old.now plan.writes plan.deletes) }
 {
@@ -61,6 +62,7 @@ fn plan_between(alloc: Global, old: &Interfaces, new: &Interfaces) -> Result<Pla
 fn no_plan(alloc: Global, names: &Interfaces) -> Plan
     ensures written { Replaces names.now names.now result.writes result.deletes }
     ensures changed { ChangesOnly names.now names.now result.writes result.deletes }
+    ensures exact { IsExact names.now names.now result.writes result.deletes }
     ensures writable { AreWritable names.now names.now result.writes }
     ensures deletable { AreDeletable names.now result.writes result.deletes }
 {
@@ -85,6 +87,7 @@ impl Dispatch {
         ensures err { OnErr result (self.new ≡ self.old) }
         ensures written { IfOk result (λ plan. Replaces self.old self.new plan.writes plan.deletes) }
         ensures changed { IfOk result (λ plan. ChangesOnly self.old self.new plan.writes plan.deletes) }
+        ensures exact { IfOk result (λ plan. IsExact self.old self.new plan.writes plan.deletes) }
         ensures writable { IfOk result (λ plan. AreWritable self.old self.new plan.writes) }
         ensures deletable { IfOk result (λ plan. AreDeletable self.old plan.writes plan.deletes) }
     {
@@ -106,6 +109,7 @@ impl Dispatch {
         ensures err { OnErr result (self.new ≡ self.old) }
         ensures written { IfOk result (λ plan. Replaces self.old self.new plan.writes plan.deletes) }
         ensures changed { IfOk result (λ plan. ChangesOnly self.old self.new plan.writes plan.deletes) }
+        ensures exact { IfOk result (λ plan. IsExact self.old self.new plan.writes plan.deletes) }
         ensures writable { IfOk result (λ plan. AreWritable self.old self.new plan.writes) }
         ensures deletable { IfOk result (λ plan. AreDeletable self.old plan.writes plan.deletes) }
     {

@@ -61,7 +61,7 @@ elsewhere_of q none =
     ]
 
 module _ {X : Type 0} (m : Named X) (names : Names) (has : HasKeys names m) where
-  tree_same : plans.tree_of names ≡ tree_of (maps.keys m)
+  pub tree_same : plans.tree_of names ≡ tree_of (maps.keys m)
   tree_same = ap (λ ks. collected (dispatch_chains_of ks)) (names_are m names has)
 
   -- a tree of names among chains is the tree of the keys

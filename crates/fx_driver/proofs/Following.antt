@@ -123,6 +123,11 @@ module _ (driver : Driver) (s w : View) (drives : Drives driver s) (k : List ℕ
   abbrev after : View
   after = with_endpoint s w k
 
+  pub keys_after_put : HasKeys (set.insert driver.dispatch k) (step s w).endpoints
+  keys_after_put j =
+      keys_put driver.dispatch s.endpoints w.endpoints k e drives.interfaces wanted j
+      ∙ ap (λ (v : View). maps.contains_key v.endpoints j) (sym (stepped s w (EndpointPut k e) is.next))
+
   after_closed : IsClosedView after
   after_closed = step-closed s w is.from.closed is.to.closed (EndpointPut k e) is.next
 
@@ -171,6 +176,11 @@ module _ (driver : Driver) (s w : View) (drives : Drives driver s) (k : List ℕ
 
   abbrev left : View
   left = with_endpoint s w k
+
+  pub keys_after_gone : HasKeys (set.remove driver.dispatch k) (step s w).endpoints
+  keys_after_gone j =
+      keys_gone driver.dispatch s.endpoints w.endpoints k drives.interfaces gone j
+      ∙ ap (λ (v : View). maps.contains_key v.endpoints j) (sym (stepped s w (EndpointGone k) is.next))
 
   module _ (new : Names) (fewer : new ≡ set.remove driver.dispatch k) (writes : plans.Writes) (deletes : List ChainName) where
     left_names : HasKeys new left.endpoints

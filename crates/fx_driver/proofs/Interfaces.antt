@@ -66,6 +66,10 @@ module _ {X : Type 0} where
         ap set.items (maps.same_map nat_list_cmp_total bytes_exact s key_set (λ q. unit_options _ _ (h q ∙ sym (key_there q))))
         ∙ ap (map (λ e. e.0)) key_entries ∙ unmarked_keys (maps.keys m)
 
+  -- maps that have the same keys list them alike
+  pub same_keys : (m n : Named X) → ((k : List ℕ) → maps.contains_key n k ≡ maps.contains_key m k) → maps.keys n ≡ maps.keys m
+  same_keys m n same = sym (names_are n (key_set m) (λ k. key_there m k ∙ sym (same k))) ∙ names_are m (key_set m) (key_there m)
+
   spread : (b : Bool) (x y : Option X) → is_some (cond b x y) ≡ cond b (is_some x) (is_some y)
   spread true x y = refl
   spread false x y = refl

@@ -9,3 +9,6 @@ pub mod Steps
 pub mod EndpointSteps
 pub mod Following
 pub mod Bare
+pub mod Counts
+pub mod MessageCosts
+pub mod OneNumber

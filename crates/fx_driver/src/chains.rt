@@ -1,8 +1,9 @@
 //! Chains, one by one and in pairs.
-ghost use Rattle.std.specs.Prelude.{◌≡◌, ◌≢◌, OnOk, OnErr, true};
+ghost use Rattle.std.specs.Prelude.{◌≡◌, ◌≢◌, ◌≤◌, ◌+◌, length, OnOk, OnErr, true};
 ghost use Rattle.std.specs.List.{AllByRecursion};
 ghost use Rattle.std.specs.FinMap as maps;
 ghost use Rattle.fx_base.specs.Extended.{extended};
+ghost use Rattle.fx_base.specs.Ticks.{ticked};
 ghost use Rattle.fx_model.specs.Formed.{is_formed_view_endpoint, is_formed_view_profile};
 ghost use Rattle.fx_model.specs.Tables.{forward};
 ghost use Rattle.fx_model.specs.ViewTables.{policy_chains, profile_chains, endpoint_chains};
@@ -11,7 +12,7 @@ ghost use Rattle.fx_tables.specs.Leads.{NoneLeadsTo};
 ghost use Rattle.fx_dispatch.specs.Plans.{CanBeDeleted, applied, without};
 ghost use Rattle.fx_driver.specs.Driven.{HasFirst};
 
-use fx_base::{ChainName, Memory, NameKey, Seq, Text};
+use fx_base::{ChainName, Memory, NameKey, Seq, Text, Ticker};
 use fx_chains::{endpoint_chain, endpoint_name, policy_name, profile_name};
 use fx_dispatch::{Plan, Writes};
 use fx_model::{ChainRule, ViewEndpoint, ViewPolicy, ViewProfile};
@@ -20,66 +21,83 @@ use fx_tables::Tables;
 use std::alloc::Global;
 
 /// Writes a chain.
-pub fn write(name: ChainName, rules: Seq<ChainRule>, tables: &mut Tables) -> Result<(), Memory>
+pub fn write<O: Ticker>(
+    name: ChainName,
+    rules: Seq<ChainRule>,
+    tables: &mut Tables,
+    operations: &mut O,
+) -> Result<(), Memory>
     requires { IsWritable tables.old.sets tables.old.chains name rules }
     ensures ok { OnOk result (tables.new ≡ record tables.old { chains = maps.insert tables.old.chains name rules }) }
     ensures err { OnErr result (tables.new ≡ tables.old) }
+    ensures counted { O.number operations.new ≡ ticked 1 (O.number operations.old) }
     ensures first { HasFirst tables.old.chains → HasFirst tables.new.chains }
 {
-    tables.write_chain(name, rules)?;
+    tables.write_chain(name, rules, operations)?;
     Ok(())
 }
 
 /// Deletes a chain that isn't the first.
-pub fn delete(name: ChainName, tables: &mut Tables)
+pub fn delete<O: Ticker>(name: ChainName, tables: &mut Tables, operations: &mut O)
     requires unused { NoneLeadsTo tables.old.chains name }
     requires other { forward ≢ name }
     ensures gone { tables.new ≡ record tables.old { chains = maps.remove tables.old.chains name } }
+    ensures counted { O.number operations.new ≡ ticked 1 (O.number operations.old) }
     ensures first { HasFirst tables.old.chains → HasFirst tables.new.chains }
 {
-    tables.delete_chain(name);
+    tables.delete_chain(name, operations);
 }
 
 /// Deletes two chains that lead not to one another.
-pub fn delete_both(to: ChainName, from: ChainName, tables: &mut Tables)
+pub fn delete_both<O: Ticker>(
+    to: ChainName,
+    from: ChainName,
+    tables: &mut Tables,
+    operations: &mut O,
+)
     requires unused_to { NoneLeadsTo tables.old.chains to }
     requires unused_from { NoneLeadsTo tables.old.chains from }
     requires other_to { forward ≢ to }
     requires other_from { forward ≢ from }
     ensures gone { tables.new ≡ record tables.old { chains = maps.remove (maps.remove tables.old.chains to) from } }
+    ensures counted { O.number operations.new ≡ ticked 2 (O.number operations.old) }
     ensures first { HasFirst tables.old.chains → HasFirst tables.new.chains }
 {
-    delete(to, tables);
-    delete(from, tables);
+    delete(to, tables, operations);
+    delete(from, tables, operations);
 }
 
 /// Writes a policy's two chains.
-pub fn write_policy(
+pub fn write_policy<O: Ticker>(
     alloc: Global,
     key: &NameKey,
     policy: &ViewPolicy,
     tables: &mut Tables,
+    operations: &mut O,
 ) -> Result<(), Memory>
     requires { CanBeWritten tables.old.sets tables.old.chains (policy_chains (key.now, policy.now)) }
     ensures ok { OnOk result (tables.new ≡ record tables.old {
       chains = extended tables.old.chains
           (policy_chains (key.now, policy.now));
     }) }
+    ensures counted { OnOk result (O.number operations.new ≡ ticked 2 (O.number operations.old)) }
+    ensures at_most { OnErr result (O.number operations.new ≤ O.number operations.old + 2) }
     ensures first { HasFirst tables.old.chains → HasFirst tables.new.chains }
 {
     let ingress = policy_chain(alloc, policy, true)?;
-    write(policy_name(true, key), ingress, tables)?;
+    write(policy_name(true, key), ingress, tables, operations)?;
     let egress = policy_chain(alloc, policy, false)?;
-    write(policy_name(false, key), egress, tables)?;
+    write(policy_name(false, key), egress, tables, operations)?;
     Ok(())
 }
 
 /// Writes a profile's two chains.
-pub fn write_profile(
+pub fn write_profile<O: Ticker>(
     alloc: Global,
     key: &NameKey,
     profile: &ViewProfile,
     tables: &mut Tables,
+    operations: &mut O,
 ) -> Result<(), Memory>
     requires writable { CanBeWritten tables.old.sets tables.old.chains (profile_chains (key.now, profile.now)) }
     requires formed { is_formed_view_profile (key.now, profile.now) ≡ true }
@@ -87,21 +105,24 @@ pub fn write_profile(
       chains = extended tables.old.chains
           (profile_chains (key.now, profile.now));
     }) }
+    ensures counted { OnOk result (O.number operations.new ≡ ticked 2 (O.number operations.old)) }
+    ensures at_most { OnErr result (O.number operations.new ≤ O.number operations.old + 2) }
     ensures first { HasFirst tables.old.chains → HasFirst tables.new.chains }
 {
     let ingress = profile_chain(alloc, profile, true)?;
-    write(profile_name(true, key), ingress, tables)?;
+    write(profile_name(true, key), ingress, tables, operations)?;
     let egress = profile_chain(alloc, profile, false)?;
-    write(profile_name(false, key), egress, tables)?;
+    write(profile_name(false, key), egress, tables, operations)?;
     Ok(())
 }
 
 /// Writes an endpoint's two chains.
-pub fn write_endpoint(
+pub fn write_endpoint<O: Ticker>(
     alloc: Global,
     iface: &Text,
     endpoint: &ViewEndpoint,
     tables: &mut Tables,
+    operations: &mut O,
 ) -> Result<(), Memory>
     requires writable { CanBeWritten tables.old.sets tables.old.chains (endpoint_chains (iface.now, endpoint.now)) }
     requires formed { is_formed_view_endpoint (iface.now, endpoint.now) ≡ true }
@@ -109,50 +130,68 @@ pub fn write_endpoint(
       chains = extended tables.old.chains
           (endpoint_chains (iface.now, endpoint.now));
     }) }
+    ensures counted { OnOk result (O.number operations.new ≡ ticked 2 (O.number operations.old)) }
+    ensures at_most { OnErr result (O.number operations.new ≤ O.number operations.old + 2) }
     ensures first { HasFirst tables.old.chains → HasFirst tables.new.chains }
 {
     let ingress = endpoint_chain(alloc, endpoint, true)?;
-    write(endpoint_name(true, iface), ingress, tables)?;
+    write(endpoint_name(true, iface), ingress, tables, operations)?;
     let egress = endpoint_chain(alloc, endpoint, false)?;
-    write(endpoint_name(false, iface), egress, tables)?;
+    write(endpoint_name(false, iface), egress, tables, operations)?;
     Ok(())
 }
 
 /// Writes chains, one after another.
-pub fn write_all(writes: Writes, tables: &mut Tables) -> Result<(), Memory>
+pub fn write_all<O: Ticker>(
+    writes: Writes,
+    tables: &mut Tables,
+    operations: &mut O,
+) -> Result<(), Memory>
     requires { CanBeWritten tables.old.sets tables.old.chains writes }
     ensures ok { OnOk result (tables.new ≡ record tables.old { chains = extended tables.old.chains writes }) }
+    ensures counted { OnOk result (O.number operations.new ≡ ticked (length writes) (O.number operations.old)) }
+    ensures at_most { OnErr result (O.number operations.new ≤ O.number operations.old + length writes) }
     ensures first { HasFirst tables.old.chains → HasFirst tables.new.chains }
 {
     for (name, rules) in writes.into_vec() {
-        write(name, rules, tables)?;
+        write(name, rules, tables, operations)?;
     }
     Ok(())
 }
 
-fn delete_all(names: Seq<ChainName>, tables: &mut Tables)
+fn delete_all<O: Ticker>(names: Seq<ChainName>, tables: &mut Tables, operations: &mut O)
     requires unused { CanBeDeleted tables.old.chains names }
     requires others { AllByRecursion (λ name. forward ≢ name) names }
     ensures gone { tables.new ≡ record tables.old { chains = without tables.old.chains names } }
+    ensures counted { O.number operations.new ≡ ticked (length names) (O.number operations.old) }
     ensures first { HasFirst tables.old.chains → HasFirst tables.new.chains }
 {
     for name in names.into_vec() {
-        delete(name, tables);
+        delete(name, tables, operations);
     }
 }
 
 /// Carries out a plan.
-pub fn carry_out(plan: Plan, tables: &mut Tables) -> Result<(), Memory>
+#[tactic(auto, using(crate::proofs::Counts::then_counted))]
+pub fn carry_out<O: Ticker>(
+    plan: Plan,
+    tables: &mut Tables,
+    operations: &mut O,
+) -> Result<(), Memory>
     requires writable { CanBeWritten tables.old.sets tables.old.chains plan.writes }
     requires unused { CanBeDeleted (extended tables.old.chains plan.writes) plan.deletes }
     requires others { AllByRecursion (λ name. forward ≢ name) plan.deletes }
     ensures ok { OnOk result (tables.new ≡ record tables.old {
       chains = applied plan.writes plan.deletes tables.old.chains;
     }) }
+    ensures counted { OnOk result (O.number operations.new
+        ≡ ticked (length plan.writes + length plan.deletes) (O.number operations.old)) }
+    ensures at_most { OnErr result (O.number operations.new
+        ≤ O.number operations.old + (length plan.writes + length plan.deletes)) }
     ensures first { HasFirst tables.old.chains → HasFirst tables.new.chains }
 {
     let Plan { writes, deletes } = plan;
-    write_all(writes, tables)?;
-    delete_all(deletes, tables);
+    write_all(writes, tables, operations)?;
+    delete_all(deletes, tables, operations);
     Ok(())
 }

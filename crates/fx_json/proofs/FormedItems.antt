@@ -10,18 +10,19 @@ use Rattle.fx_model.specs.declared.resources.Item.TheVariants as item
 use Rattle.fx_model.specs.declared.resources.Update.TheVariants as update
 use Rattle.fx_model.specs.Policy.{is_workload}
 use Rattle.fx_model.specs.Formed.{is_formed_namespace, is_formed_key, is_formed_endpoint}
-use Rattle.fx_json.specs.declared.names.NamespacedName.{NamespacedName}
-use Rattle.fx_json.specs.declared.metadata.Metadata.{Metadata}
+use Rattle.fx_fields.specs.declared.names.NamespacedName.{NamespacedName}
+use Rattle.fx_fields.specs.declared.metadata.Metadata.{Metadata}
 use Rattle.fx_json.specs.declared.endpoints.Workload.{Workload}
-use Rattle.fx_json.specs.declared.texts.TextForm.TheVariants.{Name, WorkloadInterface}
-use Rattle.fx_json.specs.Forms.{is_name_byte, has_length, is_interface, is_workload_interface, text}
-use Rattle.fx_json.specs.Fields.{required, optional, section}
-use Rattle.fx_json.specs.Names.{namespaced_name}
-use Rattle.fx_json.specs.Labels.{labels_at}
-use Rattle.fx_json.specs.Metadata.{metadata_of, metadata_in, global_metadata_in}
+use Rattle.fx_fields.specs.declared.texts.TextForm.TheVariants.{Name, WorkloadInterface}
+use Rattle.fx_fields.specs.Forms.{is_name_byte, has_length, is_interface, is_workload_interface, text}
+use Rattle.fx_fields.specs.Fields.{required, optional, section}
+use Rattle.fx_fields.specs.Names.{namespaced_name}
+use Rattle.fx_fields.specs.Labels.{labels_at}
+use Rattle.fx_fields.specs.Metadata.{metadata_of, metadata_in, global_metadata_in}
 use Rattle.fx_json.specs.Endpoints.{endpoint_key, workload, holdings, endpoint_of, endpoint_in, endpoint_put}
 use Rattle.fx_json.specs.NetSets.{nets_in, net_set_put, global_set_put}
-use Rattle.fx_json.proofs.Readings.{then-if, read-if, required-if, both, implied, first_of, second_of, text-formed}
+use Rattle.fx_fields.proofs.Readings.{then-if, read-if, required-if, both, first_of, second_of, text-formed}
+use Rattle.fx_json.proofs.Implied.{implied}
 use Rattle.fx_json.proofs.FormedNames.{named-formed}
 use Rattle.fx_json.proofs.FormedPolicies.{IsTakable}
 

@@ -7,18 +7,21 @@ use Rattle.fx_selector.specs.Tree.{IsString}
 use Rattle.fx_model.specs.declared.rules.Rule.{Rule}
 use Rattle.fx_model.specs.declared.policy.Policy.{Policy}
 use Rattle.fx_model.specs.declared.resources.Update.{Update}
-use Rattle.fx_model.specs.Formed.{is_given, is_formed_rule, is_formed_policy, is_formed_namespace, is_formed, puts_workload_interface}
-use Rattle.fx_json.specs.Fields.{items, section}
-use Rattle.fx_json.specs.Rules.{rule}
-use Rattle.fx_json.specs.declared.rule_form.RuleForm.{RuleForm}
-use Rattle.fx_json.specs.declared.rule_form.RuleForm.TheVariants.{OfPolicy, OfNamespace}
+use Rattle.fx_base.specs.Given.{is_given}
+use Rattle.fx_model.specs.Formed.{is_formed_rule, is_formed_policy, is_formed_namespace, is_formed, puts_workload_interface}
+use Rattle.fx_fields.specs.Fields.{items, section}
+use Rattle.fx_fields.specs.declared.rule_form.RuleForm.{RuleForm}
+use Rattle.fx_fields.specs.declared.rule_form.RuleForm.TheVariants.{OfPolicy, OfNamespace}
 use Rattle.fx_json.specs.declared.policies.PolicyRules.{PolicyRules}
-use Rattle.fx_json.specs.Names.{name_in, namespaced_name_in}
-use Rattle.fx_json.specs.Selectors.{global_selector, namespaced_selector}
-use Rattle.fx_json.specs.Policies.{place_of, policy_type, directions_of, kept, rules_of, flags, global_policy, namespaced_policy, tier_in, tier_put, global_policy_in, global_policy_put, namespaced_policy_in, namespaced_policy_put}
-use Rattle.fx_json.proofs.Readings.{then-if, read-if, both, items-each}
-use Rattle.fx_json.proofs.FormedNames.{named_in-formed, named_in_string}
-use Rattle.fx_json.proofs.FormedSides.{IsForm}
+use Rattle.fx_fields.specs.Names.{name_in, namespaced_name_in}
+use Rattle.fx_fields.specs.Selectors.{global_selector, namespaced_selector}
+use Rattle.fx_fields.specs.PolicyFields.{place_of, policy_type, directions_of, flags}
+use Rattle.fx_json.specs.Rules.{rule}
+use Rattle.fx_json.specs.Policies.{kept, rules_of, global_policy, namespaced_policy, tier_in, tier_put, global_policy_in, global_policy_put, namespaced_policy_in, namespaced_policy_put}
+use Rattle.fx_fields.proofs.Readings.{then-if, read-if, both, items-each}
+use Rattle.fx_fields.proofs.NameTexts.{named_in_string}
+use Rattle.fx_fields.proofs.SideTrees.{IsForm}
+use Rattle.fx_json.proofs.FormedNames.{named_in-formed}
 use Rattle.fx_json.proofs.FormedRules.{policy_rule-formed}
 
 -- an update that may be taken in

@@ -9,17 +9,18 @@ use Rattle.fx_model.specs.declared.resources.Profile.{Profile}
 use Rattle.fx_model.specs.declared.resources.Update.{Update}
 use Rattle.fx_model.specs.declared.ids.Key.{Key}
 use Rattle.fx_model.specs.Formed.{is_formed_profile_rule, is_formed_profile, is_formed_key, is_formed, puts_workload_interface}
-use Rattle.fx_json.specs.declared.fault.ReadFault.{ReadFault}
-use Rattle.fx_json.specs.Faults.{IsAnswerOf}
-use Rattle.fx_json.specs.declared.resources.Kind.{Kind}
-use Rattle.fx_json.specs.declared.resources.Kind.TheVariants.{Profile as AProfile, WorkloadEndpoint, Tier as ATier, GlobalNetworkPolicy, NetworkPolicy, NetworkSet, GlobalNetworkSet}
-use Rattle.fx_json.specs.declared.rule_form.RuleForm.TheVariants.{OfProfile}
-use Rattle.fx_json.specs.Fields.{items, section}
-use Rattle.fx_json.specs.Labels.{labels_at}
+use Rattle.fx_fields.specs.declared.fault.ReadFault.{ReadFault}
+use Rattle.fx_fields.specs.Faults.{IsAnswerOf}
+use Rattle.fx_fields.specs.declared.kinds.Kind.{Kind}
+use Rattle.fx_fields.specs.declared.kinds.Kind.TheVariants.{Profile as AProfile, WorkloadEndpoint, Tier as ATier, GlobalNetworkPolicy, NetworkPolicy, NetworkSet, GlobalNetworkSet}
+use Rattle.fx_fields.specs.declared.rule_form.RuleForm.TheVariants.{OfProfile}
+use Rattle.fx_fields.specs.Fields.{items, section}
+use Rattle.fx_fields.specs.Labels.{labels_at}
 use Rattle.fx_json.specs.Rules.{rule}
-use Rattle.fx_json.specs.Names.{name_at, namespaced_name, name_in}
-use Rattle.fx_json.specs.Resources.{profile_of, profile_put, kind_of, put_of, resource_of, key_of, delete_of, key_in, profile_in}
-use Rattle.fx_json.proofs.Readings.{then-if, read-if, both, items-each}
+use Rattle.fx_fields.specs.Names.{name_at, namespaced_name, name_in}
+use Rattle.fx_fields.specs.Kinds.{kind_of}
+use Rattle.fx_json.specs.Resources.{profile_of, profile_put, put_of, resource_of, key_of, delete_of, key_in, profile_in}
+use Rattle.fx_fields.proofs.Readings.{then-if, read-if, both, items-each}
 use Rattle.fx_json.proofs.FormedNames.{named-formed}
 use Rattle.fx_json.proofs.FormedRules.{profile_rule-formed}
 use Rattle.fx_json.proofs.FormedPolicies.{IsTakable, tier_put-formed, global_policy_put-formed, namespaced_policy_put-formed}

@@ -1,6 +1,6 @@
 -- Each rule that is read is formed: beside what its sides are it asks for messages of ICMP beside ICMP alone, and it passes
 -- where it may.
-use Rattle.std.proofs.Common.{◌≡◌, ℕ, List, Bool, true, false, ◌&&◌, ◌||◌, ◌==◌, not, Option, Some, None, Result, Ok, Err, IfOk, refl}
+use Rattle.std.proofs.Common.{◌≡◌, ℕ, List, Bool, true, false, ◌&&◌, ◌||◌, ◌==◌, not, Option, Some, None, Ok, Err, IfOk, refl}
 use Rattle.std.specs.Prelude.{codes, if◌then◌else◌, is_some, option_and_then}
 use Rattle.serde_json.specs.Data.{Data}
 use Rattle.serde_json.specs.Find.{as_str}
@@ -9,17 +9,18 @@ use Rattle.fx_model.specs.declared.rules.Action.{Action}
 use Rattle.fx_model.specs.declared.rules.Icmp.{Icmp}
 use Rattle.fx_model.specs.declared.rules.Rule.{Rule}
 use Rattle.fx_model.specs.Formed.{implies, has_port_protocol, has_icmp_protocol, passes, is_formed_side, is_formed_rule, is_formed_profile_rule}
-use Rattle.fx_json.specs.declared.fault.ReadFault.TheVariants.{IcmpWithoutProtocol, PassInProfile}
-use Rattle.fx_json.specs.declared.rule_form.RuleForm.{RuleForm}
-use Rattle.fx_json.specs.declared.rule_form.RuleForm.TheVariants.{OfProfile}
+use Rattle.fx_fields.specs.declared.fault.ReadFault.TheVariants.{IcmpWithoutProtocol, PassInProfile}
+use Rattle.fx_fields.specs.declared.rule_form.RuleForm.{RuleForm}
+use Rattle.fx_fields.specs.declared.rule_form.RuleForm.TheVariants.{OfProfile}
 use Rattle.fx_json.specs.declared.rules.ReadProtocols.{ReadProtocols}
-use Rattle.fx_json.specs.declared.sides.ReadSide.{ReadSide}
-use Rattle.fx_json.specs.Paths.{member_path}
-use Rattle.fx_json.specs.Fields.{◌>>=◌, is_absent, formed, required, defaulted, optional, unread, object_at, section}
-use Rattle.fx_json.specs.Values.{version, protocol}
+use Rattle.fx_fields.specs.Paths.{member_path}
+use Rattle.fx_fields.specs.Fields.{◌>>=◌, is_absent, formed, required, defaulted, optional, unread, object_at, section}
+use Rattle.fx_fields.specs.Values.{version, protocol}
 use Rattle.fx_json.specs.Rules.{action_named, may_pass, allowed, action, has_messages, with_messages, message, asked_message, icmp_at, of_ipv4, protocols, side_at, rule_fields, rule}
-use Rattle.fx_json.proofs.Readings.{then-if, read-if, required-if, choice-if, weaker-if, both, implies_either}
-use Rattle.fx_json.proofs.FormedSides.{IsForm, lists, IsSideOf, side-formed}
+use Rattle.fx_fields.proofs.Readings.{then-if, read-if, required-if, choice-if, weaker-if, both}
+use Rattle.fx_fields.proofs.SideTrees.{IsForm}
+use Rattle.fx_json.proofs.Implied.{implies_either}
+use Rattle.fx_json.proofs.FormedSides.{lists, IsSideOf, side-formed}
 
 -- ---- actions
 

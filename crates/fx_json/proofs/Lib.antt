@@ -1,10 +1,5 @@
-pub mod PathTexts
-pub mod After
-mod ShortTexts
-pub mod NetLemmas
 pub mod PortLists
-pub mod Readings
-pub mod SelectorTexts
+pub mod Implied
 pub mod FormedNames
 pub mod FormedSides
 pub mod FormedRules

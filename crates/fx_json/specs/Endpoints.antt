@@ -12,16 +12,18 @@ use Rattle.fx_model.specs.declared.resources.EndpointPort.{EndpointPort}
 use Rattle.fx_model.specs.declared.resources.Item.TheVariants as item
 use Rattle.fx_model.specs.declared.resources.Update.{Update}
 use Rattle.fx_model.specs.declared.resources.Update.TheVariants as update
-use Rattle.fx_json.specs.declared.fault.ReadFault.{ReadFault}
-use Rattle.fx_json.specs.declared.texts.TextForm.TheVariants.{Name, WorkloadInterface, PortName}
-use Rattle.fx_json.specs.declared.names.NamespacedName.{NamespacedName}
+use Rattle.fx_fields.specs.declared.fault.ReadFault.{ReadFault}
+use Rattle.fx_fields.specs.declared.texts.TextForm.TheVariants.{Name, WorkloadInterface, PortName}
+use Rattle.fx_fields.specs.declared.names.NamespacedName.{NamespacedName}
 use Rattle.fx_json.specs.declared.endpoints.Workload.{Workload}
 use Rattle.fx_json.specs.declared.endpoints.Holdings.{Holdings}
-use Rattle.fx_json.specs.Forms.{text}
-use Rattle.fx_json.specs.Fields.{◌>>=◌, Reader, required, defaulted, optional, object_at, section, items}
-use Rattle.fx_json.specs.Values.{whole, tcp, port_protocol, host_net, host_address}
-use Rattle.fx_json.specs.Labels.{own_labels}
-use Rattle.fx_json.specs.Metadata.{metadata_in}
+use Rattle.fx_fields.specs.Forms.{text}
+use Rattle.fx_fields.specs.Fields.{◌>>=◌, Reader, required, defaulted, optional, object_at, section, items}
+use Rattle.fx_fields.specs.Values.{whole, tcp, host_net}
+use Rattle.fx_fields.specs.Nets.{host_address}
+use Rattle.fx_fields.specs.Labels.{own_labels}
+use Rattle.fx_fields.specs.Metadata.{metadata_in}
+use Rattle.fx_json.specs.Ports.{port_protocol}
 
 abbrev pub endpoint_key : NamespacedName → Key
 endpoint_key named = key.Item (item_key.Endpoint named.ns named.name)

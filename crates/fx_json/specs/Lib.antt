@@ -1,13 +1,4 @@
-pub mod Paths
-pub mod Faults
-pub mod Fields
-pub mod Forms
-pub mod Values
-pub mod Names
-pub mod Labels
-pub mod Metadata
-pub mod Selectors
-pub mod SideSelectors
+pub mod Ports
 pub mod Sides
 pub mod Rules
 pub mod Policies
@@ -15,4 +6,3 @@ pub mod Endpoints
 pub mod NetSets
 pub mod Resources
 pub mod Packets
-pub mod Refusals

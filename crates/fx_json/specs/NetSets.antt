@@ -12,12 +12,13 @@ use Rattle.fx_model.specs.declared.policy.NetSet.{NetSet}
 use Rattle.fx_model.specs.declared.resources.Item.TheVariants as item
 use Rattle.fx_model.specs.declared.resources.Update.{Update}
 use Rattle.fx_model.specs.declared.resources.Update.TheVariants as update
-use Rattle.fx_json.specs.declared.fault.ReadFault.{ReadFault}
-use Rattle.fx_json.specs.declared.names.NamespacedName.{NamespacedName}
-use Rattle.fx_json.specs.Fields.{◌>>=◌, Reader, section, items}
-use Rattle.fx_json.specs.Values.{net, ipv4}
-use Rattle.fx_json.specs.Labels.{in_namespace}
-use Rattle.fx_json.specs.Metadata.{metadata_in, global_metadata_in}
+use Rattle.fx_fields.specs.declared.fault.ReadFault.{ReadFault}
+use Rattle.fx_fields.specs.declared.names.NamespacedName.{NamespacedName}
+use Rattle.fx_fields.specs.Fields.{◌>>=◌, Reader, section, items}
+use Rattle.fx_fields.specs.Values.{net}
+use Rattle.fx_fields.specs.Nets.{ipv4}
+use Rattle.fx_fields.specs.Labels.{in_namespace}
+use Rattle.fx_fields.specs.Metadata.{metadata_in, global_metadata_in}
 
 -- ---- keys
 

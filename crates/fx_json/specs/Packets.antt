@@ -8,13 +8,13 @@ use Rattle.serde_json.specs.Find.{as_str}
 use Rattle.fx_model.specs.declared.packet.State.{State}
 use Rattle.fx_model.specs.declared.packet.State.TheVariants.{New, Established, Related, Invalid}
 use Rattle.fx_model.specs.declared.packet.Packet.{Packet}
-use Rattle.fx_json.specs.declared.fault.ReadFault.{ReadFault}
-use Rattle.fx_json.specs.declared.texts.TextForm.TheVariants.{Interface}
+use Rattle.fx_fields.specs.declared.fault.ReadFault.{ReadFault}
+use Rattle.fx_fields.specs.declared.texts.TextForm.TheVariants.{Interface}
 use Rattle.fx_json.specs.declared.packets.ReadHeader.{ReadHeader}
 use Rattle.fx_json.specs.declared.packets.ReadLayer.{ReadLayer}
-use Rattle.fx_json.specs.Fields.{◌>>=◌, Reader, formed, required, defaulted}
-use Rattle.fx_json.specs.Forms.{text}
-use Rattle.fx_json.specs.Values.{whole, address, protocol}
+use Rattle.fx_fields.specs.Fields.{◌>>=◌, Reader, formed, required, defaulted}
+use Rattle.fx_fields.specs.Forms.{text}
+use Rattle.fx_fields.specs.Values.{whole, address, protocol}
 
 abbrev pub state_named : List ℕ → Option State
 state_named s =

@@ -1,74 +1,25 @@
 -- A resource, by its kind, and a Profile field by field in the order of Calico's resource reference
--- (`projectcalico.org/v3`). The kinds of Kubernetes' API reference that select or name workloads are known and aren't read
--- yet. Members that aren't named here are ignored.
-use Rattle.std.specs.Prelude.{ℕ, List, [], ◌∷◌, Bool, if◌then◌else◌, Option, Some, None, option_and_then, Result, Ok, Err, codes}
-use Rattle.std.specs.List.{list_any}
-use Rattle.std.specs.Str.{bytes_eq}
+-- (`projectcalico.org/v3`). Members that aren't named here are ignored.
+use Rattle.std.specs.Prelude.{Result, Ok, codes}
 use Rattle.serde_json.specs.Data.{Data}
-use Rattle.serde_json.specs.Find.{as_str}
 use Rattle.fx_model.specs.declared.ids.Key.{Key}
 use Rattle.fx_model.specs.declared.ids.Key.TheVariants as key
 use Rattle.fx_model.specs.declared.resources.Profile.{Profile}
 use Rattle.fx_model.specs.declared.resources.Item.TheVariants as item
 use Rattle.fx_model.specs.declared.resources.Update.{Update}
 use Rattle.fx_model.specs.declared.resources.Update.TheVariants as update
-use Rattle.fx_json.specs.declared.fault.ReadFault.{ReadFault}
-use Rattle.fx_json.specs.declared.fault.ReadFault.TheVariants.{UnknownKind, Unsupported}
-use Rattle.fx_json.specs.declared.resources.Kind.{Kind}
-use Rattle.fx_json.specs.declared.resources.Kind.TheVariants.{Profile as AProfile, WorkloadEndpoint, Tier as ATier, GlobalNetworkPolicy, NetworkPolicy, NetworkSet, GlobalNetworkSet}
-use Rattle.fx_json.specs.declared.rule_form.RuleForm.TheVariants.{OfProfile}
-use Rattle.fx_json.specs.Fields.{◌>>=◌, Reader, field, section, items}
-use Rattle.fx_json.specs.Names.{name_at, namespaced_name, name_in}
-use Rattle.fx_json.specs.Labels.{labels_at}
+use Rattle.fx_fields.specs.declared.fault.ReadFault.{ReadFault}
+use Rattle.fx_fields.specs.declared.kinds.Kind.{Kind}
+use Rattle.fx_fields.specs.declared.kinds.Kind.TheVariants.{Profile as AProfile, WorkloadEndpoint, Tier as ATier, GlobalNetworkPolicy, NetworkPolicy, NetworkSet, GlobalNetworkSet}
+use Rattle.fx_fields.specs.declared.rule_form.RuleForm.TheVariants.{OfProfile}
+use Rattle.fx_fields.specs.Fields.{◌>>=◌, Reader, section, items}
+use Rattle.fx_fields.specs.Kinds.{kind_of}
+use Rattle.fx_fields.specs.Names.{name_at, namespaced_name, name_in}
+use Rattle.fx_fields.specs.Labels.{labels_at}
 use Rattle.fx_json.specs.Rules.{rule}
 use Rattle.fx_json.specs.Policies.{tier_put, global_key, global_policy_put, namespaced_key, namespaced_policy_put}
 use Rattle.fx_json.specs.Endpoints.{endpoint_key, endpoint_put}
 use Rattle.fx_json.specs.NetSets.{global_set_key, global_set_put, net_set_key, net_set_put}
-
--- ---- kinds
-
-abbrev pub is_among : List (List ℕ) → List ℕ → Bool
-is_among names s = list_any (λ name. bytes_eq s name) names
-
--- a kind that is known and isn't read yet
-abbrev pub unread_kind : Result Kind ReadFault
-unread_kind = Err (Unsupported (codes "kind"))
-
-unfoldable pub calico_kind : List ℕ → Result Kind ReadFault
-calico_kind kind =
-    if bytes_eq kind (codes "Profile") then Ok AProfile
-    else (if bytes_eq kind (codes "WorkloadEndpoint") then Ok WorkloadEndpoint
-    else (if bytes_eq kind (codes "Tier") then Ok ATier
-    else (if bytes_eq kind (codes "GlobalNetworkPolicy") then Ok GlobalNetworkPolicy
-    else (if bytes_eq kind (codes "NetworkPolicy") then Ok NetworkPolicy
-    else (if bytes_eq kind (codes "NetworkSet") then Ok NetworkSet
-    else (if bytes_eq kind (codes "GlobalNetworkSet") then Ok GlobalNetworkSet
-    else Err UnknownKind))))))
-
-unfoldable pub core_kind : List ℕ → Result Kind ReadFault
-core_kind kind = if is_among (codes "Namespace" ∷ codes "ServiceAccount" ∷ []) kind then unread_kind else Err UnknownKind
-
-unfoldable pub network_kind : List ℕ → Result Kind ReadFault
-network_kind kind = if bytes_eq kind (codes "NetworkPolicy") then unread_kind else Err UnknownKind
-
--- a kind of this version of an API
-abbrev pub kind_named : List ℕ → List ℕ → Result Kind ReadFault
-kind_named version kind =
-    if bytes_eq version (codes "projectcalico.org/v3") then calico_kind kind
-    else (if bytes_eq version (codes "v1") then core_kind kind
-    else (if bytes_eq version (codes "networking.k8s.io/v1") then network_kind kind else Err UnknownKind))
-
--- the text of this name
-abbrev pub text_at : List ℕ → Data → Option (List ℕ)
-text_at name d = option_and_then as_str (field name d)
-
-unfoldable pub kind_of : Data → Result Kind ReadFault
-kind_of d = of_texts (text_at (codes "apiVersion") d) (text_at (codes "kind") d)
-  where
-    of_texts : Option (List ℕ) → Option (List ℕ) → Result Kind ReadFault
-    of_texts None kind = Err UnknownKind
-    of_texts (Some version) None = Err UnknownKind
-    of_texts (Some version) (Some kind) = kind_named version kind
 
 -- ---- profiles
 

@@ -10,15 +10,15 @@ use Rattle.fx_model.specs.declared.rules.Action.TheVariants.{Allow, Deny, Log, P
 use Rattle.fx_model.specs.declared.rules.Icmp.{Icmp}
 use Rattle.fx_model.specs.declared.rules.Rule.{Rule}
 use Rattle.fx_model.specs.Formed.{passes}
-use Rattle.fx_json.specs.declared.fault.ReadFault.{ReadFault}
-use Rattle.fx_json.specs.declared.fault.ReadFault.TheVariants.{IcmpWithoutProtocol, PassInProfile}
-use Rattle.fx_json.specs.declared.rule_form.RuleForm.{RuleForm}
-use Rattle.fx_json.specs.declared.rule_form.RuleForm.TheVariants.{OfPolicy, OfNamespace, OfProfile}
+use Rattle.fx_fields.specs.declared.fault.ReadFault.{ReadFault}
+use Rattle.fx_fields.specs.declared.fault.ReadFault.TheVariants.{IcmpWithoutProtocol, PassInProfile}
+use Rattle.fx_fields.specs.declared.rule_form.RuleForm.{RuleForm}
+use Rattle.fx_fields.specs.declared.rule_form.RuleForm.TheVariants.{OfPolicy, OfNamespace, OfProfile}
 use Rattle.fx_json.specs.declared.rules.ReadProtocols.{ReadProtocols}
 use Rattle.fx_json.specs.declared.sides.ReadSide.{ReadSide}
-use Rattle.fx_json.specs.Paths.{member_path}
-use Rattle.fx_json.specs.Fields.{◌>>=◌, Reader, is_absent, formed, required, defaulted, optional, unread, object_at, section}
-use Rattle.fx_json.specs.Values.{whole, version, protocol}
+use Rattle.fx_fields.specs.Paths.{member_path}
+use Rattle.fx_fields.specs.Fields.{◌>>=◌, Reader, is_absent, formed, required, defaulted, optional, unread, object_at, section}
+use Rattle.fx_fields.specs.Values.{whole, version, protocol}
 use Rattle.fx_json.specs.Sides.{side}
 
 -- ---- actions

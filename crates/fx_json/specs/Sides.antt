@@ -1,23 +1,20 @@
 -- A side of a rule, field by field in the order of Calico's resource reference (`projectcalico.org/v3`, EntityRule). Members that aren't
 -- named here are ignored.
-use Rattle.std.specs.Prelude.{ℕ, List, Bool, true, false, ◌&&◌, if◌then◌else◌, Option, Some, None, Result, Ok, Err, codes}
-use Rattle.std.specs.List.{list_all, filter_map}
+use Rattle.std.specs.Prelude.{ℕ, List, if◌then◌else◌, Option, Result, Ok, Err, codes}
 use Rattle.serde_json.specs.Data.{Data, Items, no_items, item}
-use Rattle.fx_base.specs.declared.net.NetText.{NetText}
-use Rattle.fx_base.specs.declared.net.NetText.TheVariants.{V4, V6}
 use Rattle.fx_base.specs.declared.net.Proto.{Proto}
 use Rattle.fx_model.specs.declared.rules.PortSpec.{PortSpec}
-use Rattle.fx_model.specs.Formed.{has_port_protocol, is_given}
-use Rattle.fx_json.specs.declared.fault.ReadFault.{ReadFault}
-use Rattle.fx_json.specs.declared.fault.ReadFault.TheVariants.{PortsWithoutProtocol}
-use Rattle.fx_json.specs.declared.rule_form.RuleForm.{RuleForm}
+use Rattle.fx_model.specs.Formed.{has_port_protocol}
+use Rattle.fx_fields.specs.declared.fault.ReadFault.{ReadFault}
+use Rattle.fx_fields.specs.declared.fault.ReadFault.TheVariants.{PortsWithoutProtocol}
+use Rattle.fx_fields.specs.declared.rule_form.RuleForm.{RuleForm}
 use Rattle.fx_json.specs.declared.sides.ReadSide.{ReadSide}
-use Rattle.fx_json.specs.declared.sides.ReadNets.{ReadNets}
 use Rattle.fx_json.specs.declared.sides.ReadPorts.{ReadPorts}
-use Rattle.fx_json.specs.Paths.{member_path}
-use Rattle.fx_json.specs.Fields.{◌>>=◌, Reader, optional, unread, list_at, items, items_from}
-use Rattle.fx_json.specs.Values.{net, ipv4, port}
-use Rattle.fx_json.specs.SideSelectors.{side_selectors}
+use Rattle.fx_fields.specs.Paths.{member_path}
+use Rattle.fx_fields.specs.Fields.{◌>>=◌, Reader, optional, unread, list_at, items_from}
+use Rattle.fx_fields.specs.Nets.{nets_of}
+use Rattle.fx_fields.specs.SideSelectors.{side_selectors}
+use Rattle.fx_json.specs.Ports.{port}
 
 -- ---- ports
 
@@ -36,24 +33,7 @@ ports_in protocol path values = may_list protocol path values >>= λ _. items_fr
 unfoldable pub ports_at : Option Proto → List ℕ → List ℕ → Data → Result (List PortSpec) ReadFault
 ports_at protocol path key d = list_at path key d >>= ports_in protocol (member_path path key)
 
--- ---- nets
-
-abbrev pub is_ipv6 : NetText → Bool
-is_ipv6 (V4 n) = false
-is_ipv6 V6 = true
-
--- there are nets, and all are of IPv6
-unfoldable pub are_ipv6_alone : List NetText → Bool
-are_ipv6_alone nets = is_given nets && list_all is_ipv6 nets
-
 -- ---- a side
-
--- the nets of IPv4, and whether no packet of IPv4 meets them
-unfoldable pub nets_of : Reader ReadNets
-nets_of path d = do
-  nets ← items net path (codes "nets") d
-  not_nets ← items net path (codes "notNets") d
-  Ok (record { nets = filter_map ipv4 nets; not_nets = filter_map ipv4 not_nets; never = are_ipv6_alone nets })
 
 unfoldable pub ports_of : Option Proto → Reader ReadPorts
 ports_of protocol path d = do

@@ -1,20 +1,16 @@
 //! Reads a WorkloadEndpoint that is put.
 ghost use Rattle.std.specs.Prelude.{◌≡◌};
 ghost use Rattle.serde_json.specs.View.{view};
-ghost use Rattle.fx_json.specs.Faults.{IsAnswerOf};
-ghost use Rattle.fx_json.specs.Paths.{text_of};
+ghost use Rattle.fx_fields.specs.Faults.{IsAnswerOf};
+ghost use Rattle.fx_fields.specs.Paths.{text_of};
 ghost use Rattle.fx_json.specs.Endpoints.{endpoint_key, port_fields, endpoint_port, workload, holdings, endpoint_of, endpoint_in, endpoint_put};
 
-use crate::fault::ReadFault;
-use crate::fields::{Form, defaulted, items, object, optional, required, section};
-use crate::labels::own_labels;
-use crate::metadata::{Metadata, metadata_in};
-use crate::names::NamespacedName;
-use crate::nets::ipv4_addresses;
-use crate::path::Path;
-use crate::texts::TextForm;
-use crate::values::{HostForm, PortProtocolForm, WordForm};
+use crate::ports::PortProtocolForm;
 use fx_base::{Ipv4, Proto, Seq, Text};
+use fx_fields::{
+    Form, HostForm, Metadata, NamespacedName, Path, ReadFault, TextForm, WordForm, defaulted,
+    ipv4_addresses, items, metadata_in, object, optional, own_labels, required, section,
+};
 use fx_model::{Endpoint, EndpointPort, Item, ItemKey, Key, Update};
 use fx_selector::Labels;
 use serde_json::Value;

@@ -1,19 +1,15 @@
 //! Reads a NetworkSet or a GlobalNetworkSet that is put.
 ghost use Rattle.std.specs.Prelude.{◌≡◌};
 ghost use Rattle.serde_json.specs.View.{view};
-ghost use Rattle.fx_json.specs.Faults.{IsAnswerOf};
-ghost use Rattle.fx_json.specs.Paths.{text_of};
+ghost use Rattle.fx_fields.specs.Faults.{IsAnswerOf};
+ghost use Rattle.fx_fields.specs.Paths.{text_of};
 ghost use Rattle.fx_json.specs.NetSets.{net_set_key, global_set_key, nets_of, nets_in, net_set_put, global_set_put};
 
-use crate::fault::ReadFault;
-use crate::fields::{items, section};
-use crate::labels::in_namespace;
-use crate::metadata::{GlobalMetadata, Metadata, global_metadata_in, metadata_in};
-use crate::names::NamespacedName;
-use crate::nets::ipv4_nets;
-use crate::path::Path;
-use crate::values::NetForm;
 use fx_base::{Net, Seq, Text};
+use fx_fields::{
+    GlobalMetadata, Metadata, NamespacedName, NetForm, Path, ReadFault, global_metadata_in,
+    in_namespace, ipv4_nets, items, metadata_in, section,
+};
 use fx_model::{Item, ItemKey, Key, NetSet, Update};
 use serde_json::Value;
 use std::alloc::Global;

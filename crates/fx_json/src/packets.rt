@@ -2,16 +2,15 @@
 ghost use Rattle.std.specs.Prelude.{◌≡◌, option_and_then};
 ghost use Rattle.serde_json.specs.Find.{as_str};
 ghost use Rattle.serde_json.specs.View.{view};
-ghost use Rattle.fx_json.specs.Faults.{IsAnswerOf};
-ghost use Rattle.fx_json.specs.Paths.{text_of};
+ghost use Rattle.fx_fields.specs.Faults.{IsAnswerOf};
+ghost use Rattle.fx_fields.specs.Paths.{text_of};
 ghost use Rattle.fx_json.specs.Packets.{state_named, state, header, layer, packet_fields, packet_of};
 
-use crate::fault::ReadFault;
-use crate::fields::{Form, defaulted, formed, required};
-use crate::path::Path;
-use crate::texts::TextForm;
-use crate::values::{AddressForm, ByteForm, ProtocolForm, WordForm};
 use fx_base::{Ipv4, Proto};
+use fx_fields::{
+    AddressForm, ByteForm, Form, Path, ProtocolForm, ReadFault, TextForm, WordForm, defaulted,
+    formed, required,
+};
 use fx_model::{Packet, State};
 use serde_json::Value;
 use std::alloc::Global;

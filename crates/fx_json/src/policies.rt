@@ -1,21 +1,18 @@
 //! Reads a tier, a GlobalNetworkPolicy or a NetworkPolicy that is put.
-ghost use Rattle.std.specs.Prelude.{◌≡◌, option_and_then};
-ghost use Rattle.std.specs.List.{list_any};
-ghost use Rattle.serde_json.specs.Find.{as_str};
+ghost use Rattle.std.specs.Prelude.{◌≡◌};
 ghost use Rattle.serde_json.specs.View.{view};
 ghost use Rattle.fx_selector.specs.Tree.{IsString};
-ghost use Rattle.fx_json.specs.Faults.{IsAnswerOf};
-ghost use Rattle.fx_json.specs.Paths.{text_of};
-ghost use Rattle.fx_json.specs.Policies.{order, default_action, tier_of, place_of, policy_type_named, policy_type, is_ingress, is_egress, directions_by_rules, directions_of, kept, kept_rules, rules_of, policy_of, unset, flags, global_policy, namespaced_policy, tier_in, tier_put, global_policy_in, global_policy_put, namespaced_key, namespaced_policy_in, namespaced_policy_put};
+ghost use Rattle.fx_fields.specs.Faults.{IsAnswerOf};
+ghost use Rattle.fx_fields.specs.Paths.{text_of};
+ghost use Rattle.fx_json.specs.Policies.{tier_of, kept, kept_rules, rules_of, policy_of, global_policy, namespaced_policy, tier_in, tier_put, global_policy_in, global_policy_put, namespaced_key, namespaced_policy_in, namespaced_policy_put};
 
-use crate::fault::ReadFault;
-use crate::fields::{Form, defaulted, formed, is_given, items, optional, section};
-use crate::names::{NamespacedName, name_in, namespaced_name_in};
-use crate::path::Path;
-use crate::rule_form::RuleForm;
-use crate::selectors::{global_selector, namespaced_selector};
-use crate::texts::TextForm;
+use crate::rules::RuleReader;
 use fx_base::{Seq, Text};
+use fx_fields::{
+    DefaultActionForm, Directions, NamespacedName, OrderForm, Path, PolicyTypeForm, ReadFault,
+    RuleForm, TierPlace, directions_of, global_selector, is_given, items, name_in,
+    namespaced_name_in, namespaced_selector, optional, read_flags, read_place, section,
+};
 use fx_model::{Item, Key, Policy, PolicyId, Rule, Tier, Update};
 use fx_selector::Selector;
 use serde_json::Value;
@@ -54,40 +51,6 @@ fn read_tier(alloc: Global, path: &Path<'_>, spec: &Value) -> Result<Tier, ReadF
     Ok(Tier { order })
 }
 
-// A whole number of 64 bits.
-struct OrderForm;
-
-impl Form for OrderForm {
-    type Read = i64;
-
-    ghost read_by = { λ _. order };
-
-    fn read(&self, alloc: Global, path: &Path<'_>, value: &Value) -> Result<i64, ReadFault> {
-        formed(alloc, path, value.as_i64())
-    }
-}
-
-// How a tier ends: it denies, and passing isn't read yet.
-struct DefaultActionForm;
-
-impl Form for DefaultActionForm {
-    type Read = ();
-
-    ghost read_by = { λ _. default_action };
-
-    fn read(&self, alloc: Global, path: &Path<'_>, value: &Value) -> Result<(), ReadFault> {
-        match value.as_str() {
-            Some("Deny") => Ok(()),
-            Some("Pass") => Err(ReadFault::Unsupported {
-                path: path.text(alloc)?,
-            }),
-            _ => Err(ReadFault::BadField {
-                path: path.text(alloc)?,
-            }),
-        }
-    }
-}
-
 // ---- global policies
 
 #[tactic(auto, unfolding(crate::specs::Policies::global_policy_put))]
@@ -122,36 +85,6 @@ fn read_global_policy(alloc: Global, path: &Path<'_>, spec: &Value) -> Result<Po
     let rules = read_rules(alloc, &form, path, spec)?;
     read_flags(alloc, path, spec)?;
     Ok(policy_of(place, selector, rules))
-}
-
-// What isn't read yet unless it is false.
-#[tactic(auto, unfolding(crate::specs::Policies::flags))]
-fn read_flags(alloc: Global, path: &Path<'_>, spec: &Value) -> Result<(), ReadFault>
-    ensures { IsAnswerOf (flags (text_of path.now) (view spec.now)) result }
-{
-    defaulted(alloc, &UnsetForm, (), path, "doNotTrack", spec)?;
-    defaulted(alloc, &UnsetForm, (), path, "preDNAT", spec)?;
-    defaulted(alloc, &UnsetForm, (), path, "applyOnForward", spec)
-}
-
-struct UnsetForm;
-
-impl Form for UnsetForm {
-    type Read = ();
-
-    ghost read_by = { λ _. unset };
-
-    fn read(&self, alloc: Global, path: &Path<'_>, value: &Value) -> Result<(), ReadFault> {
-        match value.as_bool() {
-            Some(false) => Ok(()),
-            Some(true) => Err(ReadFault::Unsupported {
-                path: path.text(alloc)?,
-            }),
-            None => Err(ReadFault::BadField {
-                path: path.text(alloc)?,
-            }),
-        }
-    }
 }
 
 // ---- policies of a namespace
@@ -225,23 +158,6 @@ fn policy_of(place: TierPlace, selector: Selector, rules: PolicyRules) -> Policy
     }
 }
 
-// A policy's tier and its order there.
-#[derive(Drop)]
-struct TierPlace {
-    tier: Text,
-    order: Option<i64>,
-}
-
-#[tactic(auto, unfolding(crate::specs::Policies::place_of))]
-fn read_place(alloc: Global, path: &Path<'_>, spec: &Value) -> Result<TierPlace, ReadFault>
-    ensures { IsAnswerOf (place_of (text_of path.now) (view spec.now)) result }
-{
-    let unnamed = Text::new(alloc, b"default")?;
-    let tier = defaulted(alloc, &TextForm::Name, unnamed, path, "tier", spec)?;
-    let order = optional(alloc, &OrderForm, path, "order", spec)?;
-    Ok(TierPlace { tier, order })
-}
-
 // The directions that are on, and their rules.
 #[derive(Drop)]
 struct PolicyRules {
@@ -261,103 +177,13 @@ fn read_rules(
     ensures { IsAnswerOf (rules_of form.now (text_of path.now) (view spec.now)) result }
 {
     let types = items(alloc, &PolicyTypeForm, path, "types", spec)?;
-    let ingress = items(alloc, form, path, "ingress", spec)?;
-    let egress = items(alloc, form, path, "egress", spec)?;
+    let reader = RuleReader { form };
+    let ingress = items(alloc, &reader, path, "ingress", spec)?;
+    let egress = items(alloc, &reader, path, "egress", spec)?;
     let has_ingress = is_given(ingress.as_slice());
     let has_egress = is_given(egress.as_slice());
     let on = directions_of(types.as_slice(), has_ingress, has_egress);
     Ok(kept_rules(alloc, on, ingress, egress))
-}
-
-// A direction that a policy lists.
-#[derive(Clone, Copy)]
-enum PolicyType {
-    Ingress,
-    Egress,
-}
-
-struct PolicyTypeForm;
-
-impl Form for PolicyTypeForm {
-    type Read = PolicyType;
-
-    ghost read_by = { λ _. policy_type };
-
-    fn read(&self, alloc: Global, path: &Path<'_>, value: &Value) -> Result<PolicyType, ReadFault> {
-        formed(alloc, path, policy_type_in(value))
-    }
-}
-
-fn policy_type_in(value: &Value) -> Option<PolicyType>
-    ensures { result ≡ option_and_then policy_type_named (as_str (view value.now)) }
-{
-    policy_type_named(value.as_str()?)
-}
-
-fn policy_type_named(name: &str) -> Option<PolicyType>
-    ensures { result ≡ policy_type_named name.now }
-{
-    match name {
-        "Ingress" => Some(PolicyType::Ingress),
-        "Egress" => Some(PolicyType::Egress),
-        _ => None,
-    }
-}
-
-// ---- directions
-
-// Whether a policy sees packets to its endpoints, and packets from them.
-#[derive(Clone, Copy)]
-struct Directions {
-    on_ingress: bool,
-    on_egress: bool,
-}
-
-// An empty list of types counts as absent.
-fn directions_of(types: &[PolicyType], has_ingress: bool, has_egress: bool) -> Directions
-    ensures { result ≡ directions_of types.now has_ingress has_egress }
-{
-    if types.is_empty() {
-        return directions_by_rules(has_ingress, has_egress);
-    }
-    Directions {
-        on_ingress: lists_ingress(types),
-        on_egress: lists_egress(types),
-    }
-}
-
-// The directions of a policy that lists none.
-fn directions_by_rules(has_ingress: bool, has_egress: bool) -> Directions
-    ensures { result ≡ directions_by_rules has_ingress has_egress }
-{
-    Directions {
-        on_ingress: has_ingress || !has_egress,
-        on_egress: has_egress,
-    }
-}
-
-fn lists_ingress(types: &[PolicyType]) -> bool
-    ensures { result ≡ list_any is_ingress types.now }
-{
-    types.iter().any(is_ingress)
-}
-
-fn lists_egress(types: &[PolicyType]) -> bool
-    ensures { result ≡ list_any is_egress types.now }
-{
-    types.iter().any(is_egress)
-}
-
-fn is_ingress(listed: &PolicyType) -> bool
-    ensures { result ≡ is_ingress listed.now }
-{
-    matches!(listed, PolicyType::Ingress)
-}
-
-fn is_egress(listed: &PolicyType) -> bool
-    ensures { result ≡ is_egress listed.now }
-{
-    matches!(listed, PolicyType::Egress)
 }
 
 // The rules of a direction that is off are dropped.

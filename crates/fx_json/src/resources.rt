@@ -1,35 +1,22 @@
 //! Reads a resource that is put or deleted, and of those that are put a Profile.
-ghost use Rattle.std.specs.Prelude.{◌≡◌, ℕ, List, true, IfOk, option_map};
+ghost use Rattle.std.specs.Prelude.{◌≡◌, ℕ, List, true, IfOk};
 ghost use Rattle.serde_json.specs.View.{view};
 ghost use Rattle.fx_model.specs.Formed.{is_formed, puts_workload_interface};
-ghost use Rattle.fx_json.specs.Faults.{IsReadFault, IsAnswerOf};
-ghost use Rattle.fx_json.specs.Paths.{text_of};
-ghost use Rattle.fx_json.specs.Resources.{unread_kind, calico_kind, core_kind, network_kind, kind_named, text_at, kind_of, profile_of, profile_put, put_of, resource_of, key_of, delete_of, key_in, profile_in};
+ghost use Rattle.fx_fields.specs.Faults.{IsAnswerOf};
+ghost use Rattle.fx_fields.specs.Paths.{text_of};
+ghost use Rattle.fx_json.specs.Resources.{profile_of, profile_put, put_of, resource_of, key_of, delete_of, key_in, profile_in};
 
 use crate::endpoints::{endpoint_key, endpoint_put};
-use crate::fault::ReadFault;
-use crate::fields::{field, items, section};
-use crate::labels::labels_at;
-use crate::names::{name_at, name_in, namespaced_name};
 use crate::net_sets::{global_set_key, global_set_put, net_set_key, net_set_put};
-use crate::path::Path;
 use crate::policies::{global_policy_put, namespaced_key, namespaced_policy_put, tier_put};
-use crate::rule_form::RuleForm;
+use crate::rules::RuleReader;
+use fx_fields::{
+    Kind, Path, ReadFault, RuleForm, items, kind_of, labels_at, name_at, name_in, namespaced_name,
+    section,
+};
 use fx_model::{Item, Key, PolicyId, Profile, Update};
 use serde_json::Value;
 use std::alloc::Global;
-
-// The kinds that are read.
-#[derive(Clone, Copy)]
-enum Kind {
-    Profile,
-    WorkloadEndpoint,
-    Tier,
-    GlobalNetworkPolicy,
-    NetworkPolicy,
-    NetworkSet,
-    GlobalNetworkSet,
-}
 
 /// The update that a put of this resource is, or the first fault of the resource.
 pub fn read_resource(alloc: Global, value: &Value) -> Result<Update, ReadFault>
@@ -103,83 +90,6 @@ fn key_of(alloc: Global, kind: Kind, path: &Path<'_>, metadata: &Value) -> Resul
     }
 }
 
-// ---- kinds
-
-#[tactic(auto, unfolding(crate::specs::Resources::kind_of))]
-fn kind_of(alloc: Global, resource: &Value) -> Result<Kind, ReadFault>
-    ensures { IsAnswerOf (kind_of (view resource.now)) result }
-{
-    let Some(version) = text_at(resource, "apiVersion") else {
-        return Err(ReadFault::UnknownKind);
-    };
-    let Some(kind) = text_at(resource, "kind") else {
-        return Err(ReadFault::UnknownKind);
-    };
-    kind_named(alloc, version, kind)
-}
-
-fn text_at<'v>(object: &'v Value, key: &str) -> Option<&'v str>
-    ensures { option_map (λ text. text.now) result ≡ text_at key.now (view object.now) }
-{
-    field(object, key)?.as_str()
-}
-
-fn kind_named(alloc: Global, version: &str, kind: &str) -> Result<Kind, ReadFault>
-    ensures { IsAnswerOf (kind_named version.now kind.now) result }
-{
-    match version {
-        "projectcalico.org/v3" => calico_kind(kind),
-        "v1" => core_kind(alloc, kind),
-        "networking.k8s.io/v1" => network_kind(alloc, kind),
-        _ => Err(ReadFault::UnknownKind),
-    }
-}
-
-#[tactic(auto, unfolding(crate::specs::Resources::calico_kind))]
-fn calico_kind(kind: &str) -> Result<Kind, ReadFault>
-    ensures { IsAnswerOf (calico_kind kind.now) result }
-{
-    match kind {
-        "Profile" => Ok(Kind::Profile),
-        "WorkloadEndpoint" => Ok(Kind::WorkloadEndpoint),
-        "Tier" => Ok(Kind::Tier),
-        "GlobalNetworkPolicy" => Ok(Kind::GlobalNetworkPolicy),
-        "NetworkPolicy" => Ok(Kind::NetworkPolicy),
-        "NetworkSet" => Ok(Kind::NetworkSet),
-        "GlobalNetworkSet" => Ok(Kind::GlobalNetworkSet),
-        _ => Err(ReadFault::UnknownKind),
-    }
-}
-
-#[tactic(auto, unfolding(crate::specs::Resources::core_kind))]
-fn core_kind(alloc: Global, kind: &str) -> Result<Kind, ReadFault>
-    ensures { IsAnswerOf (core_kind kind.now) result }
-{
-    match kind {
-        "Namespace" | "ServiceAccount" => unread_kind(alloc),
-        _ => Err(ReadFault::UnknownKind),
-    }
-}
-
-#[tactic(auto, unfolding(crate::specs::Resources::network_kind))]
-fn network_kind(alloc: Global, kind: &str) -> Result<Kind, ReadFault>
-    ensures { IsAnswerOf (network_kind kind.now) result }
-{
-    match kind {
-        "NetworkPolicy" => unread_kind(alloc),
-        _ => Err(ReadFault::UnknownKind),
-    }
-}
-
-// A kind that is known and isn't read yet.
-fn unread_kind(alloc: Global) -> Result<Kind, ReadFault>
-    ensures { IsAnswerOf unread_kind result }
-{
-    Err(ReadFault::Unsupported {
-        path: Path::top("kind").text(alloc)?,
-    })
-}
-
 // ---- profiles
 
 #[tactic(auto, unfolding(crate::specs::Resources::profile_put))]
@@ -209,8 +119,9 @@ fn read_profile(alloc: Global, path: &Path<'_>, spec: &Value) -> Result<Profile,
     ensures { IsAnswerOf (profile_of (text_of path.now) (view spec.now)) result }
 {
     let form = RuleForm::OfProfile;
-    let ingress = items(alloc, &form, path, "ingress", spec)?;
-    let egress = items(alloc, &form, path, "egress", spec)?;
+    let reader = RuleReader { form: &form };
+    let ingress = items(alloc, &reader, path, "ingress", spec)?;
+    let egress = items(alloc, &reader, path, "egress", spec)?;
     let labels = labels_at(alloc, path, "labelsToApply", spec)?;
     Ok(Profile {
         labels,

@@ -3,29 +3,34 @@ ghost use Rattle.std.specs.Prelude.{◌≡◌, option_and_then};
 ghost use Rattle.serde_json.specs.Find.{as_str};
 ghost use Rattle.serde_json.specs.View.{view};
 ghost use Rattle.fx_model.specs.Formed.{passes};
-ghost use Rattle.fx_json.specs.Faults.{IsAnswerOf};
-ghost use Rattle.fx_json.specs.Paths.{text_of};
+ghost use Rattle.fx_fields.specs.Faults.{IsAnswerOf};
+ghost use Rattle.fx_fields.specs.Paths.{text_of};
 ghost use Rattle.fx_json.specs.Rules.{action_named, may_pass, allowed, action, is_icmpv6, has_messages, with_messages, message, asked_message, icmp_at, side_at, of_ipv4, is_of_ipv6, protocols, is_never, rule_fields, rule};
 
-use crate::fault::ReadFault;
-use crate::fields::{Form, defaulted, formed, is_absent, object, optional, required, section};
-use crate::path::Path;
-use crate::rule_form::RuleForm;
-use crate::sides::{ReadSide, UnreadForm, read_side};
-use crate::values::{ByteForm, ProtocolForm, VersionForm};
+use crate::sides::{ReadSide, read_side};
 use fx_base::Proto;
+use fx_fields::{
+    ByteForm, Form, Path, ProtocolForm, ReadFault, RuleForm, UnreadForm, VersionForm, defaulted,
+    formed, is_absent, object, optional, required, section,
+};
 use fx_model::{Action, Icmp, Rule};
 use serde_json::Value;
 use std::alloc::Global;
 
-impl Form for RuleForm {
+/// How a rule is read that stands in a policy or a profile of this form.
+#[derive(Drop)]
+pub struct RuleReader<'f> {
+    pub form: &'f RuleForm,
+}
+
+impl Form for RuleReader<'_> {
     type Read = Rule;
 
-    ghost read_by = { rule };
+    ghost read_by = { λ reader. rule reader.form.now };
 
     #[tactic(auto, unfolding(crate::specs::Rules::rule))]
     fn read(&self, alloc: Global, path: &Path<'_>, value: &Value) -> Result<Rule, ReadFault> {
-        read_rule(alloc, self, path, object(alloc, path, value)?)
+        read_rule(alloc, self.form, path, object(alloc, path, value)?)
     }
 }
 

@@ -1,21 +1,16 @@
 //! Reads a side of a rule.
 ghost use Rattle.std.specs.Prelude.{◌≡◌};
-ghost use Rattle.std.specs.List.{list_all};
 ghost use Rattle.serde_json.specs.View.{view, items_view};
 ghost use Rattle.fx_model.specs.Formed.{has_port_protocol};
-ghost use Rattle.fx_json.specs.Faults.{IsAnswerOf};
-ghost use Rattle.fx_json.specs.Paths.{text_of};
-ghost use Rattle.fx_json.specs.Fields.{unread};
-ghost use Rattle.fx_json.specs.Sides.{with_ports, may_list, ports_in, ports_at, is_ipv6, are_ipv6_alone, nets_of, ports_of, side};
+ghost use Rattle.fx_fields.specs.Faults.{IsAnswerOf};
+ghost use Rattle.fx_fields.specs.Paths.{text_of};
+ghost use Rattle.fx_json.specs.Sides.{with_ports, may_list, ports_in, ports_at, ports_of, side};
 
-use crate::fault::ReadFault;
-use crate::fields::{Form, items, list_at, optional, read_items};
-use crate::nets::ipv4_nets;
-use crate::path::Path;
-use crate::rule_form::RuleForm;
-use crate::side_selectors::read_selectors;
-use crate::values::{NetForm, PortForm};
-use fx_base::{Net, NetText, Proto, Seq};
+use crate::ports::PortForm;
+use fx_base::{Proto, Seq};
+use fx_fields::{
+    Path, ReadFault, RuleForm, UnreadForm, list_at, optional, read_items, read_nets, read_selectors,
+};
 use fx_model::{PortSpec, Side, has_ports};
 use serde_json::Value;
 use std::alloc::Global;
@@ -54,27 +49,6 @@ pub fn read_side(
     })
 }
 
-/// The nets of a side, and whether no packet of IPv4 meets them.
-#[derive(Drop)]
-pub struct ReadNets {
-    pub nets: Seq<Net>,
-    pub not_nets: Seq<Net>,
-    pub never: bool,
-}
-
-#[tactic(auto, unfolding(crate::specs::Sides::nets_of))]
-fn read_nets(alloc: Global, path: &Path<'_>, value: &Value) -> Result<ReadNets, ReadFault>
-    ensures { IsAnswerOf (nets_of (text_of path.now) (view value.now)) result }
-{
-    let nets = items(alloc, &NetForm, path, "nets", value)?;
-    let not_nets = items(alloc, &NetForm, path, "notNets", value)?;
-    Ok(ReadNets {
-        nets: ipv4_nets(alloc, nets.as_slice())?,
-        not_nets: ipv4_nets(alloc, not_nets.as_slice())?,
-        never: are_ipv6_alone(nets.as_slice()),
-    })
-}
-
 /// The ports of a side.
 #[derive(Drop)]
 pub struct ReadPorts {
@@ -96,22 +70,7 @@ fn read_ports(
     Ok(ReadPorts { ports, not_ports })
 }
 
-/// A member that isn't read yet.
-pub struct UnreadForm;
-
-impl Form for UnreadForm {
-    type Read = ();
-
-    ghost read_by = { λ _. unread };
-
-    fn read(&self, alloc: Global, path: &Path<'_>, _value: &Value) -> Result<(), ReadFault> {
-        Err(ReadFault::Unsupported {
-            path: path.text(alloc)?,
-        })
-    }
-}
-
-// ---- ports and nets
+// ---- ports
 
 #[tactic(auto, unfolding(crate::specs::Sides::ports_at))]
 fn ports_at(
@@ -174,30 +133,5 @@ fn has_port_protocol(protocol: Option<Proto>) -> bool
     match protocol {
         Some(protocol) => has_ports(protocol),
         None => false,
-    }
-}
-
-#[tactic(auto, unfolding(crate::specs::Sides::are_ipv6_alone))]
-fn are_ipv6_alone(nets: &[NetText]) -> bool
-    ensures { result ≡ are_ipv6_alone nets.now }
-{
-    if nets.is_empty() {
-        return false;
-    }
-    are_ipv6(nets)
-}
-
-fn are_ipv6(nets: &[NetText]) -> bool
-    ensures { result ≡ list_all is_ipv6 nets.now }
-{
-    nets.iter().all(is_ipv6)
-}
-
-fn is_ipv6(net: &NetText) -> bool
-    ensures { result ≡ is_ipv6 net.now }
-{
-    match net {
-        NetText::V4(_) => false,
-        NetText::V6 => true,
     }
 }

@@ -33,3 +33,8 @@ pub mod BranchLemmas
 pub mod Lines
 pub mod TreeAt
 pub mod Beginnings
+pub mod Parted
+pub mod OneUse
+pub mod MadeUses
+pub mod PolicyKeys
+pub mod Interfaces

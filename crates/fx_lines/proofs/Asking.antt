@@ -7,9 +7,9 @@ use Rattle.serde_json.specs.Data.{Data}
 use Rattle.serde_json.specs.Read.{read}
 use Rattle.fx_lines.specs.Commands.{is_blank_byte, value_of, of_value, command_of}
 use Rattle.fx_lines.specs.declared.commands.Command.TheVariants.{Blank}
-use Rattle.fx_json.specs.declared.refusal.Refusal.{Refusal}
-use Rattle.fx_json.specs.declared.refusal.Refusal.TheVariants.{BadJson}
-use Rattle.fx_json.specs.Refusals.{Refuses}
+use Rattle.fx_fields.specs.declared.refusal.Refusal.{Refusal}
+use Rattle.fx_fields.specs.declared.refusal.Refusal.TheVariants.{BadJson}
+use Rattle.fx_fields.specs.Refusals.{Refuses}
 
 pub command_of-blank : (line : List ℕ) → true ≡ list_all is_blank_byte line → command_of line ≡ Ok Blank
 unfolding command_of

@@ -7,9 +7,9 @@ use Rattle.fx_model.specs.declared.packet.Packet.{Packet}
 use Rattle.fx_model.specs.declared.resources.Update.{Update}
 use Rattle.fx_model.specs.declared.resources.Update.TheVariants as update
 use Rattle.fx_model.specs.Formed.{is_formed, puts_workload_interface}
-use Rattle.fx_json.specs.declared.fault.ReadFault.{ReadFault}
-use Rattle.fx_json.specs.declared.refusal.Refusal.{Refusal}
-use Rattle.fx_json.specs.Fields.{field, is_object, has_members}
+use Rattle.fx_fields.specs.declared.fault.ReadFault.{ReadFault}
+use Rattle.fx_fields.specs.declared.refusal.Refusal.{Refusal}
+use Rattle.fx_fields.specs.Fields.{field, is_object, has_members}
 use Rattle.fx_json.specs.Packets.{packet_of}
 use Rattle.fx_json.specs.Resources.{resource_of, delete_of}
 use Rattle.fx_json.proofs.FormedResources.{resource_of-formed, delete_of-formed, resource_of-workload, delete_of-workload}

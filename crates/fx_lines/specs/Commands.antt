@@ -10,10 +10,10 @@ use Rattle.fx_model.specs.declared.resources.Update.{Update}
 use Rattle.fx_model.specs.declared.resources.Update.TheVariants as update
 use Rattle.fx_lines.specs.declared.commands.Command.{Command}
 use Rattle.fx_lines.specs.declared.commands.Command.TheVariants as command
-use Rattle.fx_json.specs.declared.fault.ReadFault.{ReadFault}
-use Rattle.fx_json.specs.declared.refusal.Refusal.{Refusal}
-use Rattle.fx_json.specs.declared.refusal.Refusal.TheVariants.{Read, BadJson, BadLine}
-use Rattle.fx_json.specs.Fields.{field, is_object, has_members}
+use Rattle.fx_fields.specs.declared.fault.ReadFault.{ReadFault}
+use Rattle.fx_fields.specs.declared.refusal.Refusal.{Refusal}
+use Rattle.fx_fields.specs.declared.refusal.Refusal.TheVariants.{Read, BadJson, BadLine}
+use Rattle.fx_fields.specs.Fields.{field, is_object, has_members}
 use Rattle.fx_json.specs.Packets.{packet_of}
 use Rattle.fx_json.specs.Resources.{resource_of, delete_of}
 

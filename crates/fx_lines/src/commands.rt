@@ -2,14 +2,15 @@
 ghost use Rattle.std.specs.Prelude.{◌≡◌, IfOk, Some, Ok, true};
 ghost use Rattle.std.specs.List.{list_all};
 ghost use Rattle.serde_json.specs.View.{view};
-ghost use Rattle.fx_json.specs.Fields.{is_object};
+ghost use Rattle.fx_fields.specs.Fields.{is_object};
 ghost use Rattle.fx_json.specs.Packets.{packet_of};
-ghost use Rattle.fx_json.specs.Refusals.{Refuses};
+ghost use Rattle.fx_fields.specs.Refusals.{Refuses};
 ghost use Rattle.fx_json.specs.Resources.{resource_of, delete_of};
 ghost use Rattle.fx_lines.specs.Commands.{is_blank_byte, is_true, by_name, command_of, shaped, of_value, update_answer, packet_answer};
 ghost use Rattle.fx_lines.specs.Formed.{IsReadCommand};
 
-use fx_json::{ReadFault, Refusal, field, has_members, read_delete, read_packet, read_resource};
+use fx_fields::{ReadFault, Refusal, field, has_members};
+use fx_json::{read_delete, read_packet, read_resource};
 use fx_model::{Packet, Update};
 use serde_json::Value;
 use std::alloc::Global;

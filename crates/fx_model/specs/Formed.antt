@@ -8,6 +8,7 @@ use Rattle.std.specs.List.{list_all}
 use Rattle.std.specs.Str.{bytes_eq}
 use Rattle.std.specs.FinMap as maps
 use Rattle.fx_base.specs.declared.net.Proto.{Proto}
+use Rattle.fx_base.specs.Given.{is_given}
 use Rattle.fx_model.specs.declared.rules.Action.{Action}
 use Rattle.fx_model.specs.declared.rules.Action.TheVariants.{Allow, Deny, Log, Pass}
 use Rattle.fx_model.specs.declared.rules.Rule.{Rule}
@@ -41,10 +42,6 @@ use Rattle.fx_model.specs.Policy.{is_workload}
 
 abbrev pub implies : Bool → Bool → Bool
 implies a b = not a || b
-
-abbrev pub is_given : {A : Type 0} → List A → Bool
-is_given [] = false
-is_given (x ∷ xs) = true
 
 abbrev pub has_port_protocol : Option Proto → Bool
 has_port_protocol None = false

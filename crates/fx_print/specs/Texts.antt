@@ -2,11 +2,11 @@
 -- repository is their public source.
 use Rattle.std.specs.Prelude.{ℕ, List, [], ◌++◌, Option, Some, None, codes, decimal}
 use Rattle.fx_base.specs.KernelName.{kernel_bytes}
-use Rattle.fx_json.specs.declared.refusal.Refusal.{Refusal}
-use Rattle.fx_json.specs.declared.refusal.Refusal.TheVariants.{Read, BadJson, BadLine, Taken}
-use Rattle.fx_json.specs.declared.fault.ReadFault.{ReadFault}
-use Rattle.fx_json.specs.Faults.{path_of, place_of}
-use Rattle.fx_json.specs.Refusals.{refusal_number, refusal_name}
+use Rattle.fx_fields.specs.declared.refusal.Refusal.{Refusal}
+use Rattle.fx_fields.specs.declared.refusal.Refusal.TheVariants.{Read, BadJson, BadLine, Taken}
+use Rattle.fx_fields.specs.declared.fault.ReadFault.{ReadFault}
+use Rattle.fx_fields.specs.Faults.{path_of, place_of}
+use Rattle.fx_fields.specs.Refusals.{refusal_number, refusal_name}
 
 -- a space and the path, where there is one
 abbrev pub path_text : Option (List ℕ) → List ℕ

@@ -1,10 +1,10 @@
 //! Numbers and plain answers as text.
 ghost use Rattle.std.specs.Prelude.{◌≡◌, ◌++◌, ◌∷◌, OnOk, IfOk, decimal};
-ghost use Rattle.fx_json.specs.Faults.{path_of};
+ghost use Rattle.fx_fields.specs.Faults.{path_of};
 ghost use Rattle.fx_print.specs.Texts.{path_text, place_text, fault_text, detail_of, refusal_line, flushed_line};
 
 use fx_base::{Memory, Text};
-use fx_json::{ReadFault, Refusal};
+use fx_fields::{ReadFault, Refusal};
 use itoa::Buffer;
 use std::alloc::Global;
 

@@ -5,7 +5,7 @@ use Rattle.fx_model.specs.declared.chain.End.TheVariants.{Source, Dest}
 use Rattle.fx_model.specs.declared.chain.Match.{Match}
 use Rattle.fx_model.specs.declared.view_rule.ViewRule.{ViewRule}
 use Rattle.fx_model.specs.Rendering.{proto_match, nets_match, block_match, sets_match, ports_match, icmp_match, blocks_of, main_matches}
-use Rattle.fx_model.specs.Formed.{is_given}
+use Rattle.fx_base.specs.Given.{is_given}
 use Rattle.fx_rules.specs.Rules.{mark_match, base_matches, extension_matches}
 
 mark_match-given : (blocks : List (List ChainRule)) → mark_match (is_given blocks) ≡ block_match blocks

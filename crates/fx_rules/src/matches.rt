@@ -1,6 +1,6 @@
 //! The matches of a rule's main rule: what stands in no block, and what the blocks left.
 ghost use Rattle.std.specs.Prelude.{◌≡◌, ◌++◌, map, IfOk, OnOk};
-ghost use Rattle.fx_model.specs.Formed.{is_given};
+ghost use Rattle.fx_base.specs.Given.{is_given};
 ghost use Rattle.fx_model.specs.Rendering.{proto_match, nets_match, net_match, not_net_match, blocks_of, set_match, in_set_match, not_in_set_match, sets_match, port_choices, listed_match, not_listed_match, ports_match, icmp_match, main_matches};
 ghost use Rattle.fx_rules.specs.Ports.{choice_of};
 ghost use Rattle.fx_rules.specs.Rules.{mark_match, base_matches, extension_matches};

@@ -1,6 +1,6 @@
 //! What one rule is rendered to.
 ghost use Rattle.std.specs.Prelude.{◌≡◌, ◌++◌, IfOk, OnOk, OnErr};
-ghost use Rattle.fx_model.specs.Formed.{is_given};
+ghost use Rattle.fx_base.specs.Given.{is_given};
 ghost use Rattle.fx_model.specs.Rendering.{is_void, block_rules, main_rules, rendered_rule};
 ghost use Rattle.fx_rules.specs.Rules.{GrowsByPrefix};
 

@@ -3,6 +3,7 @@ ghost use Rattle.std.specs.Prelude.{◌≡◌, OnOk, OnErr, IsSome, true, false}
 ghost use Rattle.std.specs.Option.{option_copied};
 ghost use Rattle.std.specs.FinMap as map;
 ghost use Rattle.fx_base.specs.Set as set;
+ghost use Rattle.fx_base.specs.Ticks.{ticked};
 ghost use Rattle.fx_model.specs.Messages.{members_of};
 ghost use Rattle.fx_model.specs.Ranks.{AllLeadBelow, IsRanked, rank_of};
 ghost use Rattle.fx_model.specs.Closed.{AllLeadThere, AllNameThere, AreClosedTables};
@@ -10,7 +11,7 @@ ghost use Rattle.fx_model.specs.Shapes.{have_shape, is_member_of, AreShaped, Are
 ghost use Rattle.fx_tables.specs.Leads.{NoneLeadsTo};
 ghost use Rattle.fx_tables.specs.Names.{NoneNames};
 
-use fx_base::{ChainMap, ChainName, Memory, Seq, SetMap, SetName};
+use fx_base::{ChainMap, ChainName, Memory, Seq, SetMap, SetName, Ticker};
 use fx_model::{ChainRule, Member, MemberSet};
 use std::alloc::Global;
 use std::marker::Model;
@@ -52,18 +53,25 @@ impl Tables {
         }
     }
 
-    /// Creates a set without members; its name tells its kind.
-    pub fn create_set(&mut self, name: SetName) -> Result<(), Memory>
+    /// Creates a set without members; its name tells its kind. Counts as one operation, also if memory runs out.
+    pub fn create_set<O: Ticker>(&mut self, name: SetName, operations: &mut O) -> Result<(), Memory>
         requires { map.contains_key self.old.sets name ≡ false }
         ensures ok { OnOk result (self.new ≡ record self.old { sets = map.insert self.old.sets name set.empty }) }
         ensures err { OnErr result (self.new ≡ self.old) }
+        ensures counted { O.number operations.new ≡ ticked 1 (O.number operations.old) }
     {
+        operations.tick();
         self.sets.insert(&name, MemberSet::new(self.alloc))?;
         Ok(())
     }
 
-    /// Adds a member to a set.
-    pub fn add_member(&mut self, name: SetName, member: Member) -> Result<(), Memory>
+    /// Adds a member to a set. Counts as one operation, also if memory runs out.
+    pub fn add_member<O: Ticker>(
+        &mut self,
+        name: SetName,
+        member: Member,
+        operations: &mut O,
+    ) -> Result<(), Memory>
         requires there { map.contains_key self.old.sets name ≡ true }
         requires absent { set.contains (members_of (map.get self.old.sets name)) member ≡ false }
         requires fits { is_member_of name member ≡ true }
@@ -72,49 +80,64 @@ impl Tables {
               (set.insert (members_of (map.get self.old.sets name)) member);
         }) }
         ensures err { OnErr result (self.new ≡ self.old) }
+        ensures counted { O.number operations.new ≡ ticked 1 (O.number operations.old) }
     {
+        operations.tick();
         insert_into(self.alloc, &mut self.sets, name, member)?;
         Ok(())
     }
 
-    /// Removes a member from a set.
-    pub fn remove_member(&mut self, name: SetName, member: Member)
+    /// Removes a member from a set. Counts as one operation.
+    pub fn remove_member<O: Ticker>(&mut self, name: SetName, member: Member, operations: &mut O)
         requires there { map.contains_key self.old.sets name ≡ true }
         requires within { set.contains (members_of (map.get self.old.sets name)) member ≡ true }
-        ensures { self.new ≡ record self.old {
+        ensures gone { self.new ≡ record self.old {
           sets = map.insert self.old.sets name
               (set.remove (members_of (map.get self.old.sets name)) member);
         } }
+        ensures counted { O.number operations.new ≡ ticked 1 (O.number operations.old) }
     {
+        operations.tick();
         remove_from(self.alloc, &mut self.sets, name, member);
     }
 
-    /// Destroys a set.
-    pub fn destroy_set(&mut self, name: SetName)
+    /// Destroys a set. Counts as one operation.
+    pub fn destroy_set<O: Ticker>(&mut self, name: SetName, operations: &mut O)
         requires { NoneNames self.old.chains name }
-        ensures { self.new ≡ record self.old { sets = map.remove self.old.sets name } }
+        ensures gone { self.new ≡ record self.old { sets = map.remove self.old.sets name } }
+        ensures counted { O.number operations.new ≡ ticked 1 (O.number operations.old) }
     {
+        operations.tick();
         self.sets.remove(&name);
     }
 
-    /// Writes a chain, in place of the one that is there.
-    pub fn write_chain(&mut self, name: ChainName, rules: Seq<ChainRule>) -> Result<(), Memory>
+    /// Writes a chain, in place of the one that is there. Counts as one operation, also if memory runs out.
+    pub fn write_chain<O: Ticker>(
+        &mut self,
+        name: ChainName,
+        rules: Seq<ChainRule>,
+        operations: &mut O,
+    ) -> Result<(), Memory>
         requires there { AllLeadThere self.old.chains rules }
         requires below { AllLeadBelow (rank_of name) rules }
         requires named { AllNameThere self.old.sets rules }
         requires shaped { have_shape rules ≡ true }
         ensures ok { OnOk result (self.new ≡ record self.old { chains = map.insert self.old.chains name rules }) }
         ensures err { OnErr result (self.new ≡ self.old) }
+        ensures counted { O.number operations.new ≡ ticked 1 (O.number operations.old) }
     {
+        operations.tick();
         self.chains.insert(&name, rules)?;
         Ok(())
     }
 
-    /// Deletes a chain.
-    pub fn delete_chain(&mut self, name: ChainName)
+    /// Deletes a chain. Counts as one operation.
+    pub fn delete_chain<O: Ticker>(&mut self, name: ChainName, operations: &mut O)
         requires { NoneLeadsTo self.old.chains name }
-        ensures { self.new ≡ record self.old { chains = map.remove self.old.chains name } }
+        ensures gone { self.new ≡ record self.old { chains = map.remove self.old.chains name } }
+        ensures counted { O.number operations.new ≡ ticked 1 (O.number operations.old) }
     {
+        operations.tick();
         self.chains.remove(&name);
     }
 

@@ -1,6 +1,6 @@
 //! The operations with ample memory.
 use crate::Tables;
-use fx_base::{ChainName, Ipv4, Proto, Seq, SetKind, SetName};
+use fx_base::{ChainName, Counter, Ipv4, Proto, Seq, SetKind, SetName};
 use fx_model::{ChainRule, Member, Tag, Target};
 use std::test::Fail;
 
@@ -13,9 +13,10 @@ fn a_set_is_created_and_filled(rt: HostRuntime) -> Result<(), Fail> {
         proto: Proto(6),
         number: 80,
     };
+    let mut operations = Counter::new();
     let mut tables = Tables::new(rt.alloc());
-    tables.create_set(name)?;
-    tables.add_member(name, web)?;
+    tables.create_set(name, &mut operations)?;
+    tables.add_member(name, web, &mut operations)?;
     match tables.set(name) {
         Some(members) => assert!(rt; members.contains(web)),
         None => assert!(rt; false),
@@ -32,8 +33,9 @@ fn a_chain_is_written(rt: HostRuntime) -> Result<(), Fail> {
         target: Target::Drop,
         tag: Tag::Plain,
     };
+    let rules = Seq::from_vec(vec![in alloc; drop]?);
     let mut tables = Tables::new(alloc);
-    tables.write_chain(name, Seq::from_vec(vec![in alloc; drop]?))?;
+    tables.write_chain(name, rules, &mut Counter::new())?;
     assert!(rt; tables.chain(name).is_some());
     Ok(())
 }

@@ -1,5 +1,6 @@
 use fx_base::Text;
-use fx_json::{ReadFault, read_delete, read_packet, read_resource};
+use fx_fields::ReadFault;
+use fx_json::{read_delete, read_packet, read_resource};
 use fx_model::{Item, Policy, Side, Update};
 use fx_selector::Selector;
 use serde_json::Value;

@@ -1,4 +1,4 @@
-//! The tests of `fx_selector`, `fx_model` and `fx_json`. They stand beside these crates, as a crate's own tests prove all its functions again.
+//! The tests of `fx_selector`, `fx_model`, `fx_fields` and `fx_json`. They stand beside these crates, as a crate's own tests prove all its functions again.
 #![tactic(auto)]
 
 #[cfg(test)]

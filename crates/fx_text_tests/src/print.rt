@@ -3,7 +3,7 @@ use fx_base::{
     ChainMap, ChainName, Ipv4, KernelName, Memory, NameKey, Net, PortRange, Proto, Seq, SetKind,
     SetMap, SetName, Text,
 };
-use fx_json::{ReadFault, Refusal};
+use fx_fields::{ReadFault, Refusal};
 use fx_model::{
     Action, ChainRule, End, Icmp, Match, Member, MemberList, MemberSet, Message, Packet, PolicyId,
     Reason, State, Tag, Target, Verdict, ViewEndpoint, ViewPolicy, ViewProfile, ViewRule, ViewSide,

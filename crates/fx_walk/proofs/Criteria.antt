@@ -13,7 +13,7 @@ use Rattle.fx_model.specs.declared.chain.Match.TheVariants as match
 use Rattle.fx_model.specs.declared.view_rule.ViewPort.{ViewPort}
 use Rattle.fx_model.specs.declared.view_rule.ViewPort.TheVariants.{Range, Named}
 use Rattle.fx_model.specs.Criteria.{address_at, port_at, has_ports, proto_is, proto_is_not, in_net, lies_in, lies_in_given, in_range, in_ranges, holds_port, is_icmp, is_message, icmp_is, icmp_is_not}
-use Rattle.fx_model.specs.Formed.{is_given}
+use Rattle.fx_base.specs.Given.{is_given}
 use Rattle.fx_model.specs.Rendering.{one_net, net_match, not_net_match, proto_match, icmp_match, port_lists, ranges_of, names_of, PortChoice, Listed, InSet, port_choices, choice_alternative, listed_match, in_set_match, not_listed_match, not_in_set_match, set_match, is_void}
 use Rattle.fx_model.specs.Tables.{Sets}
 use Rattle.fx_model.specs.Machine.{set_holds, holds, hold_all}

@@ -12,8 +12,6 @@ pub mod Sides
 pub mod FirstPackets
 pub mod TierLists
 pub mod SetLookups
-pub mod Parted
-pub mod OneUse
 pub mod KnownSets
 pub mod SetTruth
 pub mod WantedTiers
@@ -23,6 +21,4 @@ pub mod Whole
 mod KnownWalks
 mod KnownPaths
 mod KnownTreePaths
-mod Interfaces
-mod PolicyKeys
 pub mod Servable

@@ -20,7 +20,8 @@ use Rattle.fx_model.specs.declared.chain.ChainRule.{ChainRule}
 use Rattle.fx_model.specs.declared.view_rule.ViewRule.{ViewRule}
 use Rattle.fx_model.specs.declared.view_rule.ViewSide.{ViewSide}
 use Rattle.fx_model.specs.Criteria.{address_at, in_net, lies_in, has_ports, icmp_number, proto_is, proto_is_not, is_icmp, icmp_is, icmp_is_not}
-use Rattle.fx_model.specs.Formed.{implies, has_port_protocol, has_icmp_protocol, lists_view_ports, is_given, passes, is_formed_view_rule, is_formed_view_profile_rule}
+use Rattle.fx_base.specs.Given.{is_given}
+use Rattle.fx_model.specs.Formed.{implies, has_port_protocol, has_icmp_protocol, lists_view_ports, passes, is_formed_view_rule, is_formed_view_profile_rule}
 use Rattle.fx_model.specs.Tables.{ChainName, Sets, forward}
 use Rattle.fx_model.specs.Rendering.{negative_block, plain, tagged, set_mark, is_set, accept_mark, pass_mark, one_net, net_blocks, not_net_blocks, net_match, not_net_match, proto_match, icmp_match, PortChoice, port_choices, choice_alternative, port_blocks, in_set_match, listed_match, not_in_set_match, not_listed_match, set_match, blocks_of, block_rules, block_match, nets_match, sets_match, ports_match, main_matches, main_rules, is_void, rendered_rule, rendered_rules}
 use Rattle.fx_model.specs.Machine.{holds, hold_all, marked, Reasons, with_reason, last_reason}

@@ -20,9 +20,9 @@ use Rattle.fx_model.specs.Resources.{is_local}
 use Rattle.fx_model.specs.Policy.{is_workload}
 use Rattle.fx_model.specs.Formed.{implies, is_formed_endpoint_entry, is_formed_profile, is_formed_policy, is_formed_policy_id, is_formed_policy_entry, are_formed, has_workload_interface, have_workload_interfaces}
 use Rattle.fx_walk.specs.Serving.{ServedEndpointsAreApart}
-use Rattle.fx_walk.proofs.Interfaces.{same_key, one_interface}
+use Rattle.fx_laws.proofs.Interfaces.{same_key, one_interface}
 use Rattle.fx_walk.proofs.KnownSets.{sets_known}
-use Rattle.fx_walk.proofs.PolicyKeys.{policies_apart}
+use Rattle.fx_laws.proofs.PolicyKeys.{policies_apart}
 
 each : {A : Type 0} (p : A → Bool) (xs : List A) → list_all p xs ≡ true → AllByRecursion (λ x. p x ≡ true) xs
 each p [] h = tt

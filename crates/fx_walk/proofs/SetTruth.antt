@@ -29,7 +29,7 @@ use Rattle.fx_model.specs.declared.rules.PortSpec.TheVariants.{Number, Named}
 use Rattle.fx_model.specs.declared.rules.Side.{Side}
 use Rattle.fx_model.specs.declared.set_use.SetUse.{SetUse}
 use Rattle.fx_model.specs.Criteria.{address_at, port_at, in_net, lies_in, lies_in_given}
-use Rattle.fx_model.specs.Formed.{is_given}
+use Rattle.fx_base.specs.Given.{is_given}
 use Rattle.fx_model.specs.Labels.{labels_of}
 use Rattle.fx_model.specs.Machine.{member_holds, set_holds}
 use Rattle.fx_model.specs.Messages.{members_of}

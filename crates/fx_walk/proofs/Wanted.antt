@@ -39,7 +39,8 @@ use Rattle.fx_model.specs.declared.view.ViewProfile.{ViewProfile}
 use Rattle.fx_model.specs.Directions.{Direction, Ingress, Egress}
 use Rattle.fx_model.specs.Resources.{is_served, served_endpoints}
 use Rattle.fx_model.specs.Criteria.{proto_is, proto_is_not, icmp_is, icmp_is_not}
-use Rattle.fx_model.specs.Formed.{implies, is_given, has_port_protocol, has_icmp_protocol, lists_ports, lists_view_ports, passes, has_its_protocol, is_formed_side, is_formed_rule, is_formed_policy, is_formed_profile_rule, is_formed_profile, is_formed_view_rule, is_formed_view_profile_rule}
+use Rattle.fx_base.specs.Given.{is_given}
+use Rattle.fx_model.specs.Formed.{implies, has_port_protocol, has_icmp_protocol, lists_ports, lists_view_ports, passes, has_its_protocol, is_formed_side, is_formed_rule, is_formed_policy, is_formed_profile_rule, is_formed_profile, is_formed_view_rule, is_formed_view_profile_rule}
 use Rattle.fx_model.specs.Tables.{policy_side, profile_side}
 use Rattle.fx_names.specs.Digests.{Digest}
 use Rattle.fx_model.specs.Sets.{ports_protocol, side_uses, rule_uses, rules_uses, policy_uses}
@@ -49,7 +50,8 @@ use Rattle.fx_model.specs.Policy.{side_matches, rule_matches, There, met_rules, 
 use Rattle.fx_model.specs.ViewPolicy.{view_side_matches, view_rule_matches, HasFormedRules, met_view_rules, listed_of, view_tier, view_listed, view_endpoint_verdict, view_verdict_at, view_verdict}
 use Rattle.fx_walk.specs.Serving.{IsServedApart}
 use Rattle.fx_laws.proofs.EntryLookups.{is, last, is_itself, is_same, get-collected, first, second}
-use Rattle.fx_walk.proofs.KnownSets.{IsKnown, HasPortsIfGiven, ports_allowed, plain_rules, active_stand}
+use Rattle.fx_laws.proofs.MadeUses.{HasPortsIfGiven, ports_allowed, plain_rules}
+use Rattle.fx_walk.proofs.KnownSets.{IsKnown, active_stand}
 use Rattle.fx_walk.proofs.SetTruth.{side_same}
 use Rattle.fx_walk.proofs.WantedTiers.{tiers_same}
 

@@ -9,7 +9,7 @@ ghost use Rattle.fx_model.specs.declared.chain.Match.TheVariants as match;
 ghost use Rattle.fx_model.specs.Tables.{endpoint_chain, forward, root_of};
 
 use crate::{Hop, Outcome, decide, trace};
-use fx_base::{ChainName, Ipv4, Memory, Proto, Seq, Text};
+use fx_base::{ChainName, Counter, Ipv4, Memory, Proto, Seq, Text};
 use fx_model::{ChainRule, End, Match, Packet, Reason, State, Tag, Target, Verdict};
 use fx_tables::Tables;
 use std::alloc::Global;
@@ -106,7 +106,7 @@ fn write_endpoint(alloc: Global, tables: &mut Tables) -> Result<(), Memory>
         Tag::Why(Reason::NoProfileRule),
     );
     let rules = vec![in alloc; accept, log, allow, back, drop]?;
-    tables.write_chain(endpoint(), Seq::from_vec(rules))?;
+    tables.write_chain(endpoint(), Seq::from_vec(rules), &mut Counter::new())?;
     Ok(())
 }
 
@@ -125,7 +125,8 @@ fn write_root(alloc: Global, tables: &mut Tables) -> Result<(), Memory>
         Target::Drop,
         Tag::Why(Reason::UnknownInterface),
     );
-    tables.write_chain(root(), Seq::from_vec(vec![in alloc; known, unknown]?))?;
+    let rules = Seq::from_vec(vec![in alloc; known, unknown]?);
+    tables.write_chain(root(), rules, &mut Counter::new())?;
     Ok(())
 }
 
@@ -145,7 +146,8 @@ fn write_first(alloc: Global, tables: &mut Tables) -> Result<(), Memory>
         Tag::Plain,
     );
     let never = rule(mark(alloc, 0x20000, 0x30000)?, Target::Drop, Tag::Plain);
-    tables.write_chain(first(), Seq::from_vec(vec![in alloc; begin, jump, never]?))?;
+    let rules = Seq::from_vec(vec![in alloc; begin, jump, never]?);
+    tables.write_chain(first(), rules, &mut Counter::new())?;
     Ok(())
 }
 

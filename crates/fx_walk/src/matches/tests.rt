@@ -4,7 +4,7 @@ ghost use Rattle.fx_base.specs.SetName.{kind_of};
 ghost use Rattle.fx_model.specs.Shapes.{is_of};
 
 use super::all_hold;
-use fx_base::{Ipv4, Memory, Net, PortRange, Proto, Seq, SetKind, SetName, Text};
+use fx_base::{Counter, Ipv4, Memory, Net, PortRange, Proto, Seq, SetKind, SetName, Text};
 use fx_model::{End, Icmp, Match, Member, Packet, State};
 use fx_tables::Tables;
 use std::alloc::Global;
@@ -51,9 +51,10 @@ fn missing() -> SetName {
 fn tables(alloc: Global, name: SetName, member: Member) -> Result<Tables, Memory>
     requires { is_of (kind_of name) member ≡ true }
 {
+    let mut operations = Counter::new();
     let mut tables = Tables::new(alloc);
-    tables.create_set(name)?;
-    tables.add_member(name, member)?;
+    tables.create_set(name, &mut operations)?;
+    tables.add_member(name, member, &mut operations)?;
     Ok(tables)
 }
 

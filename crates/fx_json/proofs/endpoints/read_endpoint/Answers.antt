@@ -1,8 +1,8 @@
 use Rattle.std.proofs.Common.{◌≡◌, Result, Ok, sym, ap}
 use Rattle.fx_selector.specs.Truth.{LabelMap}
 use Rattle.fx_model.specs.declared.resources.Endpoint.{Endpoint}
-use Rattle.fx_json.specs.declared.fault.ReadFault.{ReadFault}
-use Rattle.fx_json.specs.Labels.{own_labels}
+use Rattle.fx_fields.specs.declared.fault.ReadFault.{ReadFault}
+use Rattle.fx_fields.specs.Labels.{own_labels}
 use Rattle.fx_json.specs.Endpoints.{endpoint_of}
 use Rattle.fx_json.proofs.endpoints.read_endpoint.Goals as goal
 

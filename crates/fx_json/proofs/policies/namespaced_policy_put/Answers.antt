@@ -1,5 +1,5 @@
 use Rattle.serde_json.specs.View.{view}
-use Rattle.fx_json.proofs.FormedNames.{named_in_string}
+use Rattle.fx_fields.proofs.NameTexts.{named_in_string}
 use Rattle.fx_json.proofs.policies.namespaced_policy_put.Goals as goal
 
 pub namespaced_policy_in-requires : goal.namespaced_policy_in-requires

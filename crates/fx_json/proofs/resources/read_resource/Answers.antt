@@ -2,7 +2,7 @@ use Rattle.std.proofs.Common.{◌≡◌, true}
 use Rattle.serde_json.specs.View.{view}
 use Rattle.fx_model.specs.Formed.{is_formed}
 use Rattle.fx_json.specs.Resources.{resource_of}
-use Rattle.fx_json.proofs.Readings.{answered-if}
+use Rattle.fx_fields.proofs.Readings.{answered-if}
 use Rattle.fx_json.proofs.FormedResources.{resource_of-formed, resource_of-workload, answered-workload}
 use Rattle.fx_json.proofs.resources.read_resource.Goals as goal
 

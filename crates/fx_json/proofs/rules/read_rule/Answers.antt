@@ -4,13 +4,13 @@ use Rattle.std.proofs.lemmas.Result.{err_from_is_err_and}
 use Rattle.serde_json.specs.Data.{Data}
 use Rattle.serde_json.specs.View.{view}
 use Rattle.fx_model.specs.declared.rules.Action.{Action}
-use Rattle.fx_json.specs.declared.fault.ReadFault.{ReadFault}
-use Rattle.fx_json.specs.declared.rule_form.RuleForm.{RuleForm}
+use Rattle.fx_fields.specs.declared.fault.ReadFault.{ReadFault}
+use Rattle.fx_fields.specs.declared.rule_form.RuleForm.{RuleForm}
 use Rattle.fx_json.specs.declared.rules.ReadProtocols.{ReadProtocols}
 use Rattle.fx_json.specs.declared.sides.ReadSide.{ReadSide}
-use Rattle.fx_json.specs.Faults.{IsReadFault}
-use Rattle.fx_json.specs.Paths.{text_of}
-use Rattle.fx_json.specs.Fields.{required, optional, unread}
+use Rattle.fx_fields.specs.Faults.{IsReadFault}
+use Rattle.fx_fields.specs.Paths.{text_of}
+use Rattle.fx_fields.specs.Fields.{required, optional, unread}
 use Rattle.fx_json.specs.Rules.{may_pass, action, protocols, side_at, rule_fields}
 use Rattle.fx_json.proofs.rules.read_rule.Goals as goal
 

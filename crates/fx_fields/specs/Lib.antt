@@ -1,0 +1,14 @@
+pub mod Paths
+pub mod Faults
+pub mod Fields
+pub mod Forms
+pub mod Values
+pub mod Nets
+pub mod Names
+pub mod Labels
+pub mod Metadata
+pub mod Kinds
+pub mod PolicyFields
+pub mod Selectors
+pub mod SideSelectors
+pub mod Refusals

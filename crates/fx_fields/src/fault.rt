@@ -1,0 +1,114 @@
+//! Why a resource or a packet isn't read.
+ghost use Rattle.std.specs.Prelude.{◌≡◌, option_map};
+ghost use Rattle.fx_fields.specs.declared.fault.ReadFault.TheVariants as fault;
+ghost use Rattle.fx_fields.specs.Faults.{fault_number, fault_name, path_of, place_of, is_memory};
+
+use fx_base::{Memory, Text};
+use std::alloc::{AllocError, AllocFailed};
+
+/// The first fault of a value, in the order in which its members are read. A path leads from the value to the one at
+/// fault, as `spec.ingress[0].action`.
+#[derive(Debug, Drop)]
+pub enum ReadFault {
+    UnknownKind,
+    MissingField { path: Text },
+    BadField { path: Text },
+    /// A text that is no selector, and where in it that shows.
+    BadSelector { path: Text, at: u32 },
+    Unsupported { path: Text },
+    PortsWithoutProtocol { path: Text },
+    IcmpWithoutProtocol { path: Text },
+    PassInProfile { path: Text },
+    Memory,
+}
+
+impl ReadFault {
+    /// The number under which scripts know it.
+    pub fn number(&self) -> u64
+        ensures { result ≡ fault_number self.now }
+    {
+        match self {
+            ReadFault::UnknownKind => 1,
+            ReadFault::MissingField { .. } => 2,
+            ReadFault::BadField { .. } => 3,
+            ReadFault::BadSelector { .. } => 4,
+            ReadFault::Unsupported { .. } => 5,
+            ReadFault::PortsWithoutProtocol { .. } => 6,
+            ReadFault::IcmpWithoutProtocol { .. } => 7,
+            ReadFault::PassInProfile { .. } => 8,
+            ReadFault::Memory => 9,
+        }
+    }
+
+    pub fn name(&self) -> &'static [u8]
+        ensures { result.now ≡ fault_name self.now }
+    {
+        match self {
+            ReadFault::UnknownKind => b"UnknownKind",
+            ReadFault::MissingField { .. } => b"MissingField",
+            ReadFault::BadField { .. } => b"BadField",
+            ReadFault::BadSelector { .. } => b"BadSelector",
+            ReadFault::Unsupported { .. } => b"Unsupported",
+            ReadFault::PortsWithoutProtocol { .. } => b"PortsWithoutProtocol",
+            ReadFault::IcmpWithoutProtocol { .. } => b"IcmpWithoutProtocol",
+            ReadFault::PassInProfile { .. } => b"PassInProfile",
+            ReadFault::Memory => b"Memory",
+        }
+    }
+
+    /// Where the value at fault stands.
+    pub fn path(&self) -> Option<&Text>
+        ensures { option_map (λ path. path.now) result ≡ path_of self.now }
+    {
+        match self {
+            ReadFault::UnknownKind | ReadFault::Memory => None,
+            ReadFault::MissingField { path }
+            | ReadFault::BadField { path }
+            | ReadFault::BadSelector { path, .. }
+            | ReadFault::Unsupported { path }
+            | ReadFault::PortsWithoutProtocol { path }
+            | ReadFault::IcmpWithoutProtocol { path }
+            | ReadFault::PassInProfile { path } => Some(path),
+        }
+    }
+
+    /// Where a selector's text is at fault, counted in bytes from 0.
+    pub fn place(&self) -> Option<u32>
+        ensures { result ≡ place_of self.now }
+    {
+        match self {
+            ReadFault::BadSelector { at, .. } => Some(*at),
+            _ => None,
+        }
+    }
+
+    pub fn is_memory(&self) -> bool
+        ensures { result ≡ is_memory self.now }
+    {
+        matches!(self, ReadFault::Memory)
+    }
+}
+
+impl From<Memory> for ReadFault {
+    ghost from_gives = { λ _ e. e ≡ fault.Memory };
+
+    fn from(_memory: Memory) -> Self {
+        ReadFault::Memory
+    }
+}
+
+impl From<AllocError> for ReadFault {
+    ghost from_gives = { λ _ e. e ≡ fault.Memory };
+
+    fn from(_refused: AllocError) -> Self {
+        ReadFault::Memory
+    }
+}
+
+impl<T: Drop> From<AllocFailed<T>> for ReadFault {
+    ghost from_gives = { λ _ e. e ≡ fault.Memory };
+
+    fn from(_refused: AllocFailed<T>) -> Self {
+        ReadFault::Memory
+    }
+}

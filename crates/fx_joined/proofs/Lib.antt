@@ -1,0 +1,5 @@
+pub mod Runs
+pub mod Counts
+pub mod Composing
+pub mod Uppers
+pub mod SameTold

@@ -1,0 +1,5 @@
+pub mod Run
+pub mod Joining
+pub mod Counting
+pub mod Composed
+pub mod Uppers

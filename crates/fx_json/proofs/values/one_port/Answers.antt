@@ -1,6 +1,0 @@
-use Rattle.std.proofs.Common.{sym}
-use Rattle.fx_json.proofs.NetLemmas.{is_range}
-use Rattle.fx_json.proofs.values.one_port.Goals as goal
-
-pub returns : goal.returns
-returns c = sym (is_range _)

@@ -1,0 +1,23 @@
+mod Lists
+mod Mapped
+mod SomeEntry
+mod Made
+pub mod Items
+pub mod Defining
+pub mod Given
+mod RulesTold
+mod EndpointsTold
+mod MembersTold
+mod SetsTold
+pub mod Viewing
+pub mod RulesApart
+pub mod OwnInterfaces
+pub mod Starting
+pub mod OneKey
+mod ItemsAt
+pub mod TakenTies
+mod ItemTies
+mod RuleTies
+pub mod UpdateTies
+pub mod Brought
+pub mod WaitTies

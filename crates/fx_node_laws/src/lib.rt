@@ -1,0 +1,10 @@
+//! What the relations of the nodes come to together: from inputs that are those of the resources they make the view of the
+//! resources.
+#![tactic(auto)]
+
+pub mod laws;
+pub mod ties;
+pub mod waiting;
+pub mod waits;
+
+pub use waiting::Waiting;
