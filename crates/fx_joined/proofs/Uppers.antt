@@ -167,3 +167,8 @@ upper_none j joined none empty = record {
   counted = subst (λ s. IsCounted s (total j.active.policies none_used)) (sym none) (subst (λ m. IsCounted map.empty (total m none_used)) (sym empty) counted_none);
   selectors = λ id p e. absurd (no_policy p (sym (ap (λ m. map.get m id) empty ∙ map.get-empty cmp-value.it id) ∙ e));
 }
+
+-- a text that is there counts once
+pub upper_at : (j : Joined) (before : Option (List ℕ)) (text : List ℕ) (used : List ℕ → ℕ) (P : Policies) (Q : Profiles) (S : PolicyPairs)
+    → before ≡ Some text → IsUpper j (with_some before used) P Q S → IsUpper j (with_one text used) P Q S
+upper_at j before text used P Q S is upper = subst (λ x. IsUpper j (with_some x used) P Q S) is upper

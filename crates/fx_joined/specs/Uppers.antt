@@ -14,3 +14,7 @@ pub record IsUpper (j : Joined) (used : List ℕ → ℕ) (policies : Policies) 
   pub joined : IsJoined j policies profiles pairs
   pub counted : IsCounted j.index.selectors (total j.active.policies used)
   pub selectors : (id : PolicyId) (p : Policy) → map.get j.active.policies id ≡ Some p → IsSelector p.selector
+
+-- the same, whatever is used besides
+abbrev pub IsUpperForSome : Joined → Policies → Profiles → PolicyPairs → Type 0
+IsUpperForSome j policies profiles pairs = (used : List ℕ → ℕ) × IsUpper j used policies profiles pairs

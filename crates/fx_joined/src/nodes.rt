@@ -9,7 +9,7 @@ ghost use Rattle.fx_active.specs.Active.{selector_text};
 ghost use Rattle.fx_joined.specs.Composed.{IsComposed};
 ghost use Rattle.fx_joined.specs.Counting.{none_used, with_one, with_some};
 ghost use Rattle.fx_joined.specs.Run.{IsRun};
-ghost use Rattle.fx_joined.specs.Uppers.{IsUpper};
+ghost use Rattle.fx_joined.specs.Uppers.{IsUpper, IsUpperForSome};
 
 use crate::join::Joined;
 use crate::pair_log::PairChange;
@@ -18,8 +18,8 @@ use fx_model::{ActiveSink, ItemKey, Policy, PolicyId, Profile};
 use fx_selector::{Labels, Selector};
 use std::alloc::Global;
 
-/// Both nodes. The index counts each policy's selector once, and besides them those that are put as used: `IsUpper` holds of
-/// the nodes, the uses and what the active rules told before each call and after it. Each call answers with the changes of pairs.
+/// Both nodes. The index counts each policy's selector once, and besides them those that are put as used: if `IsUpper` holds of
+/// the nodes, the uses and what the active rules told before a call, it holds after it. Each call answers with the changes of pairs.
 /// After want of memory the value isn't used again.
 #[derive(Drop)]
 pub struct Upper {
@@ -65,15 +65,14 @@ impl Upper {
         sink: &mut S,
         ticks: &mut T,
     ) -> Result<Replaced, Memory>
-        ghost used: { List ℕ → ℕ }
-        requires { IsUpper self.old.joined used (S.policies sink.old) (S.profiles sink.old) (S.pairs sink.old) }
+        requires { IsUpperForSome self.old.joined (S.policies sink.old) (S.profiles sink.old) (S.pairs sink.old) }
         ensures index { OnOk result (self.new.joined.index ≡ record self.old.joined.index { selectors = self.new.joined.index.selectors }) }
         ensures active { OnOk result (self.new.joined.active ≡ record self.old.joined.active
             { policies = map.insert self.old.joined.active.policies id.now policy.now; matched = self.new.joined.pairs }) }
         ensures before { IfOk result (λ replaced. replaced.before ≡ selector_text (map.get self.old.joined.active.policies id.now)) }
         ensures changes { IfOk result (λ replaced. IsRun replaced.changes self.old.joined.pairs self.new.joined.pairs) }
-        ensures upper { IfOk result (λ replaced. IsUpper self.new.joined (with_some replaced.before used)
-            (S.policies sink.new) (S.profiles sink.new) (S.pairs sink.new)) }
+        ensures upper { IfOk result (λ replaced. (used : List ℕ → ℕ) → IsUpper self.old.joined used (S.policies sink.old) (S.profiles sink.old) (S.pairs sink.old)
+            → IsUpper self.new.joined (with_some replaced.before used) (S.policies sink.new) (S.profiles sink.new) (S.pairs sink.new)) }
         ensures composed { OnOk result (IsComposed self.new.joined.index self.new.joined.active
             (S.policies sink.new) (S.profiles sink.new) (S.pairs sink.new)) }
     {
@@ -93,15 +92,14 @@ impl Upper {
         id: &PolicyId,
         sink: &mut S,
     ) -> Result<Option<Text>, Memory>
-        ghost used: { List ℕ → ℕ }
-        requires { IsUpper self.old.joined used (S.policies sink.old) (S.profiles sink.old) (S.pairs sink.old) }
+        requires { IsUpperForSome self.old.joined (S.policies sink.old) (S.profiles sink.old) (S.pairs sink.old) }
         ensures index { OnOk result (self.new.joined.index ≡ self.old.joined.index) }
         ensures pairs { OnOk result (self.new.joined.pairs ≡ self.old.joined.pairs) }
         ensures active { OnOk result (self.new.joined.active
             ≡ record self.old.joined.active { policies = map.remove self.old.joined.active.policies id.now }) }
         ensures before { IfOk result (λ before. before ≡ selector_text (map.get self.old.joined.active.policies id.now)) }
-        ensures upper { IfOk result (λ before. IsUpper self.new.joined (with_some before used)
-            (S.policies sink.new) (S.profiles sink.new) (S.pairs sink.new)) }
+        ensures upper { IfOk result (λ before. (used : List ℕ → ℕ) → IsUpper self.old.joined used (S.policies sink.old) (S.profiles sink.old) (S.pairs sink.old)
+            → IsUpper self.new.joined (with_some before used) (S.policies sink.new) (S.profiles sink.new) (S.pairs sink.new)) }
         ensures composed { OnOk result (IsComposed self.new.joined.index self.new.joined.active
             (S.policies sink.new) (S.profiles sink.new) (S.pairs sink.new)) }
     {
@@ -118,14 +116,14 @@ impl Upper {
         sink: &mut S,
         ticks: &mut T,
     ) -> Result<Seq<PairChange>, Memory>
-        ghost used: { List ℕ → ℕ }
         requires text { text.now ≡ canonical_text selector.now }
         requires selector { IsSelector selector.now }
-        requires upper { IsUpper self.old.joined used (S.policies sink.old) (S.profiles sink.old) (S.pairs sink.old) }
+        requires upper { IsUpperForSome self.old.joined (S.policies sink.old) (S.profiles sink.old) (S.pairs sink.old) }
         ensures index { OnOk result (self.new.joined.index ≡ record self.old.joined.index { selectors = self.new.joined.index.selectors }) }
         ensures changes { IfOk result (λ changes. IsRun changes self.old.joined.pairs self.new.joined.pairs) }
         ensures active { OnOk result (self.new.joined.active ≡ record self.old.joined.active { matched = self.new.joined.pairs }) }
-        ensures upper { OnOk result (IsUpper self.new.joined (with_one text.now used) (S.policies sink.new) (S.profiles sink.new) (S.pairs sink.new)) }
+        ensures upper { OnOk result ((used : List ℕ → ℕ) → IsUpper self.old.joined used (S.policies sink.old) (S.profiles sink.old) (S.pairs sink.old)
+            → IsUpper self.new.joined (with_one text.now used) (S.policies sink.new) (S.profiles sink.new) (S.pairs sink.new)) }
         ensures composed { OnOk result (IsComposed self.new.joined.index self.new.joined.active
             (S.policies sink.new) (S.profiles sink.new) (S.pairs sink.new)) }
         ensures policies { OnOk result (S.policies sink.new ≡ S.policies sink.old) }
@@ -143,12 +141,12 @@ impl Upper {
         sink: &mut S,
         ticks: &mut T,
     ) -> Result<Seq<PairChange>, Memory>
-        ghost used: { List ℕ → ℕ }
-        requires { IsUpper self.old.joined (with_one text.now used) (S.policies sink.old) (S.profiles sink.old) (S.pairs sink.old) }
+        requires { (used : List ℕ → ℕ) × IsUpper self.old.joined (with_one text.now used) (S.policies sink.old) (S.profiles sink.old) (S.pairs sink.old) }
         ensures index { OnOk result (self.new.joined.index ≡ record self.old.joined.index { selectors = self.new.joined.index.selectors }) }
         ensures changes { IfOk result (λ changes. IsRun changes self.old.joined.pairs self.new.joined.pairs) }
         ensures active { OnOk result (self.new.joined.active ≡ record self.old.joined.active { matched = self.new.joined.pairs }) }
-        ensures upper { OnOk result (IsUpper self.new.joined used (S.policies sink.new) (S.profiles sink.new) (S.pairs sink.new)) }
+        ensures upper { OnOk result ((used : List ℕ → ℕ) → IsUpper self.old.joined (with_one text.now used) (S.policies sink.old) (S.profiles sink.old) (S.pairs sink.old)
+            → IsUpper self.new.joined used (S.policies sink.new) (S.profiles sink.new) (S.pairs sink.new)) }
         ensures composed { OnOk result (IsComposed self.new.joined.index self.new.joined.active
             (S.policies sink.new) (S.profiles sink.new) (S.pairs sink.new)) }
         ensures policies { OnOk result (S.policies sink.new ≡ S.policies sink.old) }
@@ -166,12 +164,12 @@ impl Upper {
         sink: &mut S,
         ticks: &mut T,
     ) -> Result<Seq<PairChange>, Memory>
-        ghost used: { List ℕ → ℕ }
-        requires { IsUpper self.old.joined (with_some text used) (S.policies sink.old) (S.profiles sink.old) (S.pairs sink.old) }
+        requires { (used : List ℕ → ℕ) × IsUpper self.old.joined (with_some text used) (S.policies sink.old) (S.profiles sink.old) (S.pairs sink.old) }
         ensures index { OnOk result (self.new.joined.index ≡ record self.old.joined.index { selectors = self.new.joined.index.selectors }) }
         ensures changes { IfOk result (λ changes. IsRun changes self.old.joined.pairs self.new.joined.pairs) }
         ensures active { OnOk result (self.new.joined.active ≡ record self.old.joined.active { matched = self.new.joined.pairs }) }
-        ensures upper { OnOk result (IsUpper self.new.joined used (S.policies sink.new) (S.profiles sink.new) (S.pairs sink.new)) }
+        ensures upper { OnOk result ((used : List ℕ → ℕ) → IsUpper self.old.joined (with_some text used) (S.policies sink.old) (S.profiles sink.old) (S.pairs sink.old)
+            → IsUpper self.new.joined used (S.policies sink.new) (S.profiles sink.new) (S.pairs sink.new)) }
         ensures composed { OnOk result (IsComposed self.new.joined.index self.new.joined.active
             (S.policies sink.new) (S.profiles sink.new) (S.pairs sink.new)) }
         ensures policies { OnOk result (S.policies sink.new ≡ S.policies sink.old) }
@@ -193,13 +191,13 @@ impl Upper {
         sink: &mut S,
         ticks: &mut T,
     ) -> Result<Seq<PairChange>, Memory>
-        ghost used: { List ℕ → ℕ }
-        requires { IsUpper self.old.joined used (S.policies sink.old) (S.profiles sink.old) (S.pairs sink.old) }
+        requires { IsUpperForSome self.old.joined (S.policies sink.old) (S.profiles sink.old) (S.pairs sink.old) }
         ensures index { OnOk result (self.new.joined.index ≡ record self.old.joined.index { parents = map.insert self.old.joined.index.parents name.now profile.now.labels }) }
         ensures changes { IfOk result (λ changes. IsRun changes self.old.joined.pairs self.new.joined.pairs) }
         ensures active { OnOk result (self.new.joined.active ≡ record self.old.joined.active
             { profiles = map.insert self.old.joined.active.profiles name.now profile.now; matched = self.new.joined.pairs }) }
-        ensures upper { OnOk result (IsUpper self.new.joined used (S.policies sink.new) (S.profiles sink.new) (S.pairs sink.new)) }
+        ensures upper { OnOk result ((used : List ℕ → ℕ) → IsUpper self.old.joined used (S.policies sink.old) (S.profiles sink.old) (S.pairs sink.old)
+            → IsUpper self.new.joined used (S.policies sink.new) (S.profiles sink.new) (S.pairs sink.new)) }
         ensures composed { OnOk result (IsComposed self.new.joined.index self.new.joined.active
             (S.policies sink.new) (S.profiles sink.new) (S.pairs sink.new)) }
     {
@@ -215,13 +213,13 @@ impl Upper {
         sink: &mut S,
         ticks: &mut T,
     ) -> Result<Seq<PairChange>, Memory>
-        ghost used: { List ℕ → ℕ }
-        requires { IsUpper self.old.joined used (S.policies sink.old) (S.profiles sink.old) (S.pairs sink.old) }
+        requires { IsUpperForSome self.old.joined (S.policies sink.old) (S.profiles sink.old) (S.pairs sink.old) }
         ensures index { OnOk result (self.new.joined.index ≡ record self.old.joined.index { parents = map.remove self.old.joined.index.parents name.now }) }
         ensures changes { IfOk result (λ changes. IsRun changes self.old.joined.pairs self.new.joined.pairs) }
         ensures active { OnOk result (self.new.joined.active ≡ record self.old.joined.active
             { profiles = map.remove self.old.joined.active.profiles name.now; matched = self.new.joined.pairs }) }
-        ensures upper { OnOk result (IsUpper self.new.joined used (S.policies sink.new) (S.profiles sink.new) (S.pairs sink.new)) }
+        ensures upper { OnOk result ((used : List ℕ → ℕ) → IsUpper self.old.joined used (S.policies sink.old) (S.profiles sink.old) (S.pairs sink.old)
+            → IsUpper self.new.joined used (S.policies sink.new) (S.profiles sink.new) (S.pairs sink.new)) }
         ensures composed { OnOk result (IsComposed self.new.joined.index self.new.joined.active
             (S.policies sink.new) (S.profiles sink.new) (S.pairs sink.new)) }
     {
@@ -239,19 +237,40 @@ impl Upper {
         sink: &mut S,
         ticks: &mut T,
     ) -> Result<Seq<PairChange>, Memory>
-        ghost used: { List ℕ → ℕ }
-        requires { IsUpper self.old.joined used (S.policies sink.old) (S.profiles sink.old) (S.pairs sink.old) }
+        requires { IsUpperForSome self.old.joined (S.policies sink.old) (S.profiles sink.old) (S.pairs sink.old) }
         ensures index { OnOk result (self.new.joined.index ≡ record self.old.joined.index { items = map.insert self.old.joined.index.items key.now (record { labels = labels.now; parents = profiles.now }) }) }
         ensures changes { IfOk result (λ changes. IsRun changes self.old.joined.pairs self.new.joined.pairs) }
         ensures active { OnOk result (self.new.joined.active ≡ record self.old.joined.active
             { endpoints = map.insert self.old.joined.active.endpoints key.now profiles.now; matched = self.new.joined.pairs }) }
-        ensures upper { OnOk result (IsUpper self.new.joined used (S.policies sink.new) (S.profiles sink.new) (S.pairs sink.new)) }
+        ensures upper { OnOk result ((used : List ℕ → ℕ) → IsUpper self.old.joined used (S.policies sink.old) (S.profiles sink.old) (S.pairs sink.old)
+            → IsUpper self.new.joined used (S.policies sink.new) (S.profiles sink.new) (S.pairs sink.new)) }
         ensures composed { OnOk result (IsComposed self.new.joined.index self.new.joined.active
             (S.policies sink.new) (S.profiles sink.new) (S.pairs sink.new)) }
     {
         let changes = self.joined.put_item(key, labels, profiles, sink, ticks)?;
         self.joined.active.put_endpoint(key, profiles, sink)?;
         Ok(changes)
+    }
+
+    /// An item that is there comes into service as an endpoint of this node. No pair changes.
+    pub fn serve<S: ActiveSink>(
+        &mut self,
+        key: &ItemKey,
+        listed: &[Text],
+        sink: &mut S,
+    ) -> Result<(), Memory>
+        requires { IsUpperForSome self.old.joined (S.policies sink.old) (S.profiles sink.old) (S.pairs sink.old) }
+        ensures index { OnOk result (self.new.joined.index ≡ self.old.joined.index) }
+        ensures pairs { OnOk result (self.new.joined.pairs ≡ self.old.joined.pairs) }
+        ensures active { OnOk result (self.new.joined.active ≡ record self.old.joined.active
+            { endpoints = map.insert self.old.joined.active.endpoints key.now listed.now }) }
+        ensures upper { OnOk result ((used : List ℕ → ℕ) → IsUpper self.old.joined used (S.policies sink.old) (S.profiles sink.old) (S.pairs sink.old)
+            → IsUpper self.new.joined used (S.policies sink.new) (S.profiles sink.new) (S.pairs sink.new)) }
+        ensures composed { OnOk result (IsComposed self.new.joined.index self.new.joined.active
+            (S.policies sink.new) (S.profiles sink.new) (S.pairs sink.new)) }
+    {
+        self.joined.active.put_endpoint(key, listed, sink)?;
+        Ok(())
     }
 
     /// Puts any other item: an endpoint of another node, one that isn't in service, or a network set.
@@ -263,13 +282,13 @@ impl Upper {
         sink: &mut S,
         ticks: &mut T,
     ) -> Result<Seq<PairChange>, Memory>
-        ghost used: { List ℕ → ℕ }
-        requires { IsUpper self.old.joined used (S.policies sink.old) (S.profiles sink.old) (S.pairs sink.old) }
+        requires { IsUpperForSome self.old.joined (S.policies sink.old) (S.profiles sink.old) (S.pairs sink.old) }
         ensures index { OnOk result (self.new.joined.index ≡ record self.old.joined.index { items = map.insert self.old.joined.index.items key.now (record { labels = labels.now; parents = profiles.now }) }) }
         ensures changes { IfOk result (λ changes. IsRun changes self.old.joined.pairs self.new.joined.pairs) }
         ensures active { OnOk result (self.new.joined.active ≡ record self.old.joined.active
             { endpoints = map.remove self.old.joined.active.endpoints key.now; matched = self.new.joined.pairs }) }
-        ensures upper { OnOk result (IsUpper self.new.joined used (S.policies sink.new) (S.profiles sink.new) (S.pairs sink.new)) }
+        ensures upper { OnOk result ((used : List ℕ → ℕ) → IsUpper self.old.joined used (S.policies sink.old) (S.profiles sink.old) (S.pairs sink.old)
+            → IsUpper self.new.joined used (S.policies sink.new) (S.profiles sink.new) (S.pairs sink.new)) }
         ensures composed { OnOk result (IsComposed self.new.joined.index self.new.joined.active
             (S.policies sink.new) (S.profiles sink.new) (S.pairs sink.new)) }
     {
@@ -285,13 +304,13 @@ impl Upper {
         sink: &mut S,
         ticks: &mut T,
     ) -> Result<Seq<PairChange>, Memory>
-        ghost used: { List ℕ → ℕ }
-        requires { IsUpper self.old.joined used (S.policies sink.old) (S.profiles sink.old) (S.pairs sink.old) }
+        requires { IsUpperForSome self.old.joined (S.policies sink.old) (S.profiles sink.old) (S.pairs sink.old) }
         ensures index { OnOk result (self.new.joined.index ≡ record self.old.joined.index { items = map.remove self.old.joined.index.items key.now }) }
         ensures changes { IfOk result (λ changes. IsRun changes self.old.joined.pairs self.new.joined.pairs) }
         ensures active { OnOk result (self.new.joined.active ≡ record self.old.joined.active
             { endpoints = map.remove self.old.joined.active.endpoints key.now; matched = self.new.joined.pairs }) }
-        ensures upper { OnOk result (IsUpper self.new.joined used (S.policies sink.new) (S.profiles sink.new) (S.pairs sink.new)) }
+        ensures upper { OnOk result ((used : List ℕ → ℕ) → IsUpper self.old.joined used (S.policies sink.old) (S.profiles sink.old) (S.pairs sink.old)
+            → IsUpper self.new.joined used (S.policies sink.new) (S.profiles sink.new) (S.pairs sink.new)) }
         ensures composed { OnOk result (IsComposed self.new.joined.index self.new.joined.active
             (S.policies sink.new) (S.profiles sink.new) (S.pairs sink.new)) }
     {

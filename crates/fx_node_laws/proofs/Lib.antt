@@ -16,8 +16,8 @@ pub mod Starting
 pub mod OneKey
 mod ItemsAt
 pub mod TakenTies
-mod ItemTies
-mod RuleTies
+pub mod ItemTies
+pub mod RuleTies
 pub mod UpdateTies
 pub mod Brought
 pub mod WaitTies

@@ -1,10 +1,8 @@
-//! The tests of `fx_record`, `fx_store`, `fx_label_index`, `fx_active` and `fx_joined`. They stand beside these crates, as a crate's own tests prove all its functions again.
+//! The tests of `fx_record`, `fx_store`, `fx_label_index` and `fx_active`. They stand beside these crates, as a crate's own tests prove all its functions again.
 #![tactic(auto)]
 
 #[cfg(test)]
 mod active;
-#[cfg(test)]
-mod joined;
 #[cfg(test)]
 mod label_index;
 #[cfg(test)]

@@ -1,0 +1,3 @@
+pub mod Used
+pub mod Fed
+pub mod Since

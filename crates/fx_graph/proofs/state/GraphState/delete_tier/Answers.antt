@@ -1,0 +1,11 @@
+use Rattle.fx_graph.proofs.Following.{after_tier_gone}
+use Rattle.fx_graph.proofs.state.GraphState.delete_tier.Goals as goal
+
+pub drop_tier-requires : goal.drop_tier-requires
+drop_tier-requires g c = c.requires.1.0.nodes.settled
+
+pub returns-clause-follows : goal.returns-clause-follows
+returns-clause-follows g c = λ R h. after_tier_gone g.R.DigestRule.digest_of R c.args.self.now h c.drop_tier.new.self c.in_ok-drop_tier.ensures.settled c.in_ok-drop_tier.ensures.beside c.args.name.now c.in_ok-drop_tier.ensures.taken
+
+pub returns-clause-sent : goal.returns-clause-sent
+returns-clause-sent g c = c.in_ok-drop_tier.ensures.beside.sent

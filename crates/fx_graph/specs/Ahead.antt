@@ -1,0 +1,30 @@
+-- The two upper nodes are ahead: they told what the nodes below haven't been given yet.
+use Rattle.std.specs.Prelude.{◌≡◌, ℕ, List, Option}
+use Rattle.fx_names.specs.Digests.{Digest}
+use Rattle.fx_members.specs.Members.{AreMembers}
+use Rattle.fx_resolver.specs.Resolved.{IsResolved}
+use Rattle.fx_scanner.specs.Scanned.{IsScanned}
+use Rattle.fx_joined.specs.Counting.{with_some}
+use Rattle.fx_joined.specs.Run.{IsRun}
+use Rattle.fx_joined.specs.Uppers.{IsUpper}
+use Rattle.fx_told.specs.Knowing.{IsBehind}
+use Rattle.fx_told.specs.Noted.{AreFormed}
+use Rattle.fx_told.specs.PairRun.{IsPairRun}
+use Rattle.fx_told.specs.Touched.{IsTouched}
+use Rattle.fx_joined.specs.declared.pair_log.PairChange.{PairChange}
+use Rattle.fx_told.specs.declared.active_log.Logged.{Logged}
+use Rattle.fx_feed.specs.Used.{used_in}
+use Rattle.fx_graph.specs.declared.nodes.Nodes.{Nodes}
+
+pub record IsAhead (dg : Digest) (before : Option (List ℕ)) (g : Nodes) (changes : List PairChange) (logged : Logged) : Type 0 where
+  pub upper : IsUpper g.upper.joined (with_some before (used_in g.uses)) logged.told.policies logged.told.profiles logged.told.pairs
+  pub policies : IsTouched logged.policies g.scanner.policies logged.told.policies
+  pub profiles : IsTouched logged.profiles g.scanner.profiles logged.told.profiles
+  pub scanned : IsScanned dg g.scanner g.sequencer.now.policies g.sequencer.now.profiles g.uses
+  pub behind : IsBehind dg logged.policies logged.told.policies g.resolver.policies
+  pub pairs : IsPairRun logged.pairs g.resolver.pairs logged.told.pairs
+  pub resolved : IsResolved g.resolver g.sequencer.now.endpoints
+  pub uses : g.members.uses ≡ g.uses
+  pub run : IsRun changes g.members.matched g.upper.joined.pairs
+  pub members : AreMembers g.members g.sequencer.now.sets
+  pub formed : AreFormed g.uses

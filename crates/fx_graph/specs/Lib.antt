@@ -1,0 +1,4 @@
+pub mod Settled
+pub mod Ahead
+pub mod Taking
+pub mod Graphs

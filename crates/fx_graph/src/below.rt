@@ -1,0 +1,123 @@
+//! What the nodes below have of resources, apart from rules: items that give members to sets, endpoints of this node, and tiers.
+ghost use Rattle.std.specs.Prelude.{◌≡◌, ◌≤◌, None, IfOk, OnOk, length, map as each};
+ghost use Rattle.std.specs.FinMap as map;
+ghost use Rattle.fx_model.specs.Views.{profile_key};
+ghost use Rattle.fx_node_laws.specs.Changes.{with_tier, without_tier};
+ghost use Rattle.fx_resolver.specs.Resolved.{HaveOwnInterfaces};
+ghost use Rattle.fx_graph.specs.Settled.{IsSettled};
+ghost use Rattle.fx_graph.specs.Taking.{contributing, withdrawn, placed, displaced, IsBeside, taken_of};
+
+use crate::nodes::Nodes;
+use fx_base::{Memory, NameKey, Text};
+use fx_model::{Item, ItemKey};
+use fx_names::{DigestFunction, DigestRule, Namer, Prefix};
+use fx_told::{put_endpoint, put_item, put_tier, remove_endpoint, remove_item, remove_tier};
+use std::alloc::Global;
+
+fn profile_keys<R: DigestRule, F: DigestFunction<R> + Drop>(
+    alloc: Global,
+    profiles: &[Text],
+    namer: &Namer<R, F>,
+) -> Result<Vec<NameKey>, Memory>
+    ensures { IfOk result (λ keys. keys.items ≡ each (profile_key R.digest_of) profiles.now) }
+{
+    let mut keys = Vec::new(alloc);
+    for name in profiles {
+        keys.push(namer.key(Prefix::ProfileIn, name.bytes()))?;
+    }
+    Ok(keys)
+}
+
+impl Nodes {
+    /// Puts an item among those that give members to sets.
+    pub fn contribute<R: DigestRule>(&mut self, key: &ItemKey, item: &Item) -> Result<(), Memory>
+        requires { IsSettled R.digest_of None self.old }
+        ensures taken { OnOk result (taken_of self.new ≡ contributing key.now item.now (taken_of self.old)) }
+        ensures beside { OnOk result (IsBeside self.old self.new) }
+        ensures settled { OnOk result (IsSettled R.digest_of None self.new) }
+    {
+        put_item(
+            self.alloc,
+            key,
+            item,
+            &mut self.members,
+            &mut self.sequencer,
+        )?;
+        Ok(())
+    }
+
+    /// Removes an item from those.
+    pub fn withdraw<R: DigestRule>(&mut self, key: &ItemKey) -> Result<(), Memory>
+        requires { IsSettled R.digest_of None self.old }
+        ensures taken { OnOk result (taken_of self.new ≡ withdrawn key.now (taken_of self.old)) }
+        ensures beside { OnOk result (IsBeside self.old self.new) }
+        ensures settled { OnOk result (IsSettled R.digest_of None self.new) }
+    {
+        remove_item(self.alloc, key, &mut self.members, &mut self.sequencer)?;
+        Ok(())
+    }
+
+    /// Puts an endpoint of this node that is in service, whose interface no other one has.
+    pub fn place<R: DigestRule, F: DigestFunction<R> + Drop>(
+        &mut self,
+        key: &ItemKey,
+        iface: &Text,
+        profiles: &[Text],
+        namer: &Namer<R, F>,
+    ) -> Result<(), Memory>
+        requires short { length iface.now ≤ 15 }
+        requires apart { HaveOwnInterfaces (map.insert self.old.resolver.endpoints key.now (record { iface = iface.now; profiles = each (profile_key R.digest_of) profiles.now })) }
+        requires settled { IsSettled R.digest_of None self.old }
+        ensures taken { OnOk result (taken_of self.new ≡ placed key.now (record { iface = iface.now; profiles = each (profile_key R.digest_of) profiles.now }) (taken_of self.old)) }
+        ensures beside { OnOk result (IsBeside self.old self.new) }
+        ensures settled { OnOk result (IsSettled R.digest_of None self.new) }
+    {
+        let keys = profile_keys(self.alloc, profiles, namer)?;
+        let resolver = &mut self.resolver;
+        put_endpoint(self.alloc, key, iface, &keys, resolver, &mut self.sequencer)?;
+        Ok(())
+    }
+
+    /// Removes an endpoint from those, if it is one.
+    pub fn displace<R: DigestRule>(&mut self, key: &ItemKey) -> Result<(), Memory>
+        requires { IsSettled R.digest_of None self.old }
+        ensures taken { OnOk result (taken_of self.new ≡ displaced key.now (taken_of self.old)) }
+        ensures beside { OnOk result (IsBeside self.old self.new) }
+        ensures settled { OnOk result (IsSettled R.digest_of None self.new) }
+    {
+        remove_endpoint(self.alloc, key, &mut self.resolver, &mut self.sequencer)?;
+        Ok(())
+    }
+
+    /// Puts a tier with its order.
+    pub fn order_tier<R: DigestRule>(
+        &mut self,
+        name: &Text,
+        order: Option<i64>,
+    ) -> Result<(), Memory>
+        requires { IsSettled R.digest_of None self.old }
+        ensures taken { OnOk result (taken_of self.new ≡ with_tier name.now (record { order = order }) (taken_of self.old)) }
+        ensures beside { OnOk result (IsBeside self.old self.new) }
+        ensures settled { OnOk result (IsSettled R.digest_of None self.new) }
+    {
+        put_tier(
+            self.alloc,
+            name,
+            order,
+            &mut self.resolver,
+            &mut self.sequencer,
+        )?;
+        Ok(())
+    }
+
+    /// Removes a tier.
+    pub fn drop_tier<R: DigestRule>(&mut self, name: &Text) -> Result<(), Memory>
+        requires { IsSettled R.digest_of None self.old }
+        ensures taken { OnOk result (taken_of self.new ≡ without_tier name.now (taken_of self.old)) }
+        ensures beside { OnOk result (IsBeside self.old self.new) }
+        ensures settled { OnOk result (IsSettled R.digest_of None self.new) }
+    {
+        remove_tier(self.alloc, name, &mut self.resolver, &mut self.sequencer)?;
+        Ok(())
+    }
+}

@@ -1,0 +1,82 @@
+//! Endpoints come and go.
+ghost use Rattle.std.specs.Prelude.{◌≡◌, ◌≤◌, None, OnOk, length};
+ghost use Rattle.std.specs.FinMap as map;
+ghost use Rattle.fx_model.specs.declared.resources.Item.TheVariants as items;
+ghost use Rattle.fx_node_laws.specs.Tied.{known_endpoint};
+ghost use Rattle.fx_resolver.specs.Resolved.{HaveOwnInterfaces};
+ghost use Rattle.fx_graph.specs.Settled.{IsSettled};
+ghost use Rattle.fx_graph.specs.Taking.{with_served, with_other, without_item, AreApart, IsBeside, taken_of};
+
+use crate::nodes::Nodes;
+use fx_base::{Memory, Ticker};
+use fx_model::{Endpoint, Item, ItemKey};
+use fx_names::{DigestFunction, DigestRule, Namer};
+
+impl Nodes {
+    /// Puts an endpoint of this node that is in service.
+    pub fn put_served<R: DigestRule, F: DigestFunction<R> + Drop, T: Ticker>(
+        &mut self,
+        key: &ItemKey,
+        item: &Item,
+        endpoint: &Endpoint,
+        namer: &Namer<R, F>,
+        ticks: &mut T,
+    ) -> Result<(), Memory>
+        requires item { item.now ≡ items.Endpoint endpoint.now }
+        requires short { length endpoint.now.iface ≤ 15 }
+        requires own { HaveOwnInterfaces (map.insert self.old.resolver.endpoints key.now (known_endpoint R.digest_of endpoint.now)) }
+        requires apart { AreApart R.digest_of (with_served R.digest_of key.now endpoint.now (taken_of self.old)) }
+        requires settled { IsSettled R.digest_of None self.old }
+        ensures taken { OnOk result (taken_of self.new ≡ with_served R.digest_of key.now endpoint.now (taken_of self.old)) }
+        ensures beside { OnOk result (IsBeside self.old self.new) }
+        ensures settled { OnOk result (IsSettled R.digest_of None self.new) }
+    {
+        let profiles = endpoint.profiles.as_slice();
+        self.contribute::<R>(key, item)?;
+        self.place(key, &endpoint.iface, profiles, namer)?;
+        self.label_served(key, &endpoint.labels, profiles, namer, ticks)?;
+        Ok(())
+    }
+
+    /// Puts an endpoint of another node, or one that isn't in service.
+    pub fn put_other<R: DigestRule, F: DigestFunction<R> + Drop, T: Ticker>(
+        &mut self,
+        key: &ItemKey,
+        item: &Item,
+        endpoint: &Endpoint,
+        namer: &Namer<R, F>,
+        ticks: &mut T,
+    ) -> Result<(), Memory>
+        requires item { item.now ≡ items.Endpoint endpoint.now }
+        requires apart { AreApart R.digest_of (with_other key.now endpoint.now (taken_of self.old)) }
+        requires settled { IsSettled R.digest_of None self.old }
+        ensures taken { OnOk result (taken_of self.new ≡ with_other key.now endpoint.now (taken_of self.old)) }
+        ensures beside { OnOk result (IsBeside self.old self.new) }
+        ensures settled { OnOk result (IsSettled R.digest_of None self.new) }
+    {
+        let profiles = endpoint.profiles.as_slice();
+        self.contribute::<R>(key, item)?;
+        self.displace::<R>(key)?;
+        self.label_other(key, &endpoint.labels, profiles, namer, ticks)?;
+        Ok(())
+    }
+
+    /// Removes an endpoint.
+    pub fn remove_endpoint<R: DigestRule, F: DigestFunction<R> + Drop, T: Ticker>(
+        &mut self,
+        key: &ItemKey,
+        namer: &Namer<R, F>,
+        ticks: &mut T,
+    ) -> Result<(), Memory>
+        requires apart { AreApart R.digest_of (without_item key.now (taken_of self.old)) }
+        requires settled { IsSettled R.digest_of None self.old }
+        ensures taken { OnOk result (taken_of self.new ≡ without_item key.now (taken_of self.old)) }
+        ensures beside { OnOk result (IsBeside self.old self.new) }
+        ensures settled { OnOk result (IsSettled R.digest_of None self.new) }
+    {
+        self.withdraw::<R>(key)?;
+        self.displace::<R>(key)?;
+        self.unlabel(key, namer, ticks)?;
+        Ok(())
+    }
+}

@@ -1,0 +1,91 @@
+//! Profiles come and go, and with them the labels that items inherit.
+ghost use Rattle.std.specs.Prelude.{◌≡◌, None, OnOk};
+ghost use Rattle.fx_node_laws.specs.Changes.{with_profile, without_profile};
+ghost use Rattle.fx_graph.specs.Settled.{IsSettled};
+ghost use Rattle.fx_graph.specs.Taking.{AreApart, IsBeside, taken_of};
+
+use crate::nodes::Nodes;
+use fx_base::{Memory, Text, Ticker};
+use fx_model::Profile;
+use fx_names::{DigestFunction, DigestRule, Namer};
+use fx_told::{ActiveLog, ActiveStart, ActiveTold};
+use std::marker::Brand;
+use std::mem;
+
+impl Nodes {
+    /// Puts a profile in the place of what was there.
+    pub fn put_profile<R: DigestRule, F: DigestFunction<R> + Drop, T: Ticker>(
+        &mut self,
+        name: &Text,
+        profile: &Profile,
+        namer: &Namer<R, F>,
+        ticks: &mut T,
+    ) -> Result<(), Memory>
+        requires settled { IsSettled R.digest_of None self.old }
+        requires apart { AreApart R.digest_of (with_profile name.now profile.now (taken_of self.old)) }
+        ensures taken { OnOk result (taken_of self.new ≡ with_profile name.now profile.now (taken_of self.old)) }
+        ensures beside { OnOk result (IsBeside self.old self.new) }
+        ensures settled { OnOk result (IsSettled R.digest_of None self.new) }
+    {
+        self.put_profile_by::<Brand, R, F, T>(name, profile, namer, ticks)?;
+        Ok(())
+    }
+
+    fn put_profile_by<K: ActiveStart, R: DigestRule, F: DigestFunction<R> + Drop, T: Ticker>(
+        &mut self,
+        name: &Text,
+        profile: &Profile,
+        namer: &Namer<R, F>,
+        ticks: &mut T,
+    ) -> Result<(), Memory>
+        requires start { self.old.told ≡ K.told_then }
+        requires settled { IsSettled R.digest_of None self.old }
+        requires apart { AreApart R.digest_of (with_profile name.now profile.now (taken_of self.old)) }
+        ensures taken { OnOk result (taken_of self.new ≡ with_profile name.now profile.now (taken_of self.old)) }
+        ensures beside { OnOk result (IsBeside self.old self.new) }
+        ensures settled { OnOk result (IsSettled R.digest_of None self.new) }
+    {
+        let told = mem::replace(&mut self.told, ActiveTold::new(self.alloc));
+        let mut log: ActiveLog<K> = ActiveLog::new(self.alloc, told);
+        let changes = self.upper.put_profile(name, profile, &mut log, ticks)?;
+        self.settle(&changes, log.into_logged(), namer, ticks)?;
+        Ok(())
+    }
+
+    /// Removes a profile.
+    pub fn remove_profile<R: DigestRule, F: DigestFunction<R> + Drop, T: Ticker>(
+        &mut self,
+        name: &Text,
+        namer: &Namer<R, F>,
+        ticks: &mut T,
+    ) -> Result<(), Memory>
+        requires settled { IsSettled R.digest_of None self.old }
+        requires apart { AreApart R.digest_of (without_profile name.now (taken_of self.old)) }
+        ensures taken { OnOk result (taken_of self.new ≡ without_profile name.now (taken_of self.old)) }
+        ensures beside { OnOk result (IsBeside self.old self.new) }
+        ensures settled { OnOk result (IsSettled R.digest_of None self.new) }
+    {
+        self.remove_profile_by::<Brand, R, F, T>(name, namer, ticks)?;
+        Ok(())
+    }
+
+    fn remove_profile_by<K: ActiveStart, R: DigestRule, F: DigestFunction<R> + Drop, T: Ticker>(
+        &mut self,
+        name: &Text,
+        namer: &Namer<R, F>,
+        ticks: &mut T,
+    ) -> Result<(), Memory>
+        requires start { self.old.told ≡ K.told_then }
+        requires settled { IsSettled R.digest_of None self.old }
+        requires apart { AreApart R.digest_of (without_profile name.now (taken_of self.old)) }
+        ensures taken { OnOk result (taken_of self.new ≡ without_profile name.now (taken_of self.old)) }
+        ensures beside { OnOk result (IsBeside self.old self.new) }
+        ensures settled { OnOk result (IsSettled R.digest_of None self.new) }
+    {
+        let told = mem::replace(&mut self.told, ActiveTold::new(self.alloc));
+        let mut log: ActiveLog<K> = ActiveLog::new(self.alloc, told);
+        let changes = self.upper.remove_profile(name, &mut log, ticks)?;
+        self.settle(&changes, log.into_logged(), namer, ticks)?;
+        Ok(())
+    }
+}

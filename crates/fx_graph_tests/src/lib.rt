@@ -1,0 +1,9 @@
+//! The tests of `fx_graph`: after each update of a stored list the wanted view is the view of the resources, computed whole.
+#![tactic(auto)]
+
+#[cfg(test)]
+mod bench;
+#[cfg(test)]
+mod lists;
+#[cfg(test)]
+mod tests;
