@@ -97,7 +97,7 @@ module _ (E : Endpoints) (M : Pairs) (key : ItemKey) (names : List (List ℕ)) (
       (λ e. let r = somewhere E p e in there (insert E key names) p r.0 r.1.0 (key_put E key names r.0 ∙ ap (cond (same_item r.0 key) true) r.1.1 ∙ both_ways (same_item r.0 key)))
       (λ e. there (insert E key names) p key e (key_put E key names key ∙ ap (λ b. cond b true (contains_key E key)) (own_item key))))
 
-  more_pairs : (t : List ℕ) (i : ItemKey) → (contains_key (insert E key names) i && set.contains M (t, i)) ≡ cond (set.contains M (t, key) && same_item i key) true (contains_key E i && set.contains M (t, i))
+  pub more_pairs : (t : List ℕ) (i : ItemKey) → (contains_key (insert E key names) i && set.contains M (t, i)) ≡ cond (set.contains M (t, key) && same_item i key) true (contains_key E i && set.contains M (t, i))
   more_pairs t i =
       ap (λ b. b && set.contains M (t, i)) (key_put E key names i)
       ∙ whether (same_item i key)

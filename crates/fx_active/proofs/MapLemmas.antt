@@ -18,6 +18,11 @@ module _ {K X : Type 0} {R : K → K → Ordering} (o : IsTotalOrder R) (exact :
       get-insert o (remove m k) k v q ∙ ap (cond (eq_by_cmp R q k) (Some v)) (get-remove o m k q)
       ∙ hidden (eq_by_cmp R q k) (Some v) None (get m q) ∙ sym (get-insert o m k v q))
 
+  pub remove_inserted : (m : FinMap R X) (k : K) (v : X) → remove (insert m k v) k ≡ remove m k
+  remove_inserted m k v = same_map o exact _ _ (λ q.
+      get-remove o (insert m k v) k q ∙ ap (cond (eq_by_cmp R q k) None) (get-insert o m k v q)
+      ∙ hidden (eq_by_cmp R q k) None (Some v) (get m q) ∙ sym (get-remove o m k q))
+
   at_some : (m : FinMap R X) (k : K) (v : X) → get m k ≡ Some v → (q : K) → cond (eq_by_cmp R q k) (Some v) (get m q) ≡ get m q
   at_some m k v h q =
       elim (R q k) as (λ r. R q k ≡ r → cond (is_eq r) (Some v) (get m q) ≡ get m q) [

@@ -1,26 +1,44 @@
--- Pairs of a selector's text and an item, held as the items of each text.
-use Rattle.std.specs.Prelude.{ℕ, List, [], ◌∷◌}
+-- Pairs of a selector's text and an item, held as the texts of each item; and the endpoints of each text.
+use Rattle.std.specs.Prelude.{◌≡◌, ℕ, Bool, true, false, ◌&&◌, List, [], ◌∷◌}
+use Rattle.std.specs.Ordering.{nat_cmp}
+use Rattle.std.specs.Cmp.Lexicographic.{slice_cmp}
 use Rattle.std.specs.FinMap as map
 use Rattle.fx_base.specs.Set as set
 use Rattle.fx_model.specs.Pairs.{Pairs}
 use Rattle.fx_model.specs.declared.ids.ItemKey.{ItemKey}
 use Rattle.fx_model.specs.contracts.ids.ItemKeyOrd.TheImpl.{cmp-value}
-use Rattle.fx_active.specs.Indexes.{SetsByText}
+use Rattle.fx_active.specs.Inputs.{Endpoints}
+use Rattle.fx_active.specs.Indexes.{SetsByText, has_key}
 
-abbrev pub Items : Type 0
-Items = set.Set cmp-value.it
+-- ---- the texts of each item
+
+abbrev pub Texts : Type 0
+Texts = set.Set (slice_cmp nat_cmp)
+
+abbrev pub ByItem : Type 0
+ByItem = map.FinMap cmp-value.it Texts
+
+-- with the pairs of some texts and an item
+abbrev pub with_texts : ItemKey → List (List ℕ) → Pairs → Pairs
+with_texts i [] s = s
+with_texts i (t ∷ ts) s = set.insert (with_texts i ts s) (t, i)
+
+abbrev pub pairs_in : List (ItemKey × Texts) → Pairs
+pairs_in [] = set.empty
+pairs_in (e ∷ es) = with_texts e.0 (set.items e.1) (pairs_in es)
+
+abbrev pub pairs_of : ByItem → Pairs
+pairs_of by_item = pairs_in (map.entries by_item)
+
+-- ---- the endpoints of each text
 
 abbrev pub Rows : Type 0
 Rows = SetsByText cmp-value.it
 
--- with the pairs of a text and some items
-abbrev pub with_items : List ℕ → List ItemKey → Pairs → Pairs
-with_items t [] s = s
-with_items t (i ∷ is) s = set.insert (with_items t is s) (t, i)
+-- below each text stand the endpoints that are there and on which the selector holds
+abbrev pub AreHere : Rows → Endpoints → Pairs → Type 0
+AreHere rows endpoints matched = (t : List ℕ) (i : ItemKey) → has_key (map.get rows t) i ≡ (map.contains_key endpoints i && set.contains matched (t, i))
 
-abbrev pub pairs_in : List (List ℕ × Items) → Pairs
-pairs_in [] = set.empty
-pairs_in (e ∷ es) = with_items e.0 (set.items e.1) (pairs_in es)
-
-abbrev pub pairs_of : Rows → Pairs
-pairs_of rows = pairs_in (map.entries rows)
+abbrev pub has_some : {A : Type 0} → List A → Bool
+has_some [] = false
+has_some (x ∷ xs) = true

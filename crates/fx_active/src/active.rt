@@ -4,7 +4,8 @@
 //!   the pairs of a selector's text and an item on which it holds, as the label index tells them.
 //! - **Tells** an `ActiveSink`: the policies that apply to some endpoint, the profiles that some endpoint lists, and the pairs of
 //!   a policy and an endpoint to which it applies.
-//! - **Holds** its inputs, and beside them the policies of each selector and how often each profile is listed.
+//! - **Holds** its inputs, and beside them the policies of each selector, the endpoints on which it holds, and how often each
+//!   profile is listed.
 //! - **Definition**: `IsActive`. In Felix this node is the `ActiveRulesCalculator`.
 ghost use Rattle.std.specs.Prelude.{◌≡◌, OnOk, true, false};
 ghost use Rattle.std.specs.Option.{option_copied};
@@ -14,13 +15,10 @@ ghost use Rattle.fx_active.specs.Active.{selector_text};
 ghost use Rattle.fx_active.specs.Node.{IsActive};
 
 use crate::changes::{tell_endpoint, tell_match, tell_policy, withdraw_policy};
-use crate::endpoints::Endpoints;
+use crate::held::Held;
 use crate::indexed_policy::IndexedPolicy;
-use crate::inputs::Inputs;
-use crate::matches::Matches;
 use crate::pairs::update_endpoint;
-use crate::policies::PolicyIndex;
-use fx_base::{Memory, Text, TextMap};
+use fx_base::{Memory, Text};
 use fx_model::{ActiveSink, ItemKey, Policy, PolicyId, Profile};
 use std::alloc::Global;
 use std::marker::Model;
@@ -29,7 +27,7 @@ use std::marker::Model;
 #[derive(Drop)]
 pub struct ActiveRules {
     alloc: Global,
-    inputs: Inputs,
+    held: Held,
 }
 
 impl Model for ActiveRules {
@@ -40,7 +38,7 @@ impl Model for ActiveRules {
 
     ghost coded = { all.the_row.coded };
 
-    ghost view = { λ a. a.inputs };
+    ghost view = { λ a. a.held };
 }
 
 impl ActiveRules {
@@ -50,12 +48,7 @@ impl ActiveRules {
     {
         ActiveRules {
             alloc,
-            inputs: Inputs {
-                policies: PolicyIndex::new(alloc),
-                profiles: TextMap::new(alloc),
-                endpoints: Endpoints::new(alloc),
-                matched: Matches::new(alloc),
-            },
+            held: Held::new(alloc),
         }
     }
 
@@ -63,7 +56,7 @@ impl ActiveRules {
     pub fn selector_text(&self, id: &PolicyId) -> Option<&Text>
         ensures { option_copied result ≡ selector_text (map.get self.now.policies id.now) }
     {
-        Some(self.inputs.policies.get(id)?.text())
+        Some(self.held.policies().get(id)?.text())
     }
 
     pub fn put_policy<S: ActiveSink>(
@@ -77,10 +70,10 @@ impl ActiveRules {
         ensures active { OnOk result (IsActive self.new (S.policies sink.new) (S.profiles sink.new) (S.pairs sink.new)) }
     {
         let indexed = IndexedPolicy::new(self.alloc, policy)?;
-        let inputs = &self.inputs;
-        let before = inputs.policies.get(id);
-        tell_policy(inputs, id, before, &indexed, sink)?;
-        self.inputs.policies.put(id, indexed)?;
+        let held = &self.held;
+        let before = held.policies().get(id);
+        tell_policy(held, id, before, &indexed, sink)?;
+        self.held.put_policy(id, indexed)?;
         Ok(())
     }
 
@@ -93,10 +86,10 @@ impl ActiveRules {
         ensures inputs { OnOk result (self.new ≡ record self.old { policies = map.remove self.old.policies id.now }) }
         ensures active { OnOk result (IsActive self.new (S.policies sink.new) (S.profiles sink.new) (S.pairs sink.new)) }
     {
-        let inputs = &self.inputs;
-        let before = inputs.policies.get(id);
-        withdraw_policy(inputs, id, before, sink)?;
-        self.inputs.policies.remove(id);
+        let held = &self.held;
+        let before = held.policies().get(id);
+        withdraw_policy(held, id, before, sink)?;
+        self.held.remove_policy(id);
         Ok(())
     }
 
@@ -110,12 +103,9 @@ impl ActiveRules {
         ensures inputs { OnOk result (self.new ≡ record self.old { profiles = map.insert self.old.profiles name.now profile.now }) }
         ensures active { OnOk result (IsActive self.new (S.policies sink.new) (S.profiles sink.new) (S.pairs sink.new)) }
     {
-        self.inputs
-            .endpoints
-            .tell_profile(name, Some(profile), sink)?;
-        self.inputs
-            .profiles
-            .insert(name.clone()?, profile.clone()?)?;
+        let endpoints = self.held.endpoints();
+        endpoints.tell_profile(name, Some(profile), sink)?;
+        self.held.put_profile(name, profile)?;
         Ok(())
     }
 
@@ -124,10 +114,11 @@ impl ActiveRules {
         ensures inputs { OnOk result (self.new ≡ record self.old { profiles = map.remove self.old.profiles name.now }) }
         ensures active { OnOk result (IsActive self.new (S.policies sink.new) (S.profiles sink.new) (S.pairs sink.new)) }
     {
-        if self.inputs.profiles.remove(name).is_none() {
+        if !self.held.remove_profile(name) {
             return Ok(());
         }
-        self.inputs.endpoints.tell_profile(name, None, sink)?;
+        let endpoints = self.held.endpoints();
+        endpoints.tell_profile(name, None, sink)?;
         Ok(())
     }
 
@@ -141,9 +132,8 @@ impl ActiveRules {
         ensures inputs { OnOk result (self.new ≡ record self.old { endpoints = map.insert self.old.endpoints key.now profiles.now }) }
         ensures active { OnOk result (IsActive self.new (S.policies sink.new) (S.profiles sink.new) (S.pairs sink.new)) }
     {
-        tell_endpoint(&self.inputs, key, sink)?;
-        let inputs = &mut self.inputs;
-        inputs.endpoints.put(key, profiles, &inputs.profiles, sink)?;
+        tell_endpoint(&self.held, key, sink)?;
+        self.held.put_endpoint(key, profiles, sink)?;
         Ok(())
     }
 
@@ -156,12 +146,11 @@ impl ActiveRules {
         ensures inputs { OnOk result (self.new ≡ record self.old { endpoints = map.remove self.old.endpoints key.now }) }
         ensures active { OnOk result (IsActive self.new (S.policies sink.new) (S.profiles sink.new) (S.pairs sink.new)) }
     {
-        if !self.inputs.endpoints.contains_key(key) {
+        if !self.held.contains_endpoint(key) {
             return Ok(());
         }
-        let inputs = &mut self.inputs;
-        inputs.endpoints.remove(key, &inputs.profiles, sink)?;
-        update_endpoint(inputs, key, false, sink)?;
+        self.held.remove_endpoint(key, sink)?;
+        update_endpoint(&self.held, key, false, sink)?;
         Ok(())
     }
 
@@ -180,8 +169,8 @@ impl ActiveRules {
         }) }
         ensures active { OnOk result (IsActive self.new (S.policies sink.new) (S.profiles sink.new) (S.pairs sink.new)) }
     {
-        tell_match(&self.inputs, selector, item, true, sink)?;
-        self.inputs.matched.insert(selector, item)?;
+        tell_match(&self.held, selector, item, true, sink)?;
+        self.held.insert_match(selector, item)?;
         Ok(())
     }
 
@@ -200,8 +189,8 @@ impl ActiveRules {
         }) }
         ensures active { OnOk result (IsActive self.new (S.policies sink.new) (S.profiles sink.new) (S.pairs sink.new)) }
     {
-        self.inputs.matched.remove(selector, item);
-        tell_match(&self.inputs, selector, item, false, sink)?;
+        self.held.remove_match(selector, item)?;
+        tell_match(&self.held, selector, item, false, sink)?;
         Ok(())
     }
 }

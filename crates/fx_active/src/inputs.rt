@@ -1,4 +1,4 @@
-//! What the node holds.
+//! The inputs of the node.
 use crate::endpoints::Endpoints;
 use crate::matches::Matches;
 use crate::policies::PolicyIndex;

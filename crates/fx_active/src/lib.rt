@@ -7,6 +7,8 @@ pub use active::ActiveRules;
 mod active;
 mod changes;
 mod endpoints;
+mod held;
+mod here;
 mod indexed_policy;
 mod inputs;
 mod listings;

@@ -1,9 +1,8 @@
 //! On which items selectors hold.
-ghost use Rattle.std.specs.Prelude.{◌≡◌, OnOk, [], IsTrue, true};
+ghost use Rattle.std.specs.Prelude.{◌≡◌, ℕ, List, OnOk, [], IsTrue};
 ghost use Rattle.std.specs.Option.{option_copied};
 ghost use Rattle.std.specs.FinMap as map;
 ghost use Rattle.fx_base.specs.Set as set;
-ghost use Rattle.fx_model.specs.declared.ids.ItemKey.{ItemKey};
 ghost use Rattle.fx_active.specs.Indexes.{has_key};
 
 use fx_base::{Memory, Text, TextMap};
@@ -11,11 +10,11 @@ use fx_model::{ItemKey, ItemMap};
 use std::alloc::Global;
 use std::marker::Model;
 
-/// The pairs of a selector's text and an item on which it holds, as the items of each text.
+/// The pairs of a selector's text and an item on which it holds, as the texts of each item.
 #[derive(Drop)]
 pub struct Matches {
     alloc: Global,
-    by_text: TextMap<ItemMap<()>>,
+    by_item: ItemMap<TextMap<()>>,
 }
 
 impl Model for Matches {
@@ -29,7 +28,7 @@ impl Model for Matches {
 
     ghost coded = { set.code (coded× (coded_list coded_ℕ) item.the_row.coded) };
 
-    ghost view = { λ a. pairs_of a.by_text };
+    ghost view = { λ a. pairs_of a.by_item };
 }
 
 impl Matches {
@@ -39,57 +38,49 @@ impl Matches {
     {
         Matches {
             alloc,
-            by_text: TextMap::new(alloc),
+            by_item: ItemMap::new(alloc),
         }
     }
 
-    /// The items on which the selector of a text holds.
-    pub fn items(&self, text: &Text) -> Option<&ItemMap<()>>
-        ensures { (item : ItemKey) → has_key (option_copied result) item ≡ set.contains self.now (text.now, item) }
+    /// The texts of the selectors that hold on an item.
+    pub fn texts(&self, item: &ItemKey) -> Option<&TextMap<()>>
+        ensures { (text : List ℕ) → has_key (option_copied result) text ≡ set.contains self.now (text, item.now) }
     {
-        self.by_text.get(text)
+        self.by_item.get(item)
     }
 
-    pub fn contains(&self, text: &Text, item: &ItemKey) -> bool
-        ensures { result ≡ set.contains self.now (text.now, item.now) }
-    {
-        match self.items(text) {
-            Some(items) => items.get(item).is_some(),
-            None => false,
-        }
-    }
-
-    /// On want of memory the items of the text are lost.
+    /// On want of memory the texts of the item are lost.
     pub fn insert(&mut self, text: &Text, item: &ItemKey) -> Result<(), Memory>
         ensures { OnOk result (self.new ≡ set.insert self.old (text.now, item.now)) }
     {
-        let mut items = self
-            .by_text
-            .remove(text)
-            .unwrap_or(ItemMap::new(self.alloc));
-        items.insert(item.clone()?, ())?;
-        self.by_text.insert(text.clone()?, items)?;
+        let mut texts = self
+            .by_item
+            .remove(item)
+            .unwrap_or(TextMap::new(self.alloc));
+        texts.insert(text.clone()?, ())?;
+        self.by_item.insert(item.clone()?, texts)?;
         Ok(())
     }
 
-    // Without memory, so the items are exchanged for none while they change.
-    pub fn remove(&mut self, text: &Text, item: &ItemKey)
-        requires { set.contains self.old (text.now, item.now) ≡ true }
-        ensures { self.new ≡ set.remove self.old (text.now, item.now) }
+    /// On want of memory the texts of the item are lost.
+    pub fn remove(&mut self, text: &Text, item: &ItemKey) -> Result<(), Memory>
+        ensures { OnOk result (self.new ≡ set.remove self.old (text.now, item.now)) }
     {
-        let mut items = ItemMap::new(self.alloc);
-        self.by_text.swap(text, &mut items);
-        items.remove(item);
-        if is_empty(&items) {
-            self.by_text.remove(text);
-        } else {
-            self.by_text.swap(text, &mut items);
+        let mut texts = self
+            .by_item
+            .remove(item)
+            .unwrap_or(TextMap::new(self.alloc));
+        texts.remove(text);
+        if is_empty(&texts) {
+            return Ok(());
         }
+        self.by_item.insert(item.clone()?, texts)?;
+        Ok(())
     }
 }
 
-fn is_empty(items: &ItemMap<()>) -> bool
-    ensures { IsTrue result → map.entries items.now ≡ [] }
+fn is_empty(texts: &TextMap<()>) -> bool
+    ensures { IsTrue result → map.entries texts.now ≡ [] }
 {
-    items.iter().next().is_none()
+    texts.iter().next().is_none()
 }

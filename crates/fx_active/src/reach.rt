@@ -1,55 +1,61 @@
 //! On which endpoints selectors hold.
-ghost use Rattle.std.specs.Prelude.{◌≡◌, is_some, ◌&&◌};
+ghost use Rattle.std.specs.Prelude.{◌≡◌, is_some};
 ghost use Rattle.std.specs.Option.{option_copied};
-ghost use Rattle.fx_base.specs.Set as set;
-ghost use Rattle.fx_model.specs.Active.{has_types};
-ghost use Rattle.fx_active.specs.Active.{holds_somewhere, text_of, where_active};
-ghost use Rattle.fx_active.specs.Steps.{selects};
+ghost use Rattle.std.specs.FinMap as map;
+ghost use Rattle.fx_model.specs.declared.ids.ItemKey.{ItemKey};
+ghost use Rattle.fx_active.specs.Active.{applies_to, holds_somewhere, where_active};
+ghost use Rattle.fx_active.specs.Indexes.{has_key};
+ghost use Rattle.fx_active.specs.Rows.{has_some};
 
+use crate::held::Held;
 use crate::indexed_policy::IndexedPolicy;
-use crate::inputs::Inputs;
-use crate::matches::Matches;
 use fx_base::Text;
-use fx_model::ItemKey;
+use fx_model::{ItemKey, ItemMap};
 
-/// Whether the policy has a type and selects the item.
-pub fn selects(matched: &Matches, indexed: &IndexedPolicy, item: &ItemKey) -> bool
-    ensures { result ≡ (has_types indexed.now && set.contains matched.now (text_of indexed.now, item.now)) }
+/// The endpoints to which the policy applies, if it is there.
+pub fn row_of<'a>(held: &'a Held, indexed: Option<&IndexedPolicy>) -> Option<&'a ItemMap<()>>
+    ensures { (i : ItemKey) → has_key (option_copied result) i
+        ≡ applies_to held.now.endpoints held.now.matched (option_copied indexed.entry) i }
 {
-    indexed.policy().has_types() && matched.contains(indexed.text(), item)
+    let indexed = indexed?;
+    if !indexed.policy().has_types() {
+        return None;
+    }
+    held.items(indexed.text())
 }
 
-/// The same of a policy that may be absent.
-pub fn selects_if_there(matched: &Matches, indexed: Option<&IndexedPolicy>, item: &ItemKey) -> bool
-    ensures { result ≡ selects matched.now item.now (option_copied indexed.entry) }
+/// Whether the policy, if it is there, applies to the item.
+pub fn applies(held: &Held, indexed: Option<&IndexedPolicy>, item: &ItemKey) -> bool
+    ensures { result ≡ applies_to held.now.endpoints held.now.matched (option_copied indexed.entry) item.now }
 {
-    match indexed {
-        Some(indexed) => selects(matched, indexed, item),
+    match row_of(held, indexed) {
+        Some(items) => items.get(item).is_some(),
         None => false,
     }
 }
 
 /// Whether the selector holds on some endpoint that is there.
-pub fn holds_somewhere(inputs: &Inputs, text: &Text) -> bool
-    ensures { result ≡ holds_somewhere inputs.now.endpoints inputs.now.matched text.now }
+pub fn holds_somewhere(held: &Held, text: &Text) -> bool
+    ensures { result ≡ holds_somewhere held.now.endpoints held.now.matched text.now }
 {
-    let Some(items) = inputs.matched.items(text) else {
-        return false;
-    };
-    for (key, _) in inputs.endpoints.iter() {
-        if items.get(key).is_some() {
-            return true;
-        }
+    match held.items(text) {
+        Some(items) => has_some(items),
+        None => false,
     }
-    false
+}
+
+fn has_some(items: &ItemMap<()>) -> bool
+    ensures { result ≡ has_some (map.entries items.now) }
+{
+    items.iter().next().is_some()
 }
 
 /// Whether the policy, if it is there, applies to some endpoint that is there.
-pub fn is_active(inputs: &Inputs, indexed: Option<&IndexedPolicy>) -> bool
-    ensures { result ≡ is_some (where_active inputs.now.endpoints inputs.now.matched (option_copied indexed.entry)) }
+pub fn is_active(held: &Held, indexed: Option<&IndexedPolicy>) -> bool
+    ensures { result ≡ is_some (where_active held.now.endpoints held.now.matched (option_copied indexed.entry)) }
 {
     match indexed {
-        Some(indexed) => indexed.policy().has_types() && holds_somewhere(inputs, indexed.text()),
+        Some(indexed) => indexed.policy().has_types() && holds_somewhere(held, indexed.text()),
         None => false,
     }
 }

@@ -3,8 +3,6 @@ ghost use Rattle.std.specs.Prelude.{◌≡◌, ℕ, List, OnOk, IfOk};
 ghost use Rattle.std.specs.Option.{option_copied};
 ghost use Rattle.std.specs.FinMap as map;
 ghost use Rattle.fx_base.specs.Set as set;
-ghost use Rattle.fx_selector.specs.Tree.{IsSelector};
-ghost use Rattle.fx_selector.specs.Canonical.{canonical_text};
 ghost use Rattle.fx_active.specs.Active.{selector_text};
 ghost use Rattle.fx_joined.specs.Composed.{IsComposed};
 ghost use Rattle.fx_joined.specs.Counting.{none_used, with_one, with_some};
@@ -15,7 +13,7 @@ use crate::join::Joined;
 use crate::pair_log::PairChange;
 use fx_base::{Memory, Seq, Text, Ticker};
 use fx_model::{ActiveSink, ItemKey, Policy, PolicyId, Profile};
-use fx_selector::{Labels, Selector};
+use fx_selector::Labels;
 use std::alloc::Global;
 
 /// Both nodes. The index counts each policy's selector once, and besides them those that are put as used: if `IsUpper` holds of
@@ -106,32 +104,6 @@ impl Upper {
         let before = copied(self.joined.active.selector_text(id))?;
         self.joined.active.remove_policy(id, sink)?;
         Ok(before)
-    }
-
-    /// Counts a selector that is used. What the active rules told stays as it is.
-    pub fn put_selector<S: ActiveSink, T: Ticker>(
-        &mut self,
-        text: &Text,
-        selector: &Selector,
-        sink: &mut S,
-        ticks: &mut T,
-    ) -> Result<Seq<PairChange>, Memory>
-        requires text { text.now ≡ canonical_text selector.now }
-        requires selector { IsSelector selector.now }
-        requires upper { IsUpperForSome self.old.joined (S.policies sink.old) (S.profiles sink.old) (S.pairs sink.old) }
-        ensures index { OnOk result (self.new.joined.index ≡ record self.old.joined.index { selectors = self.new.joined.index.selectors }) }
-        ensures changes { IfOk result (λ changes. IsRun changes self.old.joined.pairs self.new.joined.pairs) }
-        ensures active { OnOk result (self.new.joined.active ≡ record self.old.joined.active { matched = self.new.joined.pairs }) }
-        ensures upper { OnOk result ((used : List ℕ → ℕ) → IsUpper self.old.joined used (S.policies sink.old) (S.profiles sink.old) (S.pairs sink.old)
-            → IsUpper self.new.joined (with_one text.now used) (S.policies sink.new) (S.profiles sink.new) (S.pairs sink.new)) }
-        ensures composed { OnOk result (IsComposed self.new.joined.index self.new.joined.active
-            (S.policies sink.new) (S.profiles sink.new) (S.pairs sink.new)) }
-        ensures policies { OnOk result (S.policies sink.new ≡ S.policies sink.old) }
-        ensures profiles { OnOk result (S.profiles sink.new ≡ S.profiles sink.old) }
-        ensures pairs { OnOk result (S.pairs sink.new ≡ S.pairs sink.old) }
-    {
-        let changes = self.joined.put_selector(text, selector, sink, ticks)?;
-        Ok(changes)
     }
 
     /// Counts a selector that was used once less. What the active rules told stays as it is.

@@ -1,8 +1,15 @@
-use Rattle.std.proofs.Common.{sym, ap, ◌∙◌}
+use Rattle.std.proofs.Common.{ap, sym, ◌∙◌}
 use Rattle.std.specs.Option.{option_copied}
-use Rattle.fx_active.proofs.Larger.{nowhere}
 use Rattle.fx_active.specs.Indexes.{has_key}
+use Rattle.fx_active.proofs.HereLemmas.{some_there, holds_here}
 use Rattle.fx_active.proofs.reach.holds_somewhere.Goals as goal
 
-pub returns-in_default : goal.returns-in_default
-returns-in_default c = sym (nowhere c.args.inputs.now.endpoints c.args.inputs.now.matched c.args.text.now (λ i. sym (c.items.ensures i) ∙ ap (λ o. has_key (option_copied o) i) c.in_default.is))
+pub returns-in-Some : goal.returns-in-Some
+returns-in-Some c =
+    c.has_some.ensures ∙ ap (λ o. some_there (option_copied o)) (sym c.in-Some.is)
+    ∙ holds_here c.args.held.now.endpoints c.args.held.now.matched c.args.text.now (option_copied c.items.result) c.items.ensures
+
+pub returns-in-None : goal.returns-in-None
+returns-in-None c =
+    ap (λ o. some_there (option_copied o)) (sym c.in-None.is)
+    ∙ holds_here c.args.held.now.endpoints c.args.held.now.matched c.args.text.now (option_copied c.items.result) c.items.ensures

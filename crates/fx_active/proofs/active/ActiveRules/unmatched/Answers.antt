@@ -10,27 +10,27 @@ use Rattle.fx_active.proofs.active.ActiveRules.unmatched.Goals as goal
 
 pub tell_match-requires-clause-absent : goal.tell_match-requires-clause-absent
 tell_match-requires-clause-absent g c =
-    ap (λ s. set.contains s (c.args.selector.now, c.args.item.now)) c.remove.ensures
-    ∙ set_removed pairs_total c.self.inside.inputs.matched (c.args.selector.now, c.args.item.now)
+    ap (λ (k : Inputs). set.contains k.matched (c.args.selector.now, c.args.item.now)) c.in_ok-remove_match.ensures
+    ∙ set_removed pairs_total c.self.inside.held.matched (c.args.selector.now, c.args.item.now)
 
 pub tell_match-requires-clause-policies : goal.tell_match-requires-clause-policies
 tell_match-requires-clause-policies g c =
     let P = g.S.ActiveSink.policies c.args.sink.now in
-    let n = c.self.inside.inputs in
+    let n = c.self.inside.held in
     let was = at_entry c.self.view_is c.requires.active in
     let pair : List ℕ × ItemKey = (c.args.selector.now, c.args.item.now) in
-    let back : n.matched ≡ set.insert c.remove.new.self pair =
-    set_back pairs_total exact_pair n.matched pair (ap (λ (k : Inputs). set.contains k.matched pair) c.self.view_is ∙ c.requires.present)
-    ∙ ap (λ s. set.insert s pair) (sym c.remove.ensures) in
-    subst (λ m. ArePolicies n.policies n.endpoints m P) back was.policies_are
+    let back : n.matched ≡ set.insert (set.remove n.matched pair) pair =
+    set_back pairs_total exact_pair n.matched pair (ap (λ (k : Inputs). set.contains k.matched pair) c.self.view_is ∙ c.requires.present) in
+    subst (λ (k : Inputs). ArePolicies k.policies k.endpoints (set.insert k.matched pair) P) (sym c.in_ok-remove_match.ensures)
+    (subst (λ m. ArePolicies n.policies n.endpoints m P) back was.policies_are)
 
 pub tell_match-requires-clause-pairs : goal.tell_match-requires-clause-pairs
 tell_match-requires-clause-pairs g c =
     let S = g.S.ActiveSink.pairs c.args.sink.now in
-    let n = c.self.inside.inputs in
+    let n = c.self.inside.held in
     let was = at_entry c.self.view_is c.requires.active in
     let pair : List ℕ × ItemKey = (c.args.selector.now, c.args.item.now) in
-    let back : n.matched ≡ set.insert c.remove.new.self pair =
-    set_back pairs_total exact_pair n.matched pair (ap (λ (k : Inputs). set.contains k.matched pair) c.self.view_is ∙ c.requires.present)
-    ∙ ap (λ s. set.insert s pair) (sym c.remove.ensures) in
-    subst (λ m. ArePairs n.policies n.endpoints m S) back was.pairs_are
+    let back : n.matched ≡ set.insert (set.remove n.matched pair) pair =
+    set_back pairs_total exact_pair n.matched pair (ap (λ (k : Inputs). set.contains k.matched pair) c.self.view_is ∙ c.requires.present) in
+    subst (λ (k : Inputs). ArePairs k.policies k.endpoints (set.insert k.matched pair) S) (sym c.in_ok-remove_match.ensures)
+    (subst (λ m. ArePairs n.policies n.endpoints m S) back was.pairs_are)
