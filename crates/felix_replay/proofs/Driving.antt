@@ -25,9 +25,14 @@ wanted-drivable dg R formed = record {
   kinds = wanted_sets-of-kinds dg R;
 }
 
--- whatever view is wanted next
-pub driven-towards : (sides : Sides) (driver : Driver) → IsDriven sides driver → (w : View) → IsDrivable w → IsDriven (record { sent = sides.sent; now = w }) driver
-driven-towards sides driver was w to = record { drives = was.drives; from = was.from; to = to }
+-- other resources, and so another view that is wanted
+pub driven-anew : (dg : Digest) (R : Resources) → are_formed R ≡ true → (sides anew : Sides) (driver : Driver) → IsDriven sides driver
+    → anew.sent ≡ sides.sent → anew.now ≡ view_of dg R → IsDriven anew driver
+driven-anew dg R formed sides anew driver was sent now = record {
+  drives = subst (Drives driver) (sym sent) was.drives;
+  from = subst IsDrivable (sym sent) was.from;
+  to = subst IsDrivable (sym now) (wanted-drivable dg R formed);
+}
 
 module _ (sides : Sides) (driver : Driver) (was : IsDriven sides driver) where
   abbrev sent : View

@@ -9,3 +9,4 @@ pub mod Policing
 pub mod Checking
 pub mod Asked
 pub mod Driving
+pub mod InOrder

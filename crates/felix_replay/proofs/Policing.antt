@@ -19,15 +19,15 @@ use Rattle.fx_names.specs.Digests.{Digest}
 use Rattle.fx_model.specs.Views.{view_of}
 use Rattle.fx_model.specs.Walk.{Ended, verdict_of, noted_in}
 use Rattle.fx_laws.proofs.Leading.{ranked-tables}
-use Rattle.fx_laws.proofs.ViewClosed.{view_of-closed}
+use Rattle.fx_driver.specs.declared.driver.Driver.{Driver}
+use Rattle.fx_sequencer.specs.declared.sides.Sides.{Sides}
 use Rattle.fx_walk.proofs.Agree.{policy_is_kept, traced_decides, run_has_one_end, walk_is_run}
 use Rattle.fx_walk.proofs.Families.{first_there}
 use Rattle.fx_walk.specs.PacketPaths.{first_walk}
 use Rattle.fx_walk.proofs.Walks.{one-end}
 use Rattle.fx_lines.specs.declared.commands.Command.TheVariants as command
 use Rattle.fx_model.specs.PacketTexts.{packet_lines}
-use Rattle.felix_replay.specs.Engine.{IsRendered}
-use Rattle.felix_replay.specs.declared.engine.Engine.{Engine}
+use Rattle.felix_replay.specs.Driven.{IsDriven}
 use Rattle.felix_replay.specs.Run.{state_after}
 use Rattle.felix_replay.specs.PacketRuns.{packet_text}
 use Rattle.felix_replay.specs.Output.{State, start, answer_of, next, answer_text}
@@ -37,14 +37,11 @@ use Rattle.felix_replay.proofs.Served.{run_servable}
 
 -- ---- the engine
 
-pub wanted_closed : (dg : Digest) (R : Resources) → IsClosedView (view_of dg R)
-wanted_closed = view_of-closed
+pub rendered_first : (sides : Sides) (driver : Driver) → IsDriven sides driver → maps.contains_key driver.tables.chains forward ≡ true
+rendered_first sides driver is = subst (λ (t : Tables). maps.contains_key t.chains forward ≡ true) (sym is.drives.tables) (first_there sides.sent)
 
-pub rendered_first : (e : Engine) → IsRendered e → maps.contains_key e.driver.tables.chains forward ≡ true
-rendered_first e is = subst (λ (t : Tables). maps.contains_key t.chains forward ≡ true) (sym is.drives.tables) (first_there e.sequencer.sent)
-
-pub rendered_ranked : (e : Engine) → IsRendered e → IsRanked e.driver.tables.chains
-rendered_ranked e is = subst (λ (t : Tables). IsRanked t.chains) (sym is.drives.tables) (ranked-tables e.sequencer.sent is.from.closed)
+pub rendered_ranked : (sides : Sides) (driver : Driver) → IsDriven sides driver → IsRanked driver.tables.chains
+rendered_ranked sides driver is = subst (λ (t : Tables). IsRanked t.chains) (sym is.drives.tables) (ranked-tables sides.sent is.from.closed)
 
 -- where a run ends so, the packet's text is this
 pub run_text : (tables : Tables) (a : Packet) → IsRanked tables.chains → (path : List (ChainName × ℕ)) (v : Verdict) (e i : Option Reason) → Traces tables a [] path v e i
@@ -54,10 +51,10 @@ run_text tables a ranked path v e i run =
     ap (λ (w : Verdict). concat (packet_lines path a.iface_in a.iface_out e i w)) end.0
     ∙ ap (λ (t : Trace). concat (packet_lines t.hops a.iface_in a.iface_out t.reasons.egress t.reasons.ingress (verdict_of (first_walk tables a [])))) end.1
 
-pub rendered_text : (e : Engine) → IsRendered e → (a : Packet) (path : List (ChainName × ℕ)) (v : Verdict) (egress ingress : Option Reason) → Traces e.driver.tables a [] path v egress ingress
-    → concat (packet_lines path a.iface_in a.iface_out egress ingress v) ≡ packet_text (tables_of e.sequencer.sent) a
-rendered_text e is a path v egress ingress run =
-    run_text e.driver.tables a (rendered_ranked e is) path v egress ingress run ∙ ap (λ (t : Tables). packet_text t a) is.drives.tables
+pub rendered_text : (sides : Sides) (driver : Driver) → IsDriven sides driver → (a : Packet) (path : List (ChainName × ℕ)) (v : Verdict) (egress ingress : Option Reason) → Traces driver.tables a [] path v egress ingress
+    → concat (packet_lines path a.iface_in a.iface_out egress ingress v) ≡ packet_text (tables_of sides.sent) a
+rendered_text sides driver is a path v egress ingress run =
+    run_text driver.tables a (rendered_ranked sides driver is) path v egress ingress run ∙ ap (λ (t : Tables). packet_text t a) is.drives.tables
 
 -- ---- the run of a packet
 

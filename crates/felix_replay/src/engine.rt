@@ -1,7 +1,6 @@
 //! Answers one line after another.
 ghost use Rattle.std.specs.Prelude.{◌≡◌, ◌+◌, ◌-◌, ◌^◌, ◌<◌, ◌≤◌, None, OnOk, OnErr, IfOk, Ok, Err, true};
 ghost use Rattle.std.specs.List.{concat};
-ghost use Rattle.fx_names.specs.Digests.{Digest};
 ghost use Rattle.fx_store.specs.Keeping.{KeepsClaims};
 ghost use Rattle.fx_model.specs.Resources.{after};
 ghost use Rattle.fx_model.specs.Formed.{is_formed};
@@ -15,114 +14,112 @@ ghost use Rattle.fx_model.specs.TableTexts.{table_lines};
 ghost use Rattle.felix_replay.specs.PacketRuns.{packet_text};
 ghost use Rattle.felix_replay.specs.Fitting.{Fits};
 ghost use Rattle.fx_lines.specs.Commands.{command_of};
+ghost use Rattle.fx_graph.specs.Graphs.{sides_of};
+ghost use Rattle.felix_replay.specs.Driven.{IsDriven};
+ghost use Rattle.felix_replay.specs.Engine.{state_of, HoldsInvariant, IsInOrder};
 ghost use Rattle.felix_replay.specs.Writing.{Writes};
 
 use crate::run_fault::RunFault;
 use crate::sending::{put_all, put_one, send};
-use fx_base::{Memory, Sink, Text};
+use fx_base::{Counter, Memory, Sink, Text};
 use fx_driver::Driver;
 use fx_fields::Refusal;
+use fx_graph::Graph;
 use fx_lines::{Command, read_command};
-use fx_model::{Packet, Update, view_of};
+use fx_model::{Packet, Update};
 use fx_names::{DigestFunction, DigestRule, Namer};
 use fx_print::{flushed_text, packet_texts, refusal_text, tables_text};
-use fx_sequencer::Sequencer;
 use fx_store::{CheckFault, Store};
 use fx_walk::trace;
 use std::alloc::Global;
 
-/// The resources of a node and what they claim, the view that was sent, the driver that holds its tables, and the number of
-/// lines so far.
+/// The resources of a node and what they claim, the graph that keeps the view of them and the view that was sent, the driver that
+/// holds the tables of that, and the number of lines so far.
 #[derive(Drop)]
-pub struct Engine {
+pub struct Engine<R: DigestRule, F: DigestFunction<R> + Drop> {
     alloc: Global,
     pub store: Store,
-    pub sequencer: Sequencer,
+    pub graph: Graph<R, F>,
     pub driver: Driver,
     pub lines: u64,
     pub refused: bool,
 }
 
-impl Engine {
-    ghost use Rattle.felix_replay.specs.Engine.{state_of, HoldsInvariant, IsRendered};
-
-    pub fn new(alloc: Global, node: Text) -> Result<Engine, Memory>
-        ensures state { IfOk result (λ e. (dg : Digest) → state_of dg e ≡ start dg node) }
-        ensures invariant { IfOk result (λ e. (dg : Digest) → HoldsInvariant dg e) }
+impl<R: DigestRule, F: DigestFunction<R> + Drop> Engine<R, F> {
+    pub fn new(alloc: Global, node: &Text, namer: Namer<R, F>) -> Result<Self, Memory>
+        ensures state { IfOk result (λ e. state_of R.digest_of e.store e.graph.state e.lines e.refused ≡ start R.digest_of node.now) }
+        ensures invariant { IfOk result (λ e. IsInOrder R.digest_of e.store e.graph.state e.driver) }
     {
+        let driver = Driver::new(alloc)?;
+        let own_node = node.clone()?;
+        let graph_node = node.clone()?;
+        let store = Store::new(alloc, own_node);
+        let graph = Graph::new(alloc, graph_node, namer);
         Ok(Engine {
             alloc,
-            store: Store::new(alloc, node),
-            sequencer: Sequencer::new(alloc),
-            driver: Driver::new(alloc)?,
+            store,
+            graph,
+            driver,
             lines: 0,
             refused: false,
         })
     }
 
     /// Answers the next line.
-    pub fn answer<K: Sink, R: DigestRule, F: DigestFunction<R> + Drop>(
-        &mut self,
-        line: &[u8],
-        namer: &Namer<R, F>,
-        sink: &mut K,
-    ) -> Result<(), RunFault>
-        requires invariant { HoldsInvariant R.digest_of self.old }
+    pub fn answer<K: Sink>(&mut self, line: &[u8], sink: &mut K) -> Result<(), RunFault>
+        requires invariant { IsInOrder R.digest_of self.old.store self.old.graph.state self.old.driver }
         requires few { self.old.lines < 2 ^ 64 - 1 }
-        ensures invariant { OnOk result (HoldsInvariant R.digest_of self.new) }
-        ensures state { OnOk result (state_of R.digest_of self.new ≡ next (state_of R.digest_of self.old) line.now) }
+        ensures invariant { OnOk result (IsInOrder R.digest_of self.new.store self.new.graph.state self.new.driver) }
+        ensures state { OnOk result (state_of R.digest_of self.new.store self.new.graph.state self.new.lines self.new.refused ≡ next (state_of R.digest_of self.old.store self.old.graph.state self.old.lines self.old.refused) line.now) }
         ensures writes { Writes (K.state sink.old) (K.state sink.new)
-            (text (state_of R.digest_of self.old) line.now) result }
+            (text (state_of R.digest_of self.old.store self.old.graph.state self.old.lines self.old.refused) line.now) result }
     {
         let said = command_in(self.alloc, line)?;
-        let answer = checked(&self.store, said, namer)?;
-        self.obey(answer, namer, sink)
+        let answer = checked(&self.store, said, self.graph.namer())?;
+        self.obey(answer, sink)
     }
 
-    fn obey<K: Sink, R: DigestRule, F: DigestFunction<R> + Drop>(
+    fn obey<K: Sink>(
         &mut self,
         answer: Result<Command, Refusal>,
-        namer: &Namer<R, F>,
         sink: &mut K,
     ) -> Result<(), RunFault>
-        requires invariant { HoldsInvariant R.digest_of self.old }
+        requires invariant { HoldsInvariant R.digest_of self.old.store self.old.graph.state self.old.driver }
         requires few { self.old.lines < 2 ^ 64 - 1 }
         requires fits { IfOk answer (Fits R.digest_of self.old.store.resources) }
-        ensures invariant { OnOk result (HoldsInvariant R.digest_of self.new) }
-        ensures state { OnOk result (state_of R.digest_of self.new ≡ after_answer (state_of R.digest_of self.old) answer) }
+        ensures invariant { OnOk result (HoldsInvariant R.digest_of self.new.store self.new.graph.state self.new.driver) }
+        ensures state { OnOk result (state_of R.digest_of self.new.store self.new.graph.state self.new.lines self.new.refused ≡ after_answer (state_of R.digest_of self.old.store self.old.graph.state self.old.lines self.old.refused) answer) }
         ensures writes { Writes (K.state sink.old) (K.state sink.new)
-            (answer_text (state_of R.digest_of self.old) answer) result }
+            (answer_text (state_of R.digest_of self.old.store self.old.graph.state self.old.lines self.old.refused) answer) result }
     {
         self.lines += 1;
         match answer {
             Ok(Command::Blank) => Ok(()),
             Ok(Command::Tables) => self.put_tables(sink),
-            Ok(Command::Flush) => self.flush(namer, sink),
-            Ok(Command::Update(update)) => Ok(self.apply(update, namer)?),
+            Ok(Command::Flush) => self.flush(sink),
+            Ok(Command::Update(update)) => Ok(self.apply(update)?),
             Ok(Command::Packet(packet)) => self.put_packet(&packet, sink),
             Err(refusal) => self.refuse(&refusal, sink),
         }
     }
 
-    fn apply<R: DigestRule, F: DigestFunction<R> + Drop>(
-        &mut self,
-        update: Update,
-        namer: &Namer<R, F>,
-    ) -> Result<(), Memory>
-        requires invariant { HoldsInvariant R.digest_of self.old }
+    // The graph takes it first: it asks for the resources before the update.
+    fn apply(&mut self, update: Update) -> Result<(), Memory>
+        requires invariant { HoldsInvariant R.digest_of self.old.store self.old.graph.state self.old.driver }
         requires fits { Fits R.digest_of self.old.store.resources (Command.Update update) }
-        ensures invariant { OnOk result (HoldsInvariant R.digest_of self.new) }
-        ensures state { OnOk result (state_of R.digest_of self.new
-            ≡ record (state_of R.digest_of self.old) { resources = after self.old.store.resources update }) }
+        ensures invariant { OnOk result (HoldsInvariant R.digest_of self.new.store self.new.graph.state self.new.driver) }
+        ensures state { OnOk result (state_of R.digest_of self.new.store self.new.graph.state self.new.lines self.new.refused
+            ≡ record (state_of R.digest_of self.old.store self.old.graph.state self.old.lines self.old.refused) { resources = after self.old.store.resources update }) }
     {
-        self.store.apply(update, namer)?;
+        self.graph.apply(&update, &mut Counter::new())?;
+        self.store.apply(update, self.graph.namer())?;
         Ok(())
     }
 
     fn put_tables<K: Sink>(&self, sink: &mut K) -> Result<(), RunFault>
-        requires rendered { IsRendered self.now }
+        requires { IsDriven (sides_of self.now.graph.state) self.now.driver }
         ensures writes { Writes (K.state sink.old) (K.state sink.new)
-            (concat (table_lines (tables_of self.now.sequencer.sent))) result }
+            (concat (table_lines (tables_of (sides_of self.now.graph.state).sent))) result }
     {
         let tables = self.driver.tables();
         let lines = tables_text(self.alloc, tables.sets(), tables.chains())?;
@@ -130,30 +127,30 @@ impl Engine {
     }
 
     fn put_packet<K: Sink>(&self, packet: &Packet, sink: &mut K) -> Result<(), RunFault>
-        requires rendered { IsRendered self.now }
+        requires { IsDriven (sides_of self.now.graph.state) self.now.driver }
         ensures writes { Writes (K.state sink.old) (K.state sink.new)
-            (packet_text (tables_of self.now.sequencer.sent) packet.now) result }
+            (packet_text (tables_of (sides_of self.now.graph.state).sent) packet.now) result }
     {
         let lines = self.decided(packet)?;
         put_all(&lines, sink)
     }
 
     // What the tables decide on a packet, and why.
-    #[tactic(auto, using(crate::proofs::Policing::rendered_first, crate::proofs::Policing::rendered_text))]
     fn decided(&self, packet: &Packet) -> Result<Vec<Text>, Memory>
-        requires rendered { IsRendered self.now }
-        ensures { IfOk result (λ lines. concat lines.items ≡ packet_text (tables_of self.now.sequencer.sent) packet.now) }
+        requires { IsDriven (sides_of self.now.graph.state) self.now.driver }
+        ensures { IfOk result (λ lines. concat lines.items ≡ packet_text (tables_of (sides_of self.now.graph.state).sent) packet.now) }
     {
         let mut path = Vec::new(self.alloc);
         let outcome = trace(self.driver.tables(), packet, &mut path)?;
-        packet_texts(
+        let lines = packet_texts(
             self.alloc,
             packet,
             path.as_slice(),
             outcome.egress,
             outcome.ingress,
             outcome.verdict,
-        )
+        )?;
+        Ok(lines)
     }
 
     fn refuse<K: Sink>(&mut self, refusal: &Refusal, sink: &mut K) -> Result<(), RunFault>
@@ -165,26 +162,20 @@ impl Engine {
         put_one(&line, sink)
     }
 
-    // Sends what the wanted view has and the sent view hasn't, and drives the tables there.
-    #[tactic(auto, using(fx_base::proofs::AtKey::reads, crate::proofs::Policing::wanted_closed))]
-    fn flush<K: Sink, R: DigestRule, F: DigestFunction<R> + Drop>(
-        &mut self,
-        namer: &Namer<R, F>,
-        sink: &mut K,
-    ) -> Result<(), RunFault>
-        requires invariant { HoldsInvariant R.digest_of self.old }
-        ensures invariant { OnOk result (HoldsInvariant R.digest_of self.new) }
-        ensures state { OnOk result (state_of R.digest_of self.new
-            ≡ record (state_of R.digest_of self.old) {
-              sent = (flush None self.old.sequencer.sent
+    // Sends what the wanted view has and the sent view hasn't, and drives the tables there. The graph keeps both.
+    #[tactic(auto, using(fx_base::proofs::AtKey::reads))]
+    fn flush<K: Sink>(&mut self, sink: &mut K) -> Result<(), RunFault>
+        requires invariant { HoldsInvariant R.digest_of self.old.store self.old.graph.state self.old.driver }
+        ensures invariant { OnOk result (HoldsInvariant R.digest_of self.new.store self.new.graph.state self.new.driver) }
+        ensures state { OnOk result (state_of R.digest_of self.new.store self.new.graph.state self.new.lines self.new.refused
+            ≡ record (state_of R.digest_of self.old.store self.old.graph.state self.old.lines self.old.refused) {
+              sent = (flush None (sides_of self.old.graph.state).sent
                   (view_of R.digest_of self.old.store.resources)).ends;
             }) }
         ensures writes { Writes (K.state sink.old) (K.state sink.new)
-            (flush_text self.old.sequencer.sent (view_of R.digest_of self.old.store.resources)) result }
+            (flush_text (sides_of self.old.graph.state).sent (view_of R.digest_of self.old.store.resources)) result }
     {
-        let wanted = view_of(self.alloc, self.store.resources(), namer)?;
-        self.sequencer.want(wanted);
-        let count = send(self.alloc, &mut self.sequencer, &mut self.driver, sink)?;
+        let count = send(self.alloc, &mut self.graph, &mut self.driver, sink)?;
         put_count(self.alloc, count, sink)
     }
 }

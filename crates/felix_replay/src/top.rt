@@ -8,6 +8,7 @@ ghost use Rattle.felix_replay.specs.Top.{Ran, Stopped, EndedEarly, HasRun, HasRu
 ghost use Rattle.std.specs.List.{AllByRecursion};
 ghost use Rattle.fx_lines.specs.Lines.{lines_of};
 ghost use Rattle.fx_lines.specs.Reading.{HasFailedRead, IsTooLong};
+ghost use Rattle.felix_replay.specs.Engine.{IsInOrder, state_of};
 ghost use Rattle.felix_replay.specs.Output.{start};
 ghost use Rattle.felix_replay.specs.Closing.{IsWhole, views_along};
 ghost use Rattle.felix_replay.specs.Policed.{KeepsPolicy, PathsAreRuns};
@@ -103,7 +104,7 @@ pub fn felix_replay<S: Source, K: Sink, R: DigestRule, F: DigestFunction<R> + Dr
     let Some(node) = node_word(words) else {
         return tell_usage(sink);
     };
-    match replay(alloc, node, source, sink, &namer) {
+    match replay(alloc, node, source, sink, namer) {
         Ok(false) => Status::Done,
         Ok(true) => Status::Refused,
         Err(RunFault::ReadFault) => Status::ReadFault,
@@ -125,13 +126,13 @@ fn tell_usage<K: Sink>(sink: &mut K) -> Status
     }
 }
 
-// Answers each line, and tells whether one was refused.
+// The engine stands here and is lent to the loop, so that one place lets go of it.
 fn replay<S: Source, K: Sink, R: DigestRule, F: DigestFunction<R> + Drop>(
     alloc: Global,
     node: &Text,
     source: &mut S,
     sink: &mut K,
-    namer: &Namer<R, F>,
+    namer: Namer<R, F>,
 ) -> Result<bool, RunFault>
     requires fresh { (S.state source.old).given ≡ 0 }
     requires unended { (S.state source.old).ended ≡ false }
@@ -146,10 +147,35 @@ fn replay<S: Source, K: Sink, R: DigestRule, F: DigestFunction<R> + Drop>(
     ensures short { OnOk result ((S.state source.new).given < 2 ^ 32) }
     ensures limited { (S.state source.new).given ≤ 2 ^ 32 }
 {
+    let mut engine = Engine::new(alloc, node, namer)?;
+    answer_lines(alloc, &mut engine, source, sink)
+}
+
+// Answers each line, and tells whether one was refused.
+fn answer_lines<S: Source, K: Sink, R: DigestRule, F: DigestFunction<R> + Drop>(
+    alloc: Global,
+    engine: &mut Engine<R, F>,
+    source: &mut S,
+    sink: &mut K,
+) -> Result<bool, RunFault>
+    requires invariant { IsInOrder R.digest_of engine.old.store engine.old.graph.state engine.old.driver }
+    requires state { state_of R.digest_of engine.old.store engine.old.graph.state engine.old.lines engine.old.refused ≡ start R.digest_of engine.old.store.resources.node }
+    requires fresh { (S.state source.old).given ≡ 0 }
+    requires unended { (S.state source.old).ended ≡ false }
+    ensures ran { IfOk result (Ran R.digest_of engine.old.store.resources.node (S.state source.old) (S.state source.new)
+        (K.state sink.old) (K.state sink.new)) }
+    ensures stopped { OnErr result (Stopped R.digest_of engine.old.store.resources.node (S.state source.old) (S.state source.new)
+        (K.state sink.old) (K.state sink.new)) }
+    ensures read_fault { IsErrOf result RunFault.ReadFault → HasFailedRead (S.state source.old) (S.state source.new) }
+    ensures write_fault { IsErrOf result RunFault.WriteFault → SinkFailed (K.state sink.old) (K.state sink.new) }
+    ensures write_short { IsErrOf result RunFault.WriteFault → (S.state source.new).given < 2 ^ 32 }
+    ensures too_long { IsErrOf result RunFault.InputTooLong → IsTooLong (S.state source.new) }
+    ensures short { OnOk result ((S.state source.new).given < 2 ^ 32) }
+    ensures limited { (S.state source.new).given ≤ 2 ^ 32 }
+{
     let mut reader = LineReader::new(alloc);
-    let mut engine = Engine::new(alloc, node.clone()?)?;
     while reader.advance(source)? {
-        engine.answer(reader.line(), namer, sink)?;
+        engine.answer(reader.line(), sink)?;
     }
     Ok(engine.refused)
 }

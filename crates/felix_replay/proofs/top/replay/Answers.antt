@@ -1,95 +1,31 @@
-use Rattle.std.proofs.Common.{◌≡◌, List, ℕ, [], ◌∷◌, ◌++◌, true, sym, ◌∙◌, ap, subst, arith, length}
-use Rattle.std.specs.Io.KnownBytes.{Appends}
-use Rattle.fx_base.proofs.Compose.{Appends-none}
-use Rattle.fx_lines.specs.Reading.{HasRead}
-use Rattle.fx_lines.specs.Held.{rest_of, line_of}
-use Rattle.fx_lines.proofs.Cuts.{HasRead-none, HasRead-more, HasRead-end, next_line, next_end, next_shrinks, OnErr-always}
-use Rattle.felix_replay.specs.Run.{state_after, written}
-use Rattle.felix_replay.specs.Output.{State, start, next, text, answer_of}
-use Rattle.felix_replay.specs.Engine.{state_of}
-use Rattle.felix_replay.proofs.Replay.{state_more, output_more, stopped_between, stopped_within, step-lines}
+use Rattle.std.proofs.Common.{◌≡◌, [], IfOk, OnErr, refl, subst, ap, sym, ◌∙◌}
+use Rattle.fx_base.proofs.Compose.{Appends-none, Gives-none}
+use Rattle.fx_lines.proofs.Cuts.{HasRead-none, OnErr-always}
+use Rattle.felix_replay.specs.Run.{written}
+use Rattle.felix_replay.proofs.Replay.{stopped_between}
+use Rattle.felix_replay.specs.Output.{State, start}
+use Rattle.felix_replay.specs.Top.{Ran, Stopped}
 use Rattle.felix_replay.proofs.top.replay.Goals as goal
 
-pub loop-engine-init : goal.loop-engine-init
-unfolding state_after written
-loop-engine-init g c =
-    let empty = c.new-reader.ensures.0 in
-    record {
-      ran = (
-        [],
-        subst (λ (held : List ℕ). HasRead (g.S.Source.state c.args.source.now) (g.S.Source.state c.args.source.now) held c.new-reader.result.ended []) (sym empty)
-            (HasRead-none (g.S.Source.state c.args.source.now) c.new-reader.result.ended),
-        Appends-none (g.K.Sink.state c.args.sink.now).held,
-        c.in_ok-engine.ensures.state g.R.DigestRule.digest_of ∙ ap (start g.R.DigestRule.digest_of) c.in_ok-clone.ensures.cases,
-      );
-      given = c.requires.fresh ∙ sym c.new-reader.ensures.1;
-      ended = c.requires.unended ∙ sym c.new-reader.ensures.2;
-      source_later = omega arith;
-      sink_later = omega arith;
-      invariant = c.in_ok-engine.ensures.invariant g.R.DigestRule.digest_of;
-      few = omega (arith, ap length empty, ap (λ (s : State). s.lines) (c.in_ok-engine.ensures.state g.R.DigestRule.digest_of));
-    }
+pub returns-in_err-engine-clause-stopped : goal.returns-in_err-engine-clause-stopped
+unfolding written
+returns-in_err-engine-clause-stopped g c =
+    let source = g.S.Source.state c.args.source.now in
+    let sink = g.K.Sink.state c.args.sink.now in
+    OnErr-always c.from_residual.result
+    (stopped_between g.R.DigestRule.digest_of c.args.node.now source source source [] source.ended [] [] sink sink (HasRead-none source source.ended) (Gives-none source) (λ end. (refl, end)) (Appends-none sink.held))
 
-pub loop-engine-smaller : goal.loop-engine-smaller
-loop-engine-smaller g c =
-    let found = c.in_ok-advance.ensures.next in
-    let is = next_line (rest_of c.loop-engine.reader) found.0 (line_of c.advance.new.self) (rest_of c.advance.new.self) c.in_ok-advance.field-0 c.advance.new.self.ended c.if-branch.true found.2 in
-    let shrinks = next_shrinks _ _ (rest_of c.loop-engine.reader) found.0 (line_of c.advance.new.self) (rest_of c.advance.new.self) c.advance.new.self.ended found.1 is in
-    omega (arith, shrinks, c.loop-engine.invariant.given, c.in_ok-advance.ensures.given, c.advance.new.self.limited, c.loop-engine.reader.limited)
-
-pub loop-engine-preserved : goal.loop-engine-preserved
-loop-engine-preserved g c =
-    let was = c.loop-engine.invariant.ran in
-    let found = c.in_ok-advance.ensures.next in
-    let line = line_of c.advance.new.self in
-    let is = next_line (rest_of c.loop-engine.reader) found.0 line (rest_of c.advance.new.self) c.in_ok-advance.field-0 c.advance.new.self.ended c.if-branch.true found.2 in
-    record {
-      ran = (
-        was.0 ++ line ∷ [],
-        HasRead-more _ _ _ (rest_of c.loop-engine.reader) found.0 (rest_of c.advance.new.self) c.loop-engine.reader.ended c.advance.new.self.ended was.0 line was.1 found.1 (λ end. (c.in_ok-advance.ensures.quiet end).0) is,
-        output_more g.R.DigestRule.digest_of c.args.node.now was.0 line c.line.result.now (state_of g.R.DigestRule.digest_of c.loop-engine.engine) was.3 c.line.ensures _ _ _ was.2 c.in_ok-answer.ensures.writes.whole,
-        state_more g.R.DigestRule.digest_of c.args.node.now was.0 line c.line.result.now (state_of g.R.DigestRule.digest_of c.loop-engine.engine) was.3 c.line.ensures (state_of g.R.DigestRule.digest_of c.answer.new.self) c.in_ok-answer.ensures.state,
-      );
-      given = c.in_ok-advance.ensures.given;
-      ended = c.in_ok-advance.ensures.ended;
-      source_later = omega (arith, c.loop-engine.invariant.source_later, c.in_ok-advance.ensures.later);
-      sink_later = omega (arith, c.loop-engine.invariant.sink_later, c.in_ok-answer.ensures.writes.later);
-      invariant = c.in_ok-answer.ensures.invariant;
-      few =
-          let shrinks = next_shrinks _ _ (rest_of c.loop-engine.reader) found.0 line (rest_of c.advance.new.self) c.advance.new.self.ended found.1 is in
-          omega (arith, shrinks, c.loop-engine.invariant.given, c.loop-engine.invariant.few, c.in_ok-advance.ensures.given, ap (λ (s : State). s.lines) c.in_ok-answer.ensures.state, step-lines (state_of g.R.DigestRule.digest_of c.loop-engine.engine) (answer_of (state_of g.R.DigestRule.digest_of c.loop-engine.engine) c.line.result.now));
-    }
-
-pub returns-in_err-advance-clause-stopped : goal.returns-in_err-advance-clause-stopped
-returns-in_err-advance-clause-stopped g c =
-    let was = c.loop-engine.invariant.ran in
-    let stop = c.in_err-advance.ensures.stopped in
-    OnErr-always c.from_residual-in_err-advance.result
-    (stopped_between g.R.DigestRule.digest_of c.args.node.now _ _ _ (rest_of c.loop-engine.reader) c.loop-engine.reader.ended was.0 stop.0 (g.K.Sink.state c.args.sink.now) (g.K.Sink.state c.loop-engine.sink) was.1 stop.1 c.in_err-advance.ensures.quiet was.2)
-
-pub returns-in_err-answer-clause-stopped : goal.returns-in_err-answer-clause-stopped
-returns-in_err-answer-clause-stopped g c =
-    let was = c.loop-engine.invariant.ran in
-    let found = c.in_ok-advance.ensures.next in
-    let line = line_of c.advance.new.self in
-    let is = next_line (rest_of c.loop-engine.reader) found.0 line (rest_of c.advance.new.self) c.in_ok-advance.field-0 c.advance.new.self.ended c.if-branch.true found.2 in
-    let read = HasRead-more _ _ _ (rest_of c.loop-engine.reader) found.0 (rest_of c.advance.new.self) c.loop-engine.reader.ended c.advance.new.self.ended was.0 line was.1 found.1 (λ end. (c.in_ok-advance.ensures.quiet end).0) is in
-    OnErr-always c.from_residual-in_err-answer.result
-    (stopped_within g.R.DigestRule.digest_of c.args.node.now _ _ (rest_of c.advance.new.self) c.advance.new.self.ended was.0 line c.line.result.now (state_of g.R.DigestRule.digest_of c.loop-engine.engine) (g.K.Sink.state c.args.sink.now) (g.K.Sink.state c.loop-engine.sink) (g.K.Sink.state c.answer.new.sink) read c.in_ok-advance.ensures.ended was.3 c.line.ensures was.2 c.in_err-answer.ensures.writes.prefix)
+pub answer_lines-requires-clause-state : goal.answer_lines-requires-clause-state
+answer_lines-requires-clause-state g c =
+    let is = c.in_ok-engine.ensures.state in
+    is ∙ ap (λ (s : State). start g.R.DigestRule.digest_of s.resources.node) (sym is)
 
 pub returns-clause-ran : goal.returns-clause-ran
 returns-clause-ran g c =
-    let was = c.loop-engine.invariant.ran in
-    let found = c.in_ok-advance.ensures.next in
-    let is = next_end (rest_of c.loop-engine.reader) found.0 (line_of c.advance.new.self) (rest_of c.advance.new.self) c.in_ok-advance.field-0 c.advance.new.self.ended c.if-branch.false found.2 in
-    let whole = HasRead-end _ _ _ (rest_of c.loop-engine.reader) found.0 (rest_of c.advance.new.self) c.loop-engine.reader.ended c.advance.new.self.ended was.0 was.1 found.1 is in
-    let end : (g.S.Source.state c.advance.new.source).ended ≡ true = c.in_ok-advance.ensures.ended ∙ whole.3 in
-    let node = c.args.node.now in
-    record {
-      input = whole.0;
-      gives = whole.1;
-      end = end;
-      all = g.met.S.Source.end_is_all c.advance.new.source end;
-      output = subst (λ (l : List (List ℕ)). Appends (g.K.Sink.state c.args.sink.now).held (g.K.Sink.state c.loop-engine.sink).held (written next text (start g.R.DigestRule.digest_of node) l)) (sym whole.2) was.2;
-      status = ap (λ (s : State). s.refused) was.3 ∙ ap (λ (l : List (List ℕ)). (state_after next (start g.R.DigestRule.digest_of node) l).refused) (sym whole.2);
-    }
+    subst (λ (s : State). IfOk c.answer_lines.result (Ran g.R.DigestRule.digest_of s.resources.node (g.S.Source.state c.args.source.now) (g.S.Source.state c.answer_lines.new.source) (g.K.Sink.state c.args.sink.now) (g.K.Sink.state c.answer_lines.new.sink)))
+    c.in_ok-engine.ensures.state c.answer_lines.ensures.ran
+
+pub returns-clause-stopped : goal.returns-clause-stopped
+returns-clause-stopped g c =
+    subst (λ (s : State). OnErr c.answer_lines.result (Stopped g.R.DigestRule.digest_of s.resources.node (g.S.Source.state c.args.source.now) (g.S.Source.state c.answer_lines.new.source) (g.K.Sink.state c.args.sink.now) (g.K.Sink.state c.answer_lines.new.sink)))
+    c.in_ok-engine.ensures.state c.answer_lines.ensures.stopped
