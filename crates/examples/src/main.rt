@@ -1,6 +1,6 @@
 //! Runs each example in memory, by the code that `felix_main` runs, and tells whether its output is the stored one.
 //!
-//! An example is two files of `data/`: its lines, `NAME.jsonl`, and its output, `NAME.txt`.
+//! An example is its words and two files of `data/`: its lines, `NAME.jsonl`, and its output, `NAME.txt`.
 #![tactic(auto)]
 
 use felix_replay::{Status, felix_replay};
@@ -11,15 +11,19 @@ use std::alloc::Global;
 use std::rt::Files;
 use std::{fs, io};
 
-const EXAMPLES: [&str; 8] = [
-    "first",
-    "packets",
-    "rules",
-    "policies",
-    "sets",
-    "endpoints",
-    "refusals",
-    "delete",
+const NODE: &str = "--node n1";
+
+// The name and the words of each.
+const EXAMPLES: [(&str, &str); 9] = [
+    ("first", NODE),
+    ("packets", NODE),
+    ("rules", NODE),
+    ("policies", NODE),
+    ("sets", NODE),
+    ("endpoints", NODE),
+    ("refusals", NODE),
+    ("delete", NODE),
+    ("soak", "--node n1 --soak 7 --count 2000"),
 ];
 
 const MOST_WRITTEN: u32 = 1_048_576;
@@ -35,17 +39,17 @@ impl DigestFunction<Sha256Rule> for Sha256Digest {
 }
 
 fn main(rt: HostRuntime) -> io::Result<()> {
-    for name in EXAMPLES {
-        let answer = outcome(&rt, name)?;
+    for (name, words) in EXAMPLES {
+        let answer = outcome(&rt, name, words)?;
         println!(rt; "{name}: {answer}")?;
     }
     Ok(())
 }
 
-fn outcome<R: Files + AllocGlobal>(rt: &R, name: &str) -> io::Result<&'static str> {
+fn outcome<R: Files + AllocGlobal>(rt: &R, name: &str, words: &str) -> io::Result<&'static str> {
     let lines = example_file(rt, name, ".jsonl")?;
     let stored = example_file(rt, name, ".txt")?;
-    let Ok((status, written)) = replayed(rt.alloc(), lines) else {
+    let Ok((status, written)) = replayed(rt.alloc(), words, lines) else {
         return Ok("there is no memory");
     };
     Ok(judged(status, written.as_slice() == stored.as_slice()))
@@ -57,13 +61,21 @@ fn example_file<R: Files + AllocGlobal>(rt: &R, name: &str, ending: &str) -> io:
 }
 
 // The status of a run on these lines, and what it wrote.
-fn replayed(alloc: Global, lines: Vec<u8>) -> Result<(Status, Vec<u8>), Memory> {
-    let words = vec![in alloc; Text::new(alloc, b"--node")?, Text::new(alloc, b"n1")?]?;
+fn replayed(alloc: Global, words: &str, lines: Vec<u8>) -> Result<(Status, Vec<u8>), Memory> {
+    let words = split(alloc, words)?;
     let mut source = SureSource::new(lines, 4096);
     let mut sink = MemSink::new(alloc, MOST_WRITTEN, Vec::new(alloc))?;
     let namer = Namer::new(Sha256Digest);
     let status = felix_replay(alloc, &words, &mut source, &mut sink, namer);
     Ok((status, sink.held().to_vec(alloc)?))
+}
+
+fn split(alloc: Global, list: &str) -> Result<Vec<Text>, Memory> {
+    let mut words = Vec::new(alloc);
+    for word in list.split(' ') {
+        words.push(Text::new(alloc, word.as_bytes())?)?;
+    }
+    Ok(words)
 }
 
 fn judged(status: Status, is_stored: bool) -> &'static str {

@@ -9,13 +9,12 @@ use Rattle.fx_laws.proofs.Leading.{closed-tables}
 use Rattle.fx_laws.proofs.ViewClosed.{view_of-closed}
 use Rattle.fx_fields.specs.declared.refusal.Refusal.{Refusal}
 use Rattle.fx_names.specs.Digests.{Digest}
-use Rattle.fx_lines.specs.Lines.{lines_of}
 use Rattle.fx_lines.specs.declared.commands.Command.{Command}
 use Rattle.fx_lines.specs.declared.commands.Command.TheVariants as command
 use Rattle.felix_replay.specs.Run.{state_after}
 use Rattle.felix_replay.specs.Output.{State, start, answer_of, next, after_answer}
 use Rattle.felix_replay.specs.Closing.{views_in, views_along, IsWhole}
-use Rattle.felix_replay.proofs.EmptyView.{empty_view-closed}
+use Rattle.fx_agent.proofs.Starting.{empty_view-drivable}
 
 all_both : {A : Type 0} (P : A → Type 0) (xs ys : List A) → AllByRecursion P xs → AllByRecursion P ys → AllByRecursion P (xs ++ ys)
 all_both P [] ys p q = q
@@ -47,8 +46,8 @@ along s [] closed = tt
 along s (line ∷ lines) closed =
     all_both IsWhole (views_in s (answer_of s line)) (views_along (next s line) lines) (in_line s (answer_of s line) closed) (along (next s line) lines (after_line s (answer_of s line) closed))
 
-pub run_stays_whole : (dg : Digest) (node input : List ℕ) → AllByRecursion IsWhole (views_along (start dg node) (lines_of input))
-run_stays_whole dg node input = along (start dg node) (lines_of input) empty_view-closed
+pub run_stays_whole : (dg : Digest) (node : List ℕ) (lines : List (List ℕ)) → AllByRecursion IsWhole (views_along (start dg node) lines)
+run_stays_whole dg node lines = along (start dg node) lines empty_view-drivable.closed
 
 pub closed_after : (s : State) (lines : List (List ℕ)) → IsClosedView s.sent → IsClosedView (state_after next s lines).sent
 unfolding state_after
@@ -56,4 +55,4 @@ closed_after s [] closed = closed
 closed_after s (line ∷ lines) closed = closed_after (next s line) lines (after_line s (answer_of s line) closed)
 
 pub run_closed : (dg : Digest) (node : List ℕ) (lines : List (List ℕ)) → IsClosedView (state_after next (start dg node) lines).sent
-run_closed dg node lines = closed_after (start dg node) lines empty_view-closed
+run_closed dg node lines = closed_after (start dg node) lines empty_view-drivable.closed

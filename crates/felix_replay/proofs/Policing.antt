@@ -1,7 +1,6 @@
 -- What a packet line writes, and that after a flush it is the policy reference's answer.
 use Rattle.std.proofs.Common.{◌≡◌, ℕ, List, [], true, Option, Ok, sym, ◌∙◌, ap, subst}
 use Rattle.std.specs.List.{concat}
-use Rattle.std.specs.FinMap as maps
 use Rattle.fx_model.specs.declared.packet.Packet.{Packet}
 use Rattle.fx_model.specs.declared.packet.State.TheVariants.{New}
 use Rattle.fx_model.specs.declared.packet.Verdict.{Verdict}
@@ -11,7 +10,7 @@ use Rattle.fx_model.specs.declared.view.View.{View}
 use Rattle.fx_model.specs.Machine.{Trace, holds, hops_and_reasons, Decides, Traces}
 use Rattle.fx_model.specs.Policy.{Outcome, packet_verdict}
 use Rattle.fx_model.specs.Ranks.{IsRanked}
-use Rattle.fx_model.specs.Tables.{ChainName, Tables, forward}
+use Rattle.fx_model.specs.Tables.{ChainName, Tables}
 use Rattle.fx_model.specs.ViewTables.{tables_of}
 use Rattle.fx_model.specs.ViewPolicy.{IsServable}
 use Rattle.fx_model.specs.Closed.{IsClosedView}
@@ -19,15 +18,11 @@ use Rattle.fx_names.specs.Digests.{Digest}
 use Rattle.fx_model.specs.Views.{view_of}
 use Rattle.fx_model.specs.Walk.{Ended, verdict_of, noted_in}
 use Rattle.fx_laws.proofs.Leading.{ranked-tables}
-use Rattle.fx_driver.specs.declared.driver.Driver.{Driver}
-use Rattle.fx_sequencer.specs.declared.sides.Sides.{Sides}
 use Rattle.fx_walk.proofs.Agree.{policy_is_kept, traced_decides, run_has_one_end, walk_is_run}
-use Rattle.fx_walk.proofs.Families.{first_there}
 use Rattle.fx_walk.specs.PacketPaths.{first_walk}
 use Rattle.fx_walk.proofs.Walks.{one-end}
 use Rattle.fx_lines.specs.declared.commands.Command.TheVariants as command
 use Rattle.fx_model.specs.PacketTexts.{packet_lines}
-use Rattle.felix_replay.specs.Driven.{IsDriven}
 use Rattle.felix_replay.specs.Run.{state_after}
 use Rattle.felix_replay.specs.PacketRuns.{packet_text}
 use Rattle.felix_replay.specs.Output.{State, start, answer_of, next, answer_text}
@@ -35,13 +30,7 @@ use Rattle.felix_replay.specs.Policed.{TellsRun, PathsAreRuns, TellsPolicy, Keep
 use Rattle.felix_replay.proofs.ClosingLemmas.{run_closed}
 use Rattle.felix_replay.proofs.Served.{run_servable}
 
--- ---- the engine
-
-pub rendered_first : (sides : Sides) (driver : Driver) → IsDriven sides driver → maps.contains_key driver.tables.chains forward ≡ true
-rendered_first sides driver is = subst (λ (t : Tables). maps.contains_key t.chains forward ≡ true) (sym is.drives.tables) (first_there sides.sent)
-
-pub rendered_ranked : (sides : Sides) (driver : Driver) → IsDriven sides driver → IsRanked driver.tables.chains
-rendered_ranked sides driver is = subst (λ (t : Tables). IsRanked t.chains) (sym is.drives.tables) (ranked-tables sides.sent is.from.closed)
+-- ---- the text of a packet
 
 -- where a run ends so, the packet's text is this
 pub run_text : (tables : Tables) (a : Packet) → IsRanked tables.chains → (path : List (ChainName × ℕ)) (v : Verdict) (e i : Option Reason) → Traces tables a [] path v e i
@@ -51,10 +40,9 @@ run_text tables a ranked path v e i run =
     ap (λ (w : Verdict). concat (packet_lines path a.iface_in a.iface_out e i w)) end.0
     ∙ ap (λ (t : Trace). concat (packet_lines t.hops a.iface_in a.iface_out t.reasons.egress t.reasons.ingress (verdict_of (first_walk tables a [])))) end.1
 
-pub rendered_text : (sides : Sides) (driver : Driver) → IsDriven sides driver → (a : Packet) (path : List (ChainName × ℕ)) (v : Verdict) (egress ingress : Option Reason) → Traces driver.tables a [] path v egress ingress
-    → concat (packet_lines path a.iface_in a.iface_out egress ingress v) ≡ packet_text (tables_of sides.sent) a
-rendered_text sides driver is a path v egress ingress run =
-    run_text driver.tables a (rendered_ranked sides driver is) path v egress ingress run ∙ ap (λ (t : Tables). packet_text t a) is.drives.tables
+pub rendered_text : (sent : View) → IsClosedView sent → (a : Packet) (path : List (ChainName × ℕ)) (v : Verdict) (egress ingress : Option Reason) → Traces (tables_of sent) a [] path v egress ingress
+    → concat (packet_lines path a.iface_in a.iface_out egress ingress v) ≡ packet_text (tables_of sent) a
+rendered_text sent closed a path v egress ingress run = run_text (tables_of sent) a (ranked-tables sent closed) path v egress ingress run
 
 -- ---- the run of a packet
 

@@ -1,5 +1,5 @@
 -- How a flush goes on by one message.
-use Rattle.std.proofs.Common.{◌≡◌, ◌+◌, [], ◌++◌, length, map, true, false, Option, Some, None, is_some, Result, Ok, Err, refl, ap, arith}
+use Rattle.std.proofs.Common.{◌≡◌, ◌+◌, [], ◌++◌, length, map, true, false, Option, Some, None, is_some, Result, Ok, Err, refl, sym, ap, subst, ◌∙◌, arith}
 use Rattle.std.specs.List.{concat}
 use Rattle.std.specs.Prelude.{OnOk}
 use Rattle.fx_model.specs.declared.view.View.{View}
@@ -73,3 +73,12 @@ stays s w none = quiet (next_message s w) none
 pub on_ok_always : {T E P : Type 0} (r : Result T E) → P → OnOk r P
 on_ok_always (Ok x) holds = holds
 on_ok_always (Err e) holds = tt
+
+-- and what holds of a value holds of one that is the same after a call that succeeds
+pub on_ok_subst : {A T E : Type 0} (P : A → Type 0) (a b : A) (r : Result T E) → OnOk r (b ≡ a) → P a → OnOk r (P b)
+on_ok_subst P a b (Ok x) same holds = subst P (sym same) holds
+on_ok_subst P a b (Err e) same holds = tt
+
+pub on_ok_trans : {A T E : Type 0} (r : Result T E) (a b c : A) → OnOk r (a ≡ b) → b ≡ c → OnOk r (a ≡ c)
+on_ok_trans (Ok x) a b c same e = same ∙ e
+on_ok_trans (Err f) a b c same e = tt

@@ -6,7 +6,7 @@ use Rattle.fx_model.specs.Claims.{clash}
 use Rattle.fx_model.specs.ViewPolicy.{IsServable}
 use Rattle.fx_names.specs.Claims.{Clash}
 use Rattle.fx_names.specs.Digests.{Digest}
-use Rattle.fx_laws.proofs.ClaimsApart.{clash_free_after, clash_free_none}
+use Rattle.fx_laws.proofs.ClaimsApart.{clash_free_after}
 use Rattle.fx_laws.proofs.FormedLemmas.{are_formed-after, have_workload_interfaces-after}
 use Rattle.fx_fields.specs.declared.refusal.Refusal.{Refusal}
 use Rattle.fx_lines.specs.declared.commands.Command.{Command}
@@ -14,16 +14,12 @@ use Rattle.fx_lines.specs.declared.commands.Command.TheVariants as command
 use Rattle.fx_lines.specs.Commands.{command_of}
 use Rattle.fx_lines.specs.Formed.{IsReadCommand}
 use Rattle.fx_lines.proofs.ReadForms.{command_of-read}
+use Rattle.fx_agent.proofs.Starting.{none-servable}
 use Rattle.felix_replay.specs.Run.{state_after}
 use Rattle.felix_replay.specs.Output.{State, start, unless_taken, checked, accepted, answer_of, after_answer, next}
-use Rattle.felix_replay.proofs.EmptyView.{start-formed, start-on_workloads}
 
 start-servable : (dg : Digest) (node : List ℕ) → IsServable dg (start dg node).resources
-start-servable dg node = record {
-  formed = start-formed dg node;
-  clash_free = clash_free_none dg (start dg node).resources refl refl refl;
-  on_workloads = start-on_workloads dg node;
-}
+start-servable dg node = none-servable dg node
 
 untaken : (s : State) → IsServable s.digest s.resources → (u : Update) → IsReadCommand (command.Update u) → (o : Option Clash) → clash s.digest s.resources u ≡ o → IsServable s.digest (after_answer s (unless_taken o u)).resources
 untaken s was u read (Some c) is = was

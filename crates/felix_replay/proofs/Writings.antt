@@ -1,11 +1,11 @@
 -- Calls that write, one after another.
-use Rattle.std.proofs.Common.{◌≡◌, ◌<◌, ◌≤◌, ◌+◌, ℕ, List, [], ◌∷◌, ◌++◌, length, get_or, take, drop, Result, Ok, Err, sym, ◌∙◌, ap, arith, take-append-drop}
+use Rattle.std.proofs.Common.{◌≡◌, ◌<◌, ◌≤◌, ◌+◌, ℕ, List, [], ◌∷◌, ◌++◌, length, get_or, take, drop, Result, Ok, Err, sym, ◌∙◌, ap, subst, arith, take-append-drop}
 use Rattle.std.specs.List.{concat}
 use Rattle.std.proofs.lemmas.List.{drop_more, take_more, append-nil}
 use Rattle.std.proofs.lemmas.List.Folds.{concat-append}
 use Rattle.std.specs.Io.KnownBytes.{Appends}
 use Rattle.fx_base.specs.Streams.{SinkState, AppendsPrefix}
-use Rattle.fx_base.proofs.Compose.{AppendsPrefix-none, AppendsPrefix-after, AppendsPrefix-longer, Appends-more}
+use Rattle.fx_base.proofs.Compose.{AppendsPrefix-none, AppendsPrefix-after, AppendsPrefix-longer, Appends-more, Appends-none}
 use Rattle.felix_replay.specs.declared.run_fault.RunFault.{RunFault}
 use Rattle.felix_replay.specs.declared.run_fault.RunFault.TheVariants as fault
 use Rattle.felix_replay.specs.Writing.{IsWritingFault, Writes}
@@ -21,6 +21,15 @@ module _ {T : Type 0} where
   -- nothing was written, for want of memory
   pub Writes-nothing : (s : SinkState) (text : List ℕ) → Writes {T = T} s s text (Err fault.Memory)
   Writes-nothing s text = record { whole = tt; prefix = AppendsPrefix-none s.held text; later = omega arith; cause = tt }
+
+  -- all of it was written, which is nothing
+  pub Writes-none : (s : SinkState) (text : List ℕ) (x : T) → text ≡ [] → Writes s s text (Ok x)
+  Writes-none s text x none = record {
+    whole = subst (Appends s.held s.held) (sym none) (Appends-none s.held);
+    prefix = tt;
+    later = omega arith;
+    cause = tt;
+  }
 
   -- a first part was written whole, and a call for the second part stopped
   pub Writes-stopped : (a b c : SinkState) (first second rest : List ℕ) (f : RunFault) → Appends a.held b.held first → a.faults ≤ b.faults → AppendsPrefix b.held c.held second → b.faults ≤ c.faults → IsWritingFault b c f

@@ -4,9 +4,9 @@ pub mod PacketRuns
 pub mod Output
 pub mod RunFaults
 pub mod Writing
-pub mod Engine
-pub mod Fitting
+pub mod Standing
 pub mod Top
 pub mod Closing
 pub mod Policed
-pub mod Driven
+pub mod Soak
+pub mod SoakRuns

@@ -74,10 +74,16 @@ accepted s command.Flush = record s { sent = (flush None s.sent (view_of s.diges
 accepted s (command.Update u) = record s { resources = after s.resources u }
 accepted s (command.Packet a) = s
 
--- a refused line changes nothing but the numbers
+-- what a counted line does; a refused one changes nothing
+abbrev pub settled : State → Result Command Refusal → State
+settled s (Ok c) = accepted s c
+settled s (Err r) = record s { refused = true }
+
+abbrev pub counted : State → State
+counted s = record s { lines = s.lines + 1 }
+
 abbrev pub after_answer : State → Result Command Refusal → State
-after_answer s (Ok c) = accepted (record s { lines = s.lines + 1 }) c
-after_answer s (Err r) = record s { lines = s.lines + 1; refused = true }
+after_answer s answer = settled (counted s) answer
 
 abbrev pub next : State → List ℕ → State
 next s line = after_answer s (answer_of s line)
@@ -107,9 +113,13 @@ command_text s command.Flush = flush_text s.sent (view_of s.digest s.resources)
 command_text s (command.Update u) = []
 command_text s (command.Packet a) = packet_text (tables_of s.sent) a
 
+-- what a counted line writes
+abbrev pub settled_text : State → Result Command Refusal → List ℕ
+settled_text s (Ok c) = command_text s c
+settled_text s (Err r) = refusal_line s.lines r
+
 abbrev pub answer_text : State → Result Command Refusal → List ℕ
-answer_text s (Ok c) = command_text s c
-answer_text s (Err r) = refusal_line (s.lines + 1) r
+answer_text s answer = settled_text (counted s) answer
 
 abbrev pub text : State → List ℕ → List ℕ
 text s line = answer_text s (answer_of s line)

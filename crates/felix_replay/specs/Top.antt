@@ -1,12 +1,15 @@
 -- What a run of the program did.
-use Rattle.std.specs.Prelude.{if◌then◌else◌, ◌≡◌, ◌⊎◌, ◌++◌, ℕ, List, Bool, true, Some}
+use Rattle.std.specs.Prelude.{if◌then◌else◌, ◌≡◌, ◌⊎◌, ◌++◌, ℕ, List, Bool, true, Option, Some, None}
 use Rattle.std.specs.Io.KnownBytes.{Appends, IsAtEnd}
 use Rattle.fx_base.specs.Streams.{SourceState, SinkState, Rose, Gives, AppendsPrefix}
 use Rattle.felix_replay.specs.declared.top.Status.{Status}
 use Rattle.felix_replay.specs.declared.top.Status.TheVariants.{Done, Refused, Usage, ReadFault, WriteFault, Memory, InputTooLong}
 use Rattle.fx_lines.specs.Lines.{answerable}
 use Rattle.fx_names.specs.Digests.{Digest}
+use Rattle.fx_words.specs.declared.words.Asked.{Asked}
+use Rattle.fx_words.specs.declared.words.Soak.{Soak}
 use Rattle.felix_replay.specs.Output.{output, is_refused}
+use Rattle.felix_replay.specs.SoakRuns.{SoakRan, SoakStopped}
 
 -- The input was read to its end, and the output is the definition's. The input is all that the source had left, where it tells.
 pub record Ran (dg : Digest) (node : List ℕ) (source_before source_now : SourceState) (sink_before sink_now : SinkState) (refused : Bool) : Type 0 where
@@ -22,6 +25,26 @@ pub record Stopped (dg : Digest) (node : List ℕ) (source_before source_now : S
   pub taken : List ℕ
   pub gives : Gives source_before source_now taken
   pub output : AppendsPrefix sink_before.held sink_now.held (output dg node (answerable source_now.ended taken))
+
+-- ---- what was done, by what the words ask for
+
+abbrev pub RanBy : Digest → List ℕ → Option Soak → SourceState → SourceState → SinkState → SinkState → Bool → Type 0
+RanBy dg node None source_before source_now before now refused = Ran dg node source_before source_now before now refused
+RanBy dg node (Some soak) source_before source_now before now refused = SoakRan dg node soak before now refused
+
+abbrev pub RanFor : Digest → Option Asked → SourceState → SourceState → SinkState → SinkState → Bool → Type 0
+RanFor dg None source_before source_now before now refused = ⊥
+RanFor dg (Some asked) source_before source_now before now refused = RanBy dg asked.node asked.soak source_before source_now before now refused
+
+abbrev pub StoppedBy : Digest → List ℕ → Option Soak → SourceState → SourceState → SinkState → SinkState → Type 0
+StoppedBy dg node None source_before source_now before now = Stopped dg node source_before source_now before now
+StoppedBy dg node (Some soak) source_before source_now before now = SoakStopped dg node soak before now
+
+abbrev pub StoppedFor : Digest → Option Asked → SourceState → SourceState → SinkState → SinkState → Type 0
+StoppedFor dg None source_before source_now before now = ⊥
+StoppedFor dg (Some asked) source_before source_now before now = StoppedBy dg asked.node asked.soak source_before source_now before now
+
+-- ---- statuses
 
 -- the statuses of a run that ended early
 abbrev pub EndedEarly : Status → Type 0
@@ -42,6 +65,16 @@ HasRun ReadFault = ⊥
 HasRun WriteFault = ⊥
 HasRun Memory = ⊥
 HasRun InputTooLong = ⊥
+
+-- how a soak run may end: it has no input that a read may fail on, or that may be too long
+abbrev pub EndsSoak : Status → Type 0
+EndsSoak Done = Unit {0}
+EndsSoak Refused = Unit {0}
+EndsSoak Usage = ⊥
+EndsSoak ReadFault = ⊥
+EndsSoak WriteFault = Unit {0}
+EndsSoak Memory = Unit {0}
+EndsSoak InputTooLong = ⊥
 
 -- how a run over these bytes ends
 abbrev pub output_status : Digest → List ℕ → List ℕ → Status

@@ -1,19 +1,20 @@
--- The words of the command line, as POSIX utilities take an option with its argument: `--node` and a name.
-use Rattle.std.specs.Prelude.{ℕ, List, [], ◌∷◌, Bool, ◌&&◌, ◌==◌, not, slice_index, if◌then◌else◌, Option, Some, None, unwrap_or, codes}
-use Rattle.std.specs.Str.{bytes_eq}
-use Rattle.fx_fields.specs.Forms.{is_name}
+-- What the words of the command line ask for: the node, and a replay of the input or a soak run.
+use Rattle.std.specs.Prelude.{ℕ, List, [], Option, Some, None, IsSome, IsNone}
+use Rattle.fx_words.specs.Words.{asked_of}
+use Rattle.fx_words.specs.declared.words.Asked.{Asked}
 
--- a name whose first byte isn't `-`
-abbrev pub is_node_name : List ℕ → Bool
-is_node_name s = is_name s && not (slice_index s 0 == 45)
-
--- the node's name, where the words are in the grammar
-abbrev pub node_of : List (List ℕ) → Option (List ℕ)
-node_of [] = None
-node_of (option ∷ []) = None
-node_of (option ∷ name ∷ []) = if bytes_eq option (codes "--node") && is_node_name name then Some name else None
-node_of (option ∷ name ∷ other ∷ words) = None
+abbrev pub node_in : Option Asked → List ℕ
+node_in None = []
+node_in (Some asked) = asked.node
 
 -- the node's name, or none where the words are not in the grammar
 abbrev pub node_name : List (List ℕ) → List ℕ
-node_name words = unwrap_or (node_of words) []
+node_name words = node_in (asked_of words)
+
+abbrev pub AsksReplay : Option Asked → Type 0
+AsksReplay None = ⊥
+AsksReplay (Some asked) = IsNone asked.soak
+
+abbrev pub AsksSoak : Option Asked → Type 0
+AsksSoak None = ⊥
+AsksSoak (Some asked) = IsSome asked.soak

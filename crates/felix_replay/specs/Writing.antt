@@ -18,3 +18,12 @@ pub record Writes {T : Type 0} (before now : SinkState) (text : List ℕ) (resul
   pub prefix : OnErr result (AppendsPrefix before.held now.held text)
   pub later : before.faults ≤ now.faults
   pub cause : MatchResult result (λ _. ⊤) (IsWritingFault before now)
+
+-- a text was written whole, or a prefix of it; the count of faults stays or rises
+pub record HasWritten (before now : SinkState) (text : List ℕ) : Type 0 where
+  pub whole : Appends before.held now.held text
+  pub later : before.faults ≤ now.faults
+
+pub record HasTorn (before now : SinkState) (text : List ℕ) : Type 0 where
+  pub prefix : AppendsPrefix before.held now.held text
+  pub later : before.faults ≤ now.faults

@@ -3,8 +3,9 @@
 
 pub use top::{Status, felix_replay};
 
-mod engine;
+mod replay;
 mod run_fault;
 mod sending;
+mod soaking;
+mod tally;
 mod top;
-mod words;

@@ -1,8 +1,9 @@
 //! Why a run ends early.
 ghost use Rattle.std.specs.Prelude.{◌≡◌};
-ghost use Rattle.felix_replay.specs.RunFaults.{run_fault_of};
+ghost use Rattle.felix_replay.specs.RunFaults.{run_fault_of, pull_fault_of};
 ghost use Rattle.felix_replay.specs.declared.run_fault.RunFault.TheVariants.{Memory, WriteFault};
 
+use fx_agent::PullFault;
 use fx_base::{Failed, Memory};
 use fx_lines::LineFault;
 use std::alloc::AllocError;
@@ -47,6 +48,19 @@ impl From<LineFault> for RunFault {
             LineFault::ReadFault => RunFault::ReadFault,
             LineFault::InputTooLong => RunFault::InputTooLong,
             LineFault::Memory => RunFault::Memory,
+        }
+    }
+}
+
+// The run ends with the first want of memory, so the agent is never asked again.
+impl From<PullFault> for RunFault {
+    ghost from_gives = { λ fault e. e ≡ pull_fault_of fault };
+
+    fn from(fault: PullFault) -> Self {
+        match fault {
+            PullFault::Write => RunFault::WriteFault,
+            PullFault::Memory => RunFault::Memory,
+            PullFault::NeedsResync => RunFault::Memory,
         }
     }
 }

@@ -1,16 +1,16 @@
 //! Writes lines, and the messages from one view to another.
-ghost use Rattle.std.specs.Prelude.{◌≡◌, ◌≤◌, OnOk, IfOk, [], is_some};
+ghost use Rattle.std.specs.Prelude.{◌≡◌, OnOk, IfOk, is_some};
 ghost use Rattle.std.specs.List.{concat};
 ghost use Rattle.fx_model.specs.Messages.{next_message, step};
-ghost use Rattle.felix_replay.specs.Output.{messages_text, message_count, first_text};
 ghost use Rattle.fx_graph.specs.Graphs.{sides_of};
-ghost use Rattle.felix_replay.specs.Driven.{IsDriven, KeepsResources};
-ghost use Rattle.felix_replay.specs.Writing.{Writes};
+ghost use Rattle.felix_replay.specs.Output.{messages_text, message_count, first_text};
+ghost use Rattle.felix_replay.specs.Standing.{IsReady};
+ghost use Rattle.felix_replay.specs.Writing.{Writes, HasWritten, HasTorn};
 
 use crate::run_fault::RunFault;
-use fx_base::{Counter, Sink, Text};
-use fx_driver::Driver;
-use fx_graph::Graph;
+use fx_agent::{Agent, MessageOut, OutFault, Pulled};
+use fx_base::{Sink, Text};
+use fx_model::Message;
 use fx_names::{DigestFunction, DigestRule};
 use fx_print::message_text;
 use std::alloc::Global;
@@ -33,52 +33,92 @@ pub fn put_all<K: Sink>(lines: &[Text], sink: &mut K) -> Result<(), RunFault>
     Ok(())
 }
 
-// Sends the next message: the tables take it, then it is written. Tells whether there was one.
-fn send_next<K: Sink, R: DigestRule, F: DigestFunction<R> + Drop>(
+/// Writes the line of each message to a sink.
+#[derive(Drop)]
+struct LineOut<'a, K: Sink> {
     alloc: Global,
-    graph: &mut Graph<R, F>,
-    driver: &mut Driver,
-    sink: &mut K,
-) -> Result<bool, RunFault>
-    requires { IsDriven (sides_of graph.old.state) driver.old }
-    ensures driven { OnOk result (IsDriven (sides_of graph.new.state) driver.new) }
-    ensures found { IfOk result (λ found. found
-        ≡ is_some (next_message (sides_of graph.old.state).sent (sides_of graph.old.state).now)) }
-    ensures step { OnOk result (sides_of graph.new.state ≡ record (sides_of graph.old.state)
-        { sent = step (sides_of graph.old.state).sent (sides_of graph.old.state).now }) }
-    ensures resources { KeepsResources R.digest_of graph.old.state graph.new.state }
-    ensures writes { Writes (K.state sink.old) (K.state sink.new)
-        (first_text (next_message (sides_of graph.old.state).sent (sides_of graph.old.state).now)) result }
-{
-    let Some(message) = graph.peek() else {
-        return Ok(false);
-    };
-    let line = message_text(alloc, &message)?;
-    driver.apply(&message, &mut Counter::new())?;
-    graph.sent()?;
-    put_one(&line, sink)?;
-    Ok(true)
+    sink: &'a mut K,
 }
 
-/// Sends all messages that lead to the wanted view, and tells how many they were.
+impl<'a, K: Sink> MessageOut for LineOut<'a, K> {
+    ghost use Rattle.fx_model.specs.MessageTexts.{message_line};
+
+    ghost faults = { λ o. (K.state o.sink.now).faults };
+
+    ghost handed = { λ before c after. HasWritten (K.state before.sink.now) (K.state after.sink.now) (message_line c)
+        × (after.sink.ghost_name ≡ before.sink.ghost_name) };
+
+    ghost torn = { λ before c after. HasTorn (K.state before.sink.now) (K.state after.sink.now) (message_line c)
+        × (after.sink.ghost_name ≡ before.sink.ghost_name) };
+
+    fn message(&mut self, message: &Message<'_>) -> Result<(), OutFault> {
+        let line = message_text(self.alloc, message)?;
+        if self.sink.put(line.bytes()).is_err() {
+            return Err(OutFault::Write);
+        }
+        Ok(())
+    }
+}
+
+// Pulls one message, and tells whether there was one. The out keeps its sink.
+fn pull_one<K: Sink, R: DigestRule, F: DigestFunction<R> + Drop>(
+    agent: &mut Agent<R, F>,
+    out: &mut LineOut<'_, K>,
+) -> Result<bool, RunFault>
+    requires ready { IsReady R.digest_of agent.old.store agent.old.graph.state agent.old.driver agent.old.failed }
+    ensures same_sink { out.new.sink.ghost_name ≡ out.old.sink.ghost_name }
+    ensures ready { OnOk result (IsReady R.digest_of agent.new.store agent.new.graph.state agent.new.driver agent.new.failed) }
+    ensures found { IfOk result (λ found. found
+        ≡ is_some (next_message (sides_of agent.old.graph.state).sent (sides_of agent.old.graph.state).now)) }
+    ensures step { OnOk result (sides_of agent.new.graph.state ≡ record (sides_of agent.old.graph.state)
+        { sent = step (sides_of agent.old.graph.state).sent (sides_of agent.old.graph.state).now }) }
+    ensures store { agent.new.store ≡ agent.old.store }
+    ensures writes { Writes (K.state out.old.sink.now) (K.state out.new.sink.now)
+        (first_text (next_message (sides_of agent.old.graph.state).sent (sides_of agent.old.graph.state).now)) result }
+{
+    match agent.pull(out)? {
+        Pulled::Sent => Ok(true),
+        Pulled::Nothing => Ok(false),
+    }
+}
+
+// Sends one message to the sink, and tells whether there was one.
+fn send_next<K: Sink, R: DigestRule, F: DigestFunction<R> + Drop>(
+    alloc: Global,
+    agent: &mut Agent<R, F>,
+    sink: &mut K,
+) -> Result<bool, RunFault>
+    requires ready { IsReady R.digest_of agent.old.store agent.old.graph.state agent.old.driver agent.old.failed }
+    ensures ready { OnOk result (IsReady R.digest_of agent.new.store agent.new.graph.state agent.new.driver agent.new.failed) }
+    ensures found { IfOk result (λ found. found
+        ≡ is_some (next_message (sides_of agent.old.graph.state).sent (sides_of agent.old.graph.state).now)) }
+    ensures step { OnOk result (sides_of agent.new.graph.state ≡ record (sides_of agent.old.graph.state)
+        { sent = step (sides_of agent.old.graph.state).sent (sides_of agent.old.graph.state).now }) }
+    ensures store { agent.new.store ≡ agent.old.store }
+    ensures writes { Writes (K.state sink.old) (K.state sink.new)
+        (first_text (next_message (sides_of agent.old.graph.state).sent (sides_of agent.old.graph.state).now)) result }
+{
+    pull_one(agent, &mut LineOut { alloc, sink })
+}
+
+/// Pulls until nothing is left, and tells how many messages there were.
 pub fn send<K: Sink, R: DigestRule, F: DigestFunction<R> + Drop>(
     alloc: Global,
-    graph: &mut Graph<R, F>,
-    driver: &mut Driver,
+    agent: &mut Agent<R, F>,
     sink: &mut K,
 ) -> Result<u64, RunFault>
-    requires { IsDriven (sides_of graph.old.state) driver.old }
-    ensures driven { OnOk result (IsDriven (sides_of graph.new.state) driver.new) }
+    requires ready { IsReady R.digest_of agent.old.store agent.old.graph.state agent.old.driver agent.old.failed }
+    ensures ready { OnOk result (IsReady R.digest_of agent.new.store agent.new.graph.state agent.new.driver agent.new.failed) }
     ensures count { IfOk result (λ count. count
-        ≡ message_count (sides_of graph.old.state).sent (sides_of graph.old.state).now) }
-    ensures reached { OnOk result (sides_of graph.new.state
-        ≡ record (sides_of graph.old.state) { sent = (sides_of graph.old.state).now }) }
-    ensures resources { KeepsResources R.digest_of graph.old.state graph.new.state }
+        ≡ message_count (sides_of agent.old.graph.state).sent (sides_of agent.old.graph.state).now) }
+    ensures reached { OnOk result (sides_of agent.new.graph.state
+        ≡ record (sides_of agent.old.graph.state) { sent = (sides_of agent.old.graph.state).now }) }
+    ensures store { agent.new.store ≡ agent.old.store }
     ensures writes { Writes (K.state sink.old) (K.state sink.new)
-        (messages_text (sides_of graph.old.state).sent (sides_of graph.old.state).now) result }
+        (messages_text (sides_of agent.old.graph.state).sent (sides_of agent.old.graph.state).now) result }
 {
     let mut count: u64 = 0;
-    while send_next(alloc, graph, driver, sink)? {
+    while send_next(alloc, agent, sink)? {
         count = count.saturating_add(1);
     }
     Ok(count)

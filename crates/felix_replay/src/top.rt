@@ -2,23 +2,24 @@
 ghost use Rattle.std.specs.Prelude.{List, ℕ, ◌≡◌, ◌⊎◌, ◌^◌, ◌<◌, ◌≤◌, IfOk, OnOk, OnErr, IsErrOf, IsSome, None, false, true};
 ghost use Rattle.std.specs.Io.KnownBytes.{Appends};
 ghost use Rattle.fx_base.specs.Streams.{AppendsPrefix};
-ghost use Rattle.felix_replay.specs.Words.{node_of, node_name};
+ghost use Rattle.felix_replay.specs.Words.{node_name, AsksReplay, AsksSoak};
+ghost use Rattle.fx_words.specs.Words.{asked_of};
 ghost use Rattle.fx_print.specs.Texts.{usage_line};
-ghost use Rattle.felix_replay.specs.Top.{Ran, Stopped, EndedEarly, HasRun, HasRunOrMemory, IsAsDefined, SourceFailed, SinkFailed};
+ghost use Rattle.felix_replay.specs.Top.{Ran, RanBy, RanFor, Stopped, StoppedBy, StoppedFor, EndedEarly, EndsSoak, HasRun, HasRunOrMemory, IsAsDefined, SourceFailed, SinkFailed};
 ghost use Rattle.std.specs.List.{AllByRecursion};
-ghost use Rattle.fx_lines.specs.Lines.{lines_of};
 ghost use Rattle.fx_lines.specs.Reading.{HasFailedRead, IsTooLong};
-ghost use Rattle.felix_replay.specs.Engine.{IsInOrder, state_of};
+ghost use Rattle.felix_replay.specs.Standing.{IsReady, state_of};
 ghost use Rattle.felix_replay.specs.Output.{start};
 ghost use Rattle.felix_replay.specs.Closing.{IsWhole, views_along};
 ghost use Rattle.felix_replay.specs.Policed.{KeepsPolicy, PathsAreRuns};
 
-use crate::engine::Engine;
+use crate::replay::Replay;
 use crate::run_fault::RunFault;
-use crate::words::node_word;
-use fx_base::{Sink, Source, Text};
+use crate::soaking::soak;
+use fx_base::{Memory, Sink, Source, Text};
 use fx_lines::LineReader;
 use fx_names::{DigestFunction, DigestRule, Namer};
+use fx_words::{Asked, read_words};
 use std::alloc::Global;
 
 #[derive(Clone, Copy, Debug, PartialEq, Eq)]
@@ -34,9 +35,11 @@ pub enum Status {
 
 /// Reads the source to its end, and writes what the lines say to the sink.
 ///
-/// The words are those after the program's name: `--node` and a name of 1 to 253 bytes of `[A-Za-z0-9_.]` and, behind the
-/// first, `-`. A line is a JSON object with one member; each output line is written with its newline by one put. Names in the
-/// kernel that are too long are made by the namer's digest rule.
+/// The words are those after the program's name, by the grammar that `read_words` tells. Where they ask for a soak run, its lines
+/// stand in the place of the source, which isn't read, and one line that sums up is all that is written.
+///
+/// A line is a JSON object with one member; each output line is written with its newline by one put. Names in the kernel that are
+/// too long are made by the namer's digest rule.
 #[tactic(auto, using(fx_base::proofs::AtKey::reads, crate::proofs::ClosingLemmas::run_stays_whole, crate::proofs::Policing::keeps_policy, crate::proofs::Policing::paths_are_runs))]
 pub fn felix_replay<S: Source, K: Sink, R: DigestRule, F: DigestFunction<R> + Drop>(
     alloc: Global,
@@ -48,22 +51,22 @@ pub fn felix_replay<S: Source, K: Sink, R: DigestRule, F: DigestFunction<R> + Dr
     requires fresh { (S.state source.old).given ≡ 0 }
     requires unended { (S.state source.old).ended ≡ false }
 
-    // The input was read to its end, and the output is the definition's.
-    ensures named { HasRun result → IsSome (node_of words.now) }
+    // The input was read to its end, or each drawn line was answered, and the output is the definition's.
+    ensures named { HasRun result → IsSome (asked_of words.now) }
     ensures done { result ≡ Status.Done
-        → Ran R.digest_of (node_name words.now) (S.state source.old) (S.state source.new)
+        → RanFor R.digest_of (asked_of words.now) (S.state source.old) (S.state source.new)
         (K.state sink.old) (K.state sink.new) false }
     ensures refused { result ≡ Status.Refused
-        → Ran R.digest_of (node_name words.now) (S.state source.old) (S.state source.new)
+        → RanFor R.digest_of (asked_of words.now) (S.state source.old) (S.state source.new)
         (K.state sink.old) (K.state sink.new) true }
 
-    // The same where the source tells what is left and the sink what it holds.
-    ensures as_defined { HasRun result
+    // The same of an input, where the source tells what is left and the sink what it holds.
+    ensures as_defined { HasRun result → AsksReplay (asked_of words.now)
         → IsAsDefined R.digest_of (node_name words.now) (S.state source.old) (K.state sink.old) (K.state sink.new) result }
 
     // After each single message nothing that is named is missing, in the sent view and in its tables.
-    ensures closed { (input : List ℕ)
-        → AllByRecursion IsWhole (views_along (start R.digest_of (node_name words.now)) (lines_of input)) }
+    ensures closed { (lines : List (List ℕ))
+        → AllByRecursion IsWhole (views_along (start R.digest_of (node_name words.now)) lines) }
 
     // A packet's line tells the path, the reasons and the verdict of the machine's run over the tables of what was sent.
     ensures path { PathsAreRuns R.digest_of (node_name words.now) }
@@ -72,23 +75,28 @@ pub fn felix_replay<S: Source, K: Sink, R: DigestRule, F: DigestFunction<R> + Dr
     ensures policy { KeepsPolicy R.digest_of (node_name words.now) }
 
     // Without a fault it is never anything else but want of memory.
-    ensures complete { IsSome (node_of words.now)
+    ensures complete { IsSome (asked_of words.now)
         → ¬ SourceFailed (S.state source.old) (S.state source.new) → ¬ SinkFailed (K.state sink.old) (K.state sink.new)
         → (S.state source.new).given < 2 ^ 32 → HasRunOrMemory result }
 
     // Nor where the end was met, whatever a read behind it does.
-    ensures read_whole { IsSome (node_of words.now) → (S.state source.new).ended ≡ true
+    ensures read_whole { IsSome (asked_of words.now) → (S.state source.new).ended ≡ true
         → ¬ SinkFailed (K.state sink.old) (K.state sink.new) → HasRunOrMemory result }
 
+    // A soak run reads nothing.
+    ensures unread { AsksSoak (asked_of words.now) → S.state source.new ≡ S.state source.old }
+    ensures soak_ends { AsksSoak (asked_of words.now) → EndsSoak result }
+
     // The words aren't in the grammar.
-    ensures usage { result ≡ Status.Usage → node_of words.now ≡ None }
+    ensures usage { result ≡ Status.Usage → asked_of words.now ≡ None }
     ensures usage_written { result ≡ Status.Usage → Appends (K.state sink.old).held (K.state sink.new).held usage_line }
-    ensures only_usage { node_of words.now ≡ None → (result ≡ Status.Usage) ⊎ (result ≡ Status.WriteFault) }
+    ensures only_usage { asked_of words.now ≡ None
+        → (result ≡ Status.Usage) ⊎ ((result ≡ Status.WriteFault) ⊎ (result ≡ Status.Memory)) }
 
     // What a run that ended early has written is a prefix of the output.
-    ensures stopped { IsSome (node_of words.now) → EndedEarly result
-        → Stopped R.digest_of (node_name words.now) (S.state source.old) (S.state source.new) (K.state sink.old) (K.state sink.new) }
-    ensures usage_prefix { node_of words.now ≡ None
+    ensures stopped { IsSome (asked_of words.now) → EndedEarly result
+        → StoppedFor R.digest_of (asked_of words.now) (S.state source.old) (S.state source.new) (K.state sink.old) (K.state sink.new) }
+    ensures usage_prefix { asked_of words.now ≡ None
         → AppendsPrefix (K.state sink.old).held (K.state sink.new).held usage_line }
 
     // Each other end has its cause.
@@ -97,14 +105,16 @@ pub fn felix_replay<S: Source, K: Sink, R: DigestRule, F: DigestFunction<R> + Dr
     ensures too_long { result ≡ Status.InputTooLong → IsTooLong (S.state source.new) }
 
     // At the limit it is never anything else but want of memory, whatever failed before.
-    ensures limit { IsSome (node_of words.now) → IsTooLong (S.state source.new)
+    ensures limit { IsSome (asked_of words.now) → IsTooLong (S.state source.new)
         → (result ≡ Status.InputTooLong) ⊎ (result ≡ Status.Memory) }
     ensures limited { (S.state source.new).given ≤ 2 ^ 32 }
 {
-    let Some(node) = node_word(words) else {
-        return tell_usage(sink);
+    let asked = match read_words(alloc, words) {
+        Ok(Some(asked)) => asked,
+        Ok(None) => return tell_usage(sink),
+        Err(Memory) => return Status::Memory,
     };
-    match replay(alloc, node, source, sink, namer) {
+    match run(alloc, &asked, source, sink, namer) {
         Ok(false) => Status::Done,
         Ok(true) => Status::Refused,
         Err(RunFault::ReadFault) => Status::ReadFault,
@@ -126,7 +136,37 @@ fn tell_usage<K: Sink>(sink: &mut K) -> Status
     }
 }
 
-// The engine stands here and is lent to the loop, so that one place lets go of it.
+// Does what is asked for, and tells whether a line was refused.
+fn run<S: Source, K: Sink, R: DigestRule, F: DigestFunction<R> + Drop>(
+    alloc: Global,
+    asked: &Asked,
+    source: &mut S,
+    sink: &mut K,
+    namer: Namer<R, F>,
+) -> Result<bool, RunFault>
+    requires fresh { (S.state source.old).given ≡ 0 }
+    requires unended { (S.state source.old).ended ≡ false }
+    ensures ran { IfOk result (RanBy R.digest_of asked.now.node asked.now.soak (S.state source.old) (S.state source.new)
+        (K.state sink.old) (K.state sink.new)) }
+    ensures stopped { OnErr result (StoppedBy R.digest_of asked.now.node asked.now.soak (S.state source.old) (S.state source.new)
+        (K.state sink.old) (K.state sink.new)) }
+    ensures read_fault { IsErrOf result RunFault.ReadFault → HasFailedRead (S.state source.old) (S.state source.new) }
+    ensures write_fault { IsErrOf result RunFault.WriteFault → SinkFailed (K.state sink.old) (K.state sink.new) }
+    ensures write_short { IsErrOf result RunFault.WriteFault → (S.state source.new).given < 2 ^ 32 }
+    ensures too_long { IsErrOf result RunFault.InputTooLong → IsTooLong (S.state source.new) }
+    ensures short { OnOk result ((S.state source.new).given < 2 ^ 32) }
+    ensures limited { (S.state source.new).given ≤ 2 ^ 32 }
+    ensures unread { IsSome asked.now.soak → S.state source.new ≡ S.state source.old }
+    ensures no_read_fault { IsSome asked.now.soak → ¬ IsErrOf result RunFault.ReadFault }
+    ensures no_length { IsSome asked.now.soak → ¬ IsErrOf result RunFault.InputTooLong }
+{
+    match asked.soak {
+        None => replay(alloc, &asked.node, source, sink, namer),
+        Some(drawn) => soak(alloc, &asked.node, drawn, sink, namer),
+    }
+}
+
+// The replay stands here and is lent to the loop, so that one place lets go of it.
 fn replay<S: Source, K: Sink, R: DigestRule, F: DigestFunction<R> + Drop>(
     alloc: Global,
     node: &Text,
@@ -147,24 +187,25 @@ fn replay<S: Source, K: Sink, R: DigestRule, F: DigestFunction<R> + Drop>(
     ensures short { OnOk result ((S.state source.new).given < 2 ^ 32) }
     ensures limited { (S.state source.new).given ≤ 2 ^ 32 }
 {
-    let mut engine = Engine::new(alloc, node, namer)?;
-    answer_lines(alloc, &mut engine, source, sink)
+    let mut replay = Replay::new(alloc, node, namer)?;
+    answer_lines(alloc, &mut replay, source, sink)
 }
 
 // Answers each line, and tells whether one was refused.
 fn answer_lines<S: Source, K: Sink, R: DigestRule, F: DigestFunction<R> + Drop>(
     alloc: Global,
-    engine: &mut Engine<R, F>,
+    replay: &mut Replay<R, F>,
     source: &mut S,
     sink: &mut K,
 ) -> Result<bool, RunFault>
-    requires invariant { IsInOrder R.digest_of engine.old.store engine.old.graph.state engine.old.driver }
-    requires state { state_of R.digest_of engine.old.store engine.old.graph.state engine.old.lines engine.old.refused ≡ start R.digest_of engine.old.store.resources.node }
+    requires ready { IsReady R.digest_of replay.old.agent.store replay.old.agent.graph.state replay.old.agent.driver replay.old.agent.failed }
+    requires state { state_of R.digest_of replay.old.agent.store replay.old.agent.graph.state replay.old.lines replay.old.refused
+        ≡ start R.digest_of replay.old.agent.store.resources.node }
     requires fresh { (S.state source.old).given ≡ 0 }
     requires unended { (S.state source.old).ended ≡ false }
-    ensures ran { IfOk result (Ran R.digest_of engine.old.store.resources.node (S.state source.old) (S.state source.new)
+    ensures ran { IfOk result (Ran R.digest_of replay.old.agent.store.resources.node (S.state source.old) (S.state source.new)
         (K.state sink.old) (K.state sink.new)) }
-    ensures stopped { OnErr result (Stopped R.digest_of engine.old.store.resources.node (S.state source.old) (S.state source.new)
+    ensures stopped { OnErr result (Stopped R.digest_of replay.old.agent.store.resources.node (S.state source.old) (S.state source.new)
         (K.state sink.old) (K.state sink.new)) }
     ensures read_fault { IsErrOf result RunFault.ReadFault → HasFailedRead (S.state source.old) (S.state source.new) }
     ensures write_fault { IsErrOf result RunFault.WriteFault → SinkFailed (K.state sink.old) (K.state sink.new) }
@@ -175,7 +216,7 @@ fn answer_lines<S: Source, K: Sink, R: DigestRule, F: DigestFunction<R> + Drop>(
 {
     let mut reader = LineReader::new(alloc);
     while reader.advance(source)? {
-        engine.answer(reader.line(), sink)?;
+        replay.answer(reader.line(), sink)?;
     }
-    Ok(engine.refused)
+    Ok(replay.refused)
 }

@@ -22,4 +22,6 @@ mod run_tests;
 #[cfg(test)]
 mod set_rows;
 #[cfg(test)]
+mod soak_tests;
+#[cfg(test)]
 mod word_tests;

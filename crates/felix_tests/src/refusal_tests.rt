@@ -53,3 +53,28 @@ fn a_name_of_4_million_bytes_is_no_name(rt: HostRuntime) -> Result<(), Fail> {
     );
     Ok(())
 }
+
+// A line of so many spaces.
+fn spaces(alloc: Global, count: usize) -> Result<Vec<u8>, Fail> {
+    let mut line = Vec::new(alloc);
+    for _ in 0..count {
+        line.push(b' ')?;
+    }
+    line.push(b'\n')?;
+    Ok(line)
+}
+
+#[test]
+fn a_line_has_4_mebibytes_at_most(rt: HostRuntime) -> Result<(), Fail> {
+    let alloc = rt.alloc();
+    let mut input = spaces(alloc, 4_194_305)?;
+    input.extend_from_slice(spaces(alloc, 4_194_304)?.as_slice())?;
+    input.extend_from_slice(b"{\"flush\":{}}\n")?;
+    let (status, held) = replayed(alloc, input)?;
+    assert_eq!(rt; status, Status::Refused);
+    assert_eq!(rt;
+        held.as_slice(),
+        b"refused 1 20 LineTooLong\nflushed 0\n".as_slice()
+    );
+    Ok(())
+}

@@ -10,6 +10,7 @@ use fx_base::{KernelName, Text};
 #[derive(Debug, Drop)]
 pub enum Refusal {
     Read(ReadFault),
+    LineTooLong,
     BadJson,
     BadLine,
     /// The line asks for a name in the kernel that the holder has. No reading of a line gives it.
@@ -23,6 +24,7 @@ impl Refusal {
     {
         match self {
             Refusal::Read(fault) => fault.number(),
+            Refusal::LineTooLong => 20,
             Refusal::BadJson => 21,
             Refusal::BadLine => 22,
             Refusal::Taken { .. } => 30,
@@ -34,6 +36,7 @@ impl Refusal {
     {
         match self {
             Refusal::Read(fault) => fault.name(),
+            Refusal::LineTooLong => b"LineTooLong",
             Refusal::BadJson => b"BadJson",
             Refusal::BadLine => b"BadLine",
             Refusal::Taken { .. } => b"Taken",
@@ -46,7 +49,8 @@ impl Refusal {
     {
         match self {
             Refusal::Read(fault) => fault.is_memory(),
-            Refusal::BadJson | Refusal::BadLine | Refusal::Taken { .. } => false,
+            Refusal::LineTooLong | Refusal::BadJson | Refusal::BadLine | Refusal::Taken { .. } =>
+                false,
         }
     }
 }

@@ -1,3 +1,4 @@
 pub mod Cuts
 pub mod Asking
+pub mod Clips
 pub mod ReadForms

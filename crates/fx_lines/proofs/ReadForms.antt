@@ -1,6 +1,6 @@
 -- Each update that is read keeps its forms.
 use Rattle.std.proofs.Common.{◌≡◌, List, ℕ, Bool, true, false, Option, Some, None, Result, Ok, Err, IfOk, refl}
-use Rattle.std.specs.Prelude.{codes, if◌then◌else◌}
+use Rattle.std.specs.Prelude.{codes, nat_lt, length, if◌then◌else◌}
 use Rattle.std.specs.List.{list_all}
 use Rattle.serde_json.specs.Data.{Data}
 use Rattle.fx_model.specs.declared.packet.Packet.{Packet}
@@ -9,6 +9,7 @@ use Rattle.fx_model.specs.declared.resources.Update.TheVariants as update
 use Rattle.fx_model.specs.Formed.{is_formed, puts_workload_interface}
 use Rattle.fx_fields.specs.declared.fault.ReadFault.{ReadFault}
 use Rattle.fx_fields.specs.declared.refusal.Refusal.{Refusal}
+use Rattle.fx_fields.specs.declared.refusal.Refusal.TheVariants.{LineTooLong}
 use Rattle.fx_fields.specs.Fields.{field, is_object, has_members}
 use Rattle.fx_json.specs.Packets.{packet_of}
 use Rattle.fx_json.specs.Resources.{resource_of, delete_of}
@@ -16,7 +17,8 @@ use Rattle.fx_json.proofs.FormedResources.{resource_of-formed, delete_of-formed,
 use Rattle.fx_lines.specs.declared.commands.Command.{Command}
 use Rattle.fx_lines.specs.declared.commands.Command.TheVariants as command
 use Rattle.fx_lines.specs.Formed.{is_formed_command, puts_on_workloads, IsReadCommand}
-use Rattle.fx_lines.specs.Commands.{is_blank_byte, value_of, is_true, shaped, at_member, update_answer, packet_answer, by_name, of_value, command_of}
+use Rattle.fx_lines.specs.Lines.{line_limit}
+use Rattle.fx_lines.specs.Commands.{is_blank_byte, value_of, is_true, shaped, at_member, update_answer, packet_answer, by_name, of_value, short_command, command_of}
 
 shaped-if : (P : Command → Type 0) (b : Bool) (answer : Result Command Refusal) → IfOk answer P → IfOk (shaped b answer) P
 shaped-if P true answer holds = holds
@@ -50,12 +52,19 @@ module _ (Q : Update → Type 0) (put : (d : Data) → IfOk (resource_of d) Q) (
   of_value-if None = tt
   of_value-if (Some d) = shaped-if P (has_members 1 d) (by_name d) (by_name-if d)
 
-  command_of-if : (line : List ℕ) → IfOk (command_of line) P
-  unfolding command_of
-  command_of-if line =
+  short_command-if : (line : List ℕ) → IfOk (short_command line) P
+  short_command-if line =
       elim (list_all is_blank_byte line) as (λ b. IfOk (if b then Ok command.Blank else of_value (value_of line)) P) [
         | true ↦ of_blank
         | false ↦ of_value-if (value_of line)
+      ]
+
+  command_of-if : (line : List ℕ) → IfOk (command_of line) P
+  unfolding command_of
+  command_of-if line =
+      elim (nat_lt line_limit (length line)) as (λ b. IfOk (if b then Err LineTooLong else short_command line) P) [
+        | true ↦ tt
+        | false ↦ short_command-if line
       ]
 
 abbrev FormedCommand : Command → Type 0

@@ -1,5 +1,5 @@
 -- What a line says: a JSON text (RFC 8259) in UTF-8, as `serde_json` reads it, that is an object with exactly one member.
-use Rattle.std.specs.Prelude.{ℕ, List, Bool, false, ◌||◌, ◌==◌, if◌then◌else◌, Option, Some, None, Result, Ok, Err, codes}
+use Rattle.std.specs.Prelude.{ℕ, List, Bool, false, ◌||◌, ◌==◌, nat_lt, length, if◌then◌else◌, Option, Some, None, Result, Ok, Err, codes}
 use Rattle.std.specs.List.{list_all}
 use Rattle.std.specs.Str.{is_utf8}
 use Rattle.serde_json.specs.Data.{Data}
@@ -12,10 +12,11 @@ use Rattle.fx_lines.specs.declared.commands.Command.{Command}
 use Rattle.fx_lines.specs.declared.commands.Command.TheVariants as command
 use Rattle.fx_fields.specs.declared.fault.ReadFault.{ReadFault}
 use Rattle.fx_fields.specs.declared.refusal.Refusal.{Refusal}
-use Rattle.fx_fields.specs.declared.refusal.Refusal.TheVariants.{Read, BadJson, BadLine}
+use Rattle.fx_fields.specs.declared.refusal.Refusal.TheVariants.{Read, LineTooLong, BadJson, BadLine}
 use Rattle.fx_fields.specs.Fields.{field, is_object, has_members}
 use Rattle.fx_json.specs.Packets.{packet_of}
 use Rattle.fx_json.specs.Resources.{resource_of, delete_of}
+use Rattle.fx_lines.specs.Lines.{line_limit}
 
 -- spaces, tabs and carriage returns
 abbrev pub is_blank_byte : ℕ → Bool
@@ -65,6 +66,10 @@ abbrev pub of_value : Option Data → Result Command Refusal
 of_value None = Err BadJson
 of_value (Some d) = shaped (has_members 1 d) (by_name d)
 
+-- the command of a line that isn't too long, or its refusal
+abbrev pub short_command : List ℕ → Result Command Refusal
+short_command line = if list_all is_blank_byte line then Ok command.Blank else of_value (value_of line)
+
 -- the command of a line, or its refusal
 unfoldable pub command_of : List ℕ → Result Command Refusal
-command_of line = if list_all is_blank_byte line then Ok command.Blank else of_value (value_of line)
+command_of line = if nat_lt line_limit (length line) then Err LineTooLong else short_command line

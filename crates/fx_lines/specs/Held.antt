@@ -6,6 +6,6 @@ use Rattle.fx_lines.specs.declared.lines.LineReader.{LineReader}
 abbrev pub rest_of : LineReader → List ℕ
 rest_of r = drop r.start r.held.items
 
--- the line that was given last
+-- what is kept of the line that was given last
 abbrev pub line_of : LineReader → List ℕ
 line_of r = slice_range r.held.items r.line r.end

@@ -1,6 +1,14 @@
 -- The lines of some bytes: each ends with a newline, or at the end of the bytes. An empty last piece is no line.
-use Rattle.std.specs.Prelude.{◌≢◌, ℕ, List, [], ◌∷◌, ◌==◌, if◌then◌else◌, Bool, true, false}
+use Rattle.std.specs.Prelude.{◌≢◌, ℕ, List, [], ◌∷◌, ◌==◌, ◌+◌, ◌^◌, take, if◌then◌else◌, Bool, true, false}
 use Rattle.std.specs.List.{list_any}
+
+-- how many bytes a line may have
+unfoldable pub line_limit : ℕ
+line_limit = 2 ^ 22
+
+-- what is kept of a line: one byte more than it may have tells that it is too long
+abbrev pub clip : List ℕ → List ℕ
+clip line = take (line_limit + 1) line
 
 -- a byte onto the first line
 abbrev pub onto_first : ℕ → List (List ℕ) → List (List ℕ)

@@ -9,6 +9,7 @@ ghost use Rattle.fx_json.specs.Resources.{resource_of, delete_of};
 ghost use Rattle.fx_lines.specs.Commands.{is_blank_byte, is_true, by_name, command_of, shaped, of_value, update_answer, packet_answer};
 ghost use Rattle.fx_lines.specs.Formed.{IsReadCommand};
 
+use crate::lines::is_too_long;
 use fx_fields::{ReadFault, Refusal, field, has_members};
 use fx_json::{read_delete, read_packet, read_resource};
 use fx_model::{Packet, Update};
@@ -30,6 +31,9 @@ pub fn read_command(alloc: Global, line: &[u8]) -> Result<Command, Refusal>
     ensures answer { Refuses (command_of line.now) result }
     ensures read { IfOk result IsReadCommand }
 {
+    if is_too_long(line) {
+        return Err(Refusal::LineTooLong);
+    }
     if is_blank(line) {
         return Ok(Command::Blank);
     }

@@ -3,7 +3,7 @@
 use Rattle.std.specs.Prelude.{ℕ, List, [], ◌++◌, Option, Some, None, codes, decimal}
 use Rattle.fx_base.specs.KernelName.{kernel_bytes}
 use Rattle.fx_fields.specs.declared.refusal.Refusal.{Refusal}
-use Rattle.fx_fields.specs.declared.refusal.Refusal.TheVariants.{Read, BadJson, BadLine, Taken}
+use Rattle.fx_fields.specs.declared.refusal.Refusal.TheVariants.{Read, LineTooLong, BadJson, BadLine, Taken}
 use Rattle.fx_fields.specs.declared.fault.ReadFault.{ReadFault}
 use Rattle.fx_fields.specs.Faults.{path_of, place_of}
 use Rattle.fx_fields.specs.Refusals.{refusal_number, refusal_name}
@@ -24,6 +24,7 @@ fault_text fault = path_text (path_of fault) ++ place_text (place_of fault)
 -- what follows the name: a path and a place behind it, or the name in the kernel that is taken and its holder
 abbrev pub detail_of : Refusal → List ℕ
 detail_of (Read fault) = fault_text fault
+detail_of LineTooLong = []
 detail_of BadJson = []
 detail_of BadLine = []
 detail_of (Taken name holder) = codes " " ++ (kernel_bytes name ++ (codes " " ++ holder))
@@ -36,6 +37,15 @@ refusal_line line r =
 -- the end of a flush that told so many messages
 abbrev pub flushed_line : ℕ → List ℕ
 flushed_line n = codes "flushed " ++ (decimal n ++ codes "\n")
+
+-- a word and a number
+abbrev pub numbered : List ℕ → ℕ → List ℕ
+numbered word n = word ++ decimal n
+
+-- the end of a soak run: its seed and how many lines were drawn, and how many flushes, messages and ticks there were
+abbrev pub soak_line : ℕ → ℕ → ℕ → ℕ → ℕ → List ℕ
+soak_line seed count flushes messages ticks =
+    numbered (codes "soak ") seed ++ (numbered (codes " ") count ++ (numbered (codes " flushes ") flushes ++ (numbered (codes " messages ") messages ++ (numbered (codes " ticks ") ticks ++ codes "\n"))))
 
 -- what is told where the program's words are not in their grammar
 abbrev pub usage_line : List ℕ

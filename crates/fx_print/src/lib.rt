@@ -4,7 +4,7 @@
 pub use messages::message_text;
 pub use packets::packet_texts;
 pub use tables::tables_text;
-pub use texts::{flushed_text, refusal_text};
+pub use texts::{flushed_text, refusal_text, soak_text};
 
 mod matches;
 mod members;

@@ -1,7 +1,7 @@
 //! Numbers and plain answers as text.
 ghost use Rattle.std.specs.Prelude.{◌≡◌, ◌++◌, ◌∷◌, OnOk, IfOk, decimal};
 ghost use Rattle.fx_fields.specs.Faults.{path_of};
-ghost use Rattle.fx_print.specs.Texts.{path_text, place_text, fault_text, detail_of, refusal_line, flushed_line};
+ghost use Rattle.fx_print.specs.Texts.{path_text, place_text, fault_text, detail_of, refusal_line, flushed_line, numbered, soak_line};
 
 use fx_base::{Memory, Text};
 use fx_fields::{ReadFault, Refusal};
@@ -36,7 +36,7 @@ fn push_detail(line: &mut Vec<u8>, refusal: &Refusal) -> Result<(), Memory>
 {
     match refusal {
         Refusal::Read(fault) => push_fault(line, fault),
-        Refusal::BadJson | Refusal::BadLine => Ok(()),
+        Refusal::LineTooLong | Refusal::BadJson | Refusal::BadLine => Ok(()),
         Refusal::Taken { name, holder } => {
             push_word(line, name.bytes())?;
             push_word(line, holder.bytes())
@@ -99,4 +99,32 @@ pub fn flushed_text(alloc: Global, count: u64) -> Result<Text, Memory>
     push_decimal(&mut bytes, count)?;
     bytes.extend_from_slice(b"\n")?;
     Ok(Text::from_vec(bytes))
+}
+
+/// The line at a soak run's end.
+pub fn soak_text(
+    alloc: Global,
+    seed: u64,
+    count: u64,
+    flushes: u64,
+    messages: u64,
+    ticks: u64,
+) -> Result<Text, Memory>
+    ensures { IfOk result (λ text. text ≡ soak_line seed count flushes messages ticks) }
+{
+    let mut bytes = Vec::new(alloc);
+    push_numbered(&mut bytes, b"soak ", seed)?;
+    push_numbered(&mut bytes, b" ", count)?;
+    push_numbered(&mut bytes, b" flushes ", flushes)?;
+    push_numbered(&mut bytes, b" messages ", messages)?;
+    push_numbered(&mut bytes, b" ticks ", ticks)?;
+    bytes.extend_from_slice(b"\n")?;
+    Ok(Text::from_vec(bytes))
+}
+
+fn push_numbered(line: &mut Vec<u8>, word: &[u8], number: u64) -> Result<(), Memory>
+    ensures { OnOk result (line.new.items ≡ line.old.items ++ numbered word.now number) }
+{
+    line.extend_from_slice(word)?;
+    push_decimal(line, number)
 }

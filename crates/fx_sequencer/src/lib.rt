@@ -4,7 +4,9 @@
 pub use sequencer::Sequencer;
 pub use sides::Sides;
 
+mod at_place;
 mod held_sets;
+mod pending;
 mod sequencer;
 mod sides;
 #[cfg(test)]

@@ -4,7 +4,8 @@
 //!   `SetSink`. These calls change the view that is wanted now, and no other.
 //! - **Gives** the next message from the view that was sent towards that one, by `next_message`. `sent` marks it as sent. So of
 //!   what comes and goes between two messages only the difference is told.
-//! - **Holds** both views whole.
+//! - **Holds** both views whole, and once a message was sent the places that still differ, so that the messages after it need no
+//!   walk of the views. A change of the wanted view forgets them.
 ghost use Rattle.std.specs.Prelude.{◌≡◌, ◌↔◌, IsOk, OnOk, OnErr, IsSome, IsNone, Some, true, false, option_map};
 ghost use Rattle.std.specs.FinMap as map;
 ghost use Rattle.fx_base.specs.Set as set;
@@ -13,14 +14,16 @@ ghost use Rattle.fx_model.specs.Messages.{members_of, next_message, step};
 ghost use Rattle.fx_model.specs.Views.{empty_view};
 ghost use Rattle.fx_sequencer.specs.Sides.{SameSentAndSets};
 
+use crate::at_place::{first_message, listed, take_first};
 use crate::held_sets::{put_member, remove_member};
 use crate::sides::Sides;
 use fx_base::{Memory, NameKey, SetName, Text};
 use fx_model::{
-    Member, MemberSet, Message, SetSink, View, ViewEndpoint, ViewPolicy, ViewProfile, ViewSink,
-    next_message, place_of, take_at,
+    Member, MemberSet, Message, Place, SetSink, View, ViewEndpoint, ViewPolicy, ViewProfile,
+    ViewSink, next_message,
 };
 use std::alloc::Global;
+use std::collections::VecDeque;
 use std::marker::Model;
 
 /// The sent view and the one that is wanted now. Want of memory leaves both as they were.
@@ -28,6 +31,8 @@ use std::marker::Model;
 pub struct Sequencer {
     alloc: Global,
     sides: Sides,
+    /// The places that are not as they are wanted, in the order of their messages, if they were listed since the last change.
+    ahead: Option<VecDeque<Place>>,
 }
 
 impl Model for Sequencer {
@@ -39,6 +44,12 @@ impl Model for Sequencer {
     ghost coded = { both.the_row.coded };
 
     ghost view = { λ a. a.sides };
+
+    ghost use Rattle.std.specs.Prelude.{◌≡◌};
+    ghost use Rattle.std.specs.Option.{ForSome};
+    ghost use Rattle.fx_sequencer.specs.Pending.{pending_places};
+
+    ghost invariant = { λ a. ForSome a.ahead (λ places. places.items ≡ pending_places a.sides.sent a.sides.now) };
 }
 
 impl Sequencer {
@@ -48,6 +59,7 @@ impl Sequencer {
         Sequencer {
             alloc,
             sides: Sides::new(alloc),
+            ahead: None,
         }
     }
 
@@ -57,7 +69,10 @@ impl Sequencer {
         ensures message { option_map change_of result ≡ next_message self.now.sent self.now.now }
         ensures none { IsNone result ↔ (self.now.sent ≡ self.now.now) }
     {
-        next_message(&self.sides.sent, &self.sides.now)
+        match &self.ahead {
+            Some(places) => first_message(places, &self.sides.sent, &self.sides.now),
+            None => next_message(&self.sides.sent, &self.sides.now),
+        }
     }
 
     /// Marks the next message as sent.
@@ -66,18 +81,10 @@ impl Sequencer {
         ensures ok { OnOk result (self.new ≡ record self.old { sent = step self.old.sent self.old.now }) }
         ensures err { OnErr result (self.new ≡ self.old) }
     {
-        if let Some(message) = next_message(&self.sides.sent, &self.sides.now) {
-            let place = place_of(&message)?;
-            take_at(&mut self.sides.sent, &self.sides.now, place)?;
-        }
+        let ahead = self.ahead.take();
+        let places = listed(self.alloc, ahead, &self.sides.sent, &self.sides.now)?;
+        self.ahead = Some(take_first(&mut self.sides, places)?);
         Ok(())
-    }
-
-    /// Puts a whole view in the place of the one that is wanted now. Of the two only what differs is told.
-    pub fn want(&mut self, view: View)
-        ensures { self.new ≡ record self.old { now = view } }
-    {
-        self.sides.now = view;
     }
 
     /// The view that the messages so far have made.
@@ -110,6 +117,7 @@ impl ViewSink for Sequencer {
         }) }
         ensures err { OnErr result (self.new ≡ self.old) }
     {
+        self.ahead = None;
         self.sides.now.policies.insert(&key, policy)?;
         Ok(())
     }
@@ -121,6 +129,7 @@ impl ViewSink for Sequencer {
           now = record self.old.now { policies = map.remove self.old.now.policies key };
         } }
     {
+        self.ahead = None;
         self.sides.now.policies.remove(&key);
         Ok(())
     }
@@ -131,6 +140,7 @@ impl ViewSink for Sequencer {
         }) }
         ensures err { OnErr result (self.new ≡ self.old) }
     {
+        self.ahead = None;
         self.sides.now.profiles.insert(&key, profile)?;
         Ok(())
     }
@@ -142,6 +152,7 @@ impl ViewSink for Sequencer {
           now = record self.old.now { profiles = map.remove self.old.now.profiles key };
         } }
     {
+        self.ahead = None;
         self.sides.now.profiles.remove(&key);
         Ok(())
     }
@@ -152,6 +163,7 @@ impl ViewSink for Sequencer {
         }) }
         ensures err { OnErr result (self.new ≡ self.old) }
     {
+        self.ahead = None;
         self.sides.now.endpoints.insert(iface.clone()?, endpoint)?;
         Ok(())
     }
@@ -163,6 +175,7 @@ impl ViewSink for Sequencer {
           now = record self.old.now { endpoints = map.remove self.old.now.endpoints iface.now };
         } }
     {
+        self.ahead = None;
         self.sides.now.endpoints.remove(iface);
         Ok(())
     }
@@ -178,6 +191,7 @@ impl SetSink for Sequencer {
         }) }
         ensures err { OnErr result (self.new ≡ self.old) }
     {
+        self.ahead = None;
         let members = MemberSet::new(self.alloc);
         self.sides.now.sets.insert(&name, members)?;
         Ok(())
@@ -190,6 +204,7 @@ impl SetSink for Sequencer {
           now = record self.old.now { sets = map.remove self.old.now.sets name };
         } }
     {
+        self.ahead = None;
         self.sides.now.sets.remove(&name);
         Ok(())
     }
@@ -204,6 +219,7 @@ impl SetSink for Sequencer {
         }) }
         ensures err { OnErr result (self.new ≡ self.old) }
     {
+        self.ahead = None;
         put_member(self.alloc, &mut self.sides.now.sets, &name, member)?;
         Ok(())
     }
@@ -218,6 +234,7 @@ impl SetSink for Sequencer {
           };
         } }
     {
+        self.ahead = None;
         remove_member(self.alloc, &mut self.sides.now.sets, &name, member);
         Ok(())
     }

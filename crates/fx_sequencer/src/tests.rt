@@ -8,7 +8,7 @@ use crate::Sequencer;
 use fx_base::{Ipv4, Memory, NameKey, Net, Seq, SetKind, SetName, Text, same};
 use fx_model::{
     Action, Member, MemberSet, Message, PolicyId, SetSink, ViewEndpoint, ViewPolicy, ViewProfile,
-    ViewRule, ViewSide, ViewSink,
+    ViewRule, ViewSide, ViewSink, next_message,
 };
 use std::alloc::Global;
 use std::process::Abort;
@@ -85,6 +85,21 @@ fn kind(message: &Message<'_>) -> &'static str {
     }
 }
 
+/// What it names.
+fn named<'a>(message: &Message<'a>) -> &'a [u8] {
+    match message {
+        Message::SetAdd { name, .. } => name.bytes(),
+        Message::SetDelta { name, .. } => name.bytes(),
+        Message::SetGone { name } => name.bytes(),
+        Message::PolicyPut { key, .. } => key.bytes(),
+        Message::PolicyGone { key } => key.bytes(),
+        Message::ProfilePut { key, .. } => key.bytes(),
+        Message::ProfileGone { key } => key.bytes(),
+        Message::EndpointPut { iface, .. } => iface.bytes(),
+        Message::EndpointGone { iface } => iface.bytes(),
+    }
+}
+
 /// What comes if it isn't there, and goes if it is.
 #[derive(Clone, Copy)]
 enum Step {
@@ -119,6 +134,15 @@ impl Bench {
             profile: NameKey::new(b"kns.shop"),
             iface: Text::new(alloc, b"cali1")?,
         })
+    }
+
+    /// What comes and goes from now on has names with this letter.
+    fn pick(&mut self, letter: u8) -> Result<(), Memory> {
+        self.set = SetName::new(SetKind::Nets, [letter; 23]);
+        self.policy = NameKey::new(&[letter; 5]);
+        self.profile = NameKey::new(&[letter; 7]);
+        self.iface = Text::new(self.alloc, &[letter; 4])?;
+        Ok(())
     }
 
     fn turn_set(&mut self) -> Result<(), Memory> {
@@ -174,6 +198,23 @@ impl Bench {
             Step::Profile => self.turn_profile(),
             Step::Endpoint => self.turn_endpoint(),
         }
+    }
+
+    /// Whether the next message tells of what the two views alone say. It is sent.
+    fn sends_the_next(&mut self) -> Result<bool, Memory> {
+        let sequencer = &self.sequencer;
+        let by_views = next_message(sequencer.sent_view(), sequencer.now());
+        let agrees = match (sequencer.peek(), by_views) {
+            (Some(message), Some(other)) => {
+                kind(&message) == kind(&other) && named(&message) == named(&other)
+            }
+            (None, None) => true,
+            _ => false,
+        };
+        if sequencer.peek().is_some() {
+            self.sequencer.sent()?;
+        }
+        Ok(agrees)
     }
 
     /// Sends the next message, and tells of what it is.
@@ -234,5 +275,77 @@ fn of_a_member_that_comes_back_nothing_is_told(rt: HostRuntime) -> Result<(), Fa
     run(&rt, &mut bench, &[Step::Set], &["a set"])?;
     run(&rt, &mut bench, &[Step::Member], &["members"])?;
     run(&rt, &mut bench, &[Step::Member, Step::Member], &[])?;
+    Ok(())
+}
+
+/// What happens to a bench, each of these once.
+#[derive(Clone, Copy)]
+enum Event {
+    Pick(u8),
+    Turn(Step),
+    /// So many messages.
+    Send(u8),
+}
+
+/// Many places differ at once, and the wanted view changes before all of them were told.
+const CHANGING: [Event; 31] = [
+    Event::Pick(b'b'),
+    Event::Turn(Step::Set),
+    Event::Turn(Step::Policy),
+    Event::Turn(Step::Endpoint),
+    Event::Pick(b'd'),
+    Event::Turn(Step::Set),
+    Event::Turn(Step::Profile),
+    Event::Turn(Step::Policy),
+    Event::Send(2),
+    // A set is told before what is left.
+    Event::Pick(b'a'),
+    Event::Turn(Step::Set),
+    Event::Send(2),
+    Event::Pick(b'c'),
+    Event::Turn(Step::Policy),
+    Event::Pick(b'b'),
+    Event::Turn(Step::Member),
+    Event::Send(3),
+    // One goes that was told, and one that was not.
+    Event::Turn(Step::Policy),
+    Event::Pick(b'd'),
+    Event::Turn(Step::Profile),
+    Event::Send(5),
+    Event::Pick(b'a'),
+    Event::Turn(Step::Set),
+    Event::Turn(Step::Endpoint),
+    Event::Turn(Step::Profile),
+    Event::Send(1),
+    Event::Pick(b'b'),
+    Event::Turn(Step::Member),
+    Event::Turn(Step::Set),
+    Event::Turn(Step::Endpoint),
+    Event::Send(6),
+];
+
+/// Whether the messages are those of the two views.
+fn happens(bench: &mut Bench, event: Event) -> Result<bool, Memory> {
+    match event {
+        Event::Pick(letter) => bench.pick(letter)?,
+        Event::Turn(step) => bench.turn(step)?,
+        Event::Send(count) => {
+            for _ in 0..count {
+                if !bench.sends_the_next()? {
+                    return Ok(false);
+                }
+            }
+        }
+    }
+    Ok(true)
+}
+
+#[test]
+fn each_message_is_the_next_of_the_two_views(rt: HostRuntime) -> Result<(), Fail> {
+    let mut bench = Bench::new(rt.alloc())?;
+    for event in CHANGING {
+        assert!(rt; happens(&mut bench, event)?);
+    }
+    assert!(rt; bench.sequencer.peek().is_none());
     Ok(())
 }

@@ -9,7 +9,7 @@ use fx_model::{
     Reason, State, Tag, Target, Verdict, ViewEndpoint, ViewPolicy, ViewProfile, ViewRule, ViewSide,
     ViewTier,
 };
-use fx_print::{flushed_text, message_text, packet_texts, refusal_text, tables_text};
+use fx_print::{flushed_text, message_text, packet_texts, refusal_text, soak_text, tables_text};
 use fx_walk::Hop;
 use std::alloc::Global;
 use std::process::Abort;
@@ -53,6 +53,12 @@ fn message_reads(
 #[test]
 fn refusals(rt: HostRuntime) -> Result<(), Fail> {
     let alloc = rt.alloc();
+    refuses(
+        &rt,
+        alloc,
+        Refusal::LineTooLong,
+        b"refused 10 20 LineTooLong\n",
+    )?;
     refuses(&rt, alloc, Refusal::BadJson, b"refused 10 21 BadJson\n")?;
     refuses(&rt, alloc, Refusal::BadLine, b"refused 10 22 BadLine\n")?;
     refuses(
@@ -104,6 +110,17 @@ fn refusals(rt: HostRuntime) -> Result<(), Fail> {
 fn flushes(rt: HostRuntime) -> Result<(), Fail> {
     let alloc = rt.alloc();
     reads(&rt, &flushed_text(alloc, 120)?, b"flushed 120\n");
+    Ok(())
+}
+
+#[test]
+fn soak_runs(rt: HostRuntime) -> Result<(), Fail> {
+    let alloc = rt.alloc();
+    reads(
+        &rt,
+        &soak_text(alloc, 7, 20, 1, 30, u64::MAX)?,
+        b"soak 7 20 flushes 1 messages 30 ticks 18446744073709551615\n",
+    );
     Ok(())
 }
 

@@ -1,4 +1,6 @@
 use super::*;
+use crate::lines::LineReader;
+use fx_base::SureSource;
 use fx_model::{Item, ItemKey, Key};
 use std::test::Fail;
 
@@ -10,6 +12,7 @@ fn answered(answer: &Result<Command, Refusal>) -> &'static str {
         Ok(Command::Flush) => "flush",
         Ok(Command::Packet(_)) => "a packet",
         Ok(Command::Update(update)) => answered_update(update),
+        Err(Refusal::LineTooLong) => "line too long",
         Err(Refusal::BadJson) => "bad json",
         Err(Refusal::BadLine) => "bad line",
         Err(Refusal::Taken { .. }) => "taken",
@@ -129,10 +132,40 @@ fn profile_line(alloc: Global, name: &[u8]) -> Result<Vec<u8>, Fail> {
 #[test]
 fn a_name_of_4_megabytes_is_refused(rt: HostRuntime) -> Result<(), Fail> {
     let alloc = rt.alloc();
-    let name = vec![in alloc; b'a'; 4_194_304]?;
+    let name = vec![in alloc; b'a'; 4_000_000]?;
     let line = profile_line(alloc, &name)?;
     let answer = read_command(alloc, &line);
     assert_eq!(rt; answered(&answer), "bad field");
+    Ok(())
+}
+
+// What each line of an input is answered.
+fn answers(alloc: Global, input: Vec<u8>) -> Result<Vec<&'static str>, Fail> {
+    let mut source = SureSource::new(input, 8192);
+    let mut reader = LineReader::new(alloc);
+    let mut found = Vec::new(alloc);
+    for _ in 0..10 {
+        let Ok(true) = reader.advance(&mut source) else {
+            break;
+        };
+        found.push(answered(&read_command(alloc, reader.line())))?;
+    }
+    Ok(found)
+}
+
+#[test]
+fn a_line_that_is_too_long_is_refused_and_the_next_is_read(rt: HostRuntime) -> Result<(), Fail> {
+    let alloc = rt.alloc();
+    let mut input = vec![in alloc; b' '; 4_194_304]?;
+    input.push(b'\n')?;
+    let more = vec![in alloc; b' '; 4_194_305]?;
+    input.extend_from_slice(&more)?;
+    input.extend_from_slice(b"\n{\"flush\":{}}")?;
+    let found = answers(alloc, input)?;
+    assert_eq!(rt;
+        found.as_slice(),
+        ["blank", "line too long", "flush"].as_slice()
+    );
     Ok(())
 }
 

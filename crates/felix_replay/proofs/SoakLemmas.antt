@@ -1,0 +1,95 @@
+-- A soak run, line by line.
+use Rattle.std.proofs.Common.{◌≡◌, ◌+◌, ◌-◌, ◌^◌, ℕ, suc, min, List, [], ◌∷◌, ◌++◌, None, Result, Ok, Err, length, refl, sym, ◌∙◌, ap, arith}
+use Rattle.fx_fields.specs.declared.refusal.Refusal.{Refusal}
+use Rattle.fx_gen.specs.Generator.{line_of}
+use Rattle.fx_lines.specs.declared.commands.Command.{Command}
+use Rattle.fx_lines.specs.declared.commands.Command.TheVariants as command
+use Rattle.fx_model.specs.Messages.{flush}
+use Rattle.fx_model.specs.Views.{view_of}
+use Rattle.fx_names.specs.Digests.{Digest}
+use Rattle.felix_replay.specs.declared.tally.Tally.{Tally}
+use Rattle.felix_replay.specs.Output.{State, start, next, answer_of, message_count}
+use Rattle.felix_replay.specs.Run.{state_after}
+use Rattle.felix_replay.specs.Soak.{drawn_lines, messages_of, flushes_in, messages_in, flushes_along, messages_along, told_number, tally_of, tally_along, tally_after, one_flush_more}
+use Rattle.fx_lines.specs.Commands.{command_of}
+use Rattle.felix_replay.proofs.LineByLine.{state_more}
+
+pub drawn-more : (seed : ℕ) (node : List ℕ) (n : ℕ) → drawn_lines seed node (n + 1) ≡ drawn_lines seed node n ++ line_of seed n node ∷ []
+unfolding drawn_lines
+drawn-more seed node n = let e : n + 1 ≡ suc n = omega arith in ap (λ (k : ℕ). drawn_lines seed node k) e
+
+plus_none : (n : ℕ) → n + 0 ≡ 0 + n
+plus_none n = omega arith
+
+regroup : (a b c : ℕ) → a + (b + c) ≡ (a + b) + c
+regroup a b c = omega arith
+
+flushes-push : (s : State) (lines : List (List ℕ)) (line : List ℕ) → flushes_along s (lines ++ line ∷ []) ≡ flushes_along s lines + flushes_in (answer_of (state_after next s lines) line)
+unfolding flushes_along state_after
+flushes-push s [] line = plus_none (flushes_in (answer_of s line))
+flushes-push s (x ∷ xs) line =
+    ap (λ (n : ℕ). flushes_in (answer_of s x) + n) (flushes-push (next s x) xs line)
+    ∙ regroup (flushes_in (answer_of s x)) (flushes_along (next s x) xs) (flushes_in (answer_of (state_after next (next s x) xs) line))
+
+messages-push : (s : State) (lines : List (List ℕ)) (line : List ℕ) → messages_along s (lines ++ line ∷ []) ≡ messages_along s lines + messages_in (state_after next s lines) (answer_of (state_after next s lines) line)
+unfolding messages_along state_after
+messages-push s [] line = plus_none (messages_in s (answer_of s line))
+messages-push s (x ∷ xs) line =
+    let t = state_after next (next s x) xs in
+    ap (λ (n : ℕ). messages_in s (answer_of s x) + n) (messages-push (next s x) xs line)
+    ∙ regroup (messages_in s (answer_of s x)) (messages_along (next s x) xs) (messages_in t (answer_of t line))
+
+same_tally : (a b c d : ℕ) → a ≡ c → b ≡ d → tally_of a b ≡ tally_of c d
+same_tally a b c d e f = λ j. tally_of (e j) (f j)
+
+still : (f m : ℕ) → tally_of f m ≡ tally_of (f + 0) (m + 0)
+still f m = same_tally f m (f + 0) (m + 0) (omega arith) (omega arith)
+
+-- a flush more, and what it sends
+flushed : (f m sent : ℕ) → one_flush_more (tally_of f m) (min sent (2 ^ 64 - 1)) ≡ tally_of (f + 1) (m + sent)
+flushed f m sent =
+    let e : told_number (told_number f + 1) ≡ told_number (f + 1) = omega arith in
+    let h : told_number (told_number m + min sent (2 ^ 64 - 1)) ≡ told_number (m + sent) = omega arith in
+    let both : ℕ → ℕ → Tally = λ a b. record { flushes = a; messages = b } in
+    λ j. both (e j) (h j)
+
+tallied : (s : State) (a : Result Command Refusal) (f m : ℕ) → tally_after (tally_of f m) s a ≡ tally_of (f + flushes_in a) (m + messages_in s a)
+tallied s (Ok command.Blank) f m = still f m
+tallied s (Ok command.Tables) f m = still f m
+tallied s (Ok command.Flush) f m = flushed f m (messages_of s)
+tallied s (Ok (command.Update u)) f m = still f m
+tallied s (Ok (command.Packet a)) f m = still f m
+tallied s (Err r) f m = still f m
+
+module _ (dg : Digest) (node : List ℕ) (seed n : ℕ) where
+  abbrev lines : List (List ℕ)
+  lines = drawn_lines seed node n
+
+  abbrev behind : State
+  behind = state_after next (start dg node) lines
+
+  abbrev drawn : List ℕ
+  drawn = line_of seed n node
+
+  tally-push : tally_after (tally_along (start dg node) lines) behind (answer_of behind drawn) ≡ tally_along (start dg node) (drawn_lines seed node (n + 1))
+  tally-push =
+      tallied behind (answer_of behind drawn) (flushes_along (start dg node) lines) (messages_along (start dg node) lines)
+      ∙ same_tally _ _ _ _ (sym (flushes-push (start dg node) lines drawn)) (sym (messages-push (start dg node) lines drawn))
+      ∙ ap (λ (l : List (List ℕ)). tally_along (start dg node) l) (sym (drawn-more seed node n))
+
+  module _ (s : State) (line : List ℕ) (is : s ≡ behind) (same : line ≡ drawn) where
+    -- one drawn line more
+    pub state-drawn : (now : State) → now ≡ next s line → now ≡ state_after next (start dg node) (drawn_lines seed node (n + 1))
+    state-drawn now e = state_more dg node lines drawn line s is (ap command_of same) now e ∙ ap (λ (l : List (List ℕ)). state_after next (start dg node) l) (sym (drawn-more seed node n))
+
+    pub tally-drawn : (was now : Tally) → was ≡ tally_along (start dg node) lines → now ≡ tally_after was s (answer_of s line) → now ≡ tally_along (start dg node) (drawn_lines seed node (n + 1))
+    tally-drawn was now first e =
+        e
+        ∙ ap (λ (t : Tally). tally_after t s (answer_of s line)) first
+        ∙ ap (λ (l : List ℕ). tally_after (tally_along (start dg node) lines) s (answer_of s l)) same
+        ∙ ap (λ (t : State). tally_after (tally_along (start dg node) lines) t (answer_of t drawn)) is
+        ∙ tally-push
+
+-- the last flush
+pub tally-end : (f m sent : ℕ) (was now : Tally) → was ≡ tally_of f m → now ≡ one_flush_more was (min sent (2 ^ 64 - 1)) → now ≡ tally_of (f + 1) (m + sent)
+tally-end f m sent was now first e = e ∙ ap (λ (t : Tally). one_flush_more t (min sent (2 ^ 64 - 1))) first ∙ flushed f m sent

@@ -1,0 +1,35 @@
+use Rattle.std.proofs.Common.{◌≡◌, ap, sym, ◌∙◌, arith}
+use Rattle.felix_replay.specs.Standing.{state_of}
+use Rattle.felix_replay.specs.Output.{State, answer_of}
+use Rattle.felix_replay.specs.Run.{state_after}
+use Rattle.felix_replay.specs.Soak.{drawn_lines, flushes_along, messages_along}
+use Rattle.felix_replay.proofs.LineByLine.{step-lines}
+use Rattle.felix_replay.proofs.SoakLemmas.{state-drawn, tally-drawn}
+use Rattle.felix_replay.proofs.soaking.answer_drawn.Goals as goal
+
+pub loop-index-init : goal.loop-index-init
+unfolding drawn_lines state_after flushes_along messages_along
+loop-index-init g c = record {
+  ready = c.requires.ready;
+  state = c.requires.state;
+  tally = c.requires.tally;
+  few = ap (λ (s : State). s.lines) c.requires.state;
+}
+
+pub loop-index-preserved : goal.loop-index-preserved
+loop-index-preserved g c =
+    let dg = g.R.DigestRule.digest_of in
+    let node = c.args.node.now in
+    let was = c.loop-index.replay in
+    let now = c.answer_quietly.new.self in
+    let i = c.loop-index.invariant in
+    let s = state_of dg was.agent.store was.agent.graph.state was.lines was.refused in
+    let line = c.bytes.result.now in
+    let same = c.bytes.ensures ∙ c.in_ok-line.ensures in
+    let e = c.in_ok-answer_quietly.ensures in
+    record {
+      ready = e.ready;
+      state = state-drawn dg node c.args.run.seed c.loop-index.index s line i.state same (state_of dg now.agent.store now.agent.graph.state now.lines now.refused) e.state;
+      tally = tally-drawn dg node c.args.run.seed c.loop-index.index s line i.state same was.tally now.tally i.tally e.tally;
+      few = ap (λ (t : State). t.lines) e.state ∙ step-lines s (answer_of s line) ∙ omega (arith, i.few);
+    }

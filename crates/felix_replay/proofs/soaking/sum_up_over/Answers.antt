@@ -1,0 +1,25 @@
+use Rattle.std.proofs.Common.{◌≡◌, ◌-◌, ◌^◌, ap, ◌∙◌, min, ℕ}
+use Rattle.fx_print.specs.Texts.{soak_line}
+use Rattle.felix_replay.specs.declared.tally.Tally.{Tally}
+use Rattle.felix_replay.specs.Output.{State, start}
+use Rattle.felix_replay.specs.Soak.{drawn_lines, soak_end, messages_of, flushes_along, messages_along, one_flush_more}
+use Rattle.felix_replay.proofs.SoakLemmas.{tally-end}
+use Rattle.felix_replay.proofs.soaking.sum_up_over.Goals as goal
+
+pub returns : goal.returns
+returns g c =
+    let dg = g.R.DigestRule.digest_of in
+    let node = c.args.node.now in
+    let run = c.args.run in
+    let drawn = c.in_ok-answer_drawn.ensures in
+    let last = c.in_ok-flush_quietly.ensures in
+    let replay = c.flush_quietly.new.self in
+    let end = soak_end dg node run in
+    let lines = drawn_lines run.seed node run.count in
+    let sent = ap (λ (s : State). messages_of s) drawn.state in
+    let tally = tally-end (flushes_along (start dg node) lines) (messages_along (start dg node) lines) (messages_of end) c.answer_drawn.new.replay.tally replay.tally drawn.tally (last.tally ∙ ap (λ (n : ℕ). one_flush_more c.answer_drawn.new.replay.tally (min n (2 ^ 64 - 1))) sent) in
+    record {
+      ticks = c.count.result;
+      output = c.in_ok-line.ensures ∙ ap (λ (t : Tally). soak_line run.seed run.count t.flushes t.messages c.count.result) tally;
+      status = last.refused ∙ ap (λ (s : State). s.refused) drawn.state;
+    }

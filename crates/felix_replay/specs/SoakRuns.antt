@@ -1,0 +1,24 @@
+-- What a soak run did.
+use Rattle.std.specs.Prelude.{◌≡◌, ℕ, List, Bool}
+use Rattle.std.specs.Io.KnownBytes.{Appends}
+use Rattle.fx_base.specs.Streams.{SinkState, AppendsPrefix}
+use Rattle.fx_names.specs.Digests.{Digest}
+use Rattle.fx_words.specs.declared.words.Soak.{Soak}
+use Rattle.felix_replay.specs.Soak.{soak_output, is_soak_refused}
+
+-- Each line was answered, and behind the last was a flush. This is the line that sums up. The number of ticks is the counter's.
+pub record SumsUp (dg : Digest) (node : List ℕ) (soak : Soak) (line : List ℕ) (refused : Bool) : Type 0 where
+  pub ticks : ℕ
+  pub output : line ≡ soak_output dg node soak ticks
+  pub status : refused ≡ is_soak_refused dg node soak
+
+-- The run came to its end, and the line was written.
+pub record SoakRan (dg : Digest) (node : List ℕ) (soak : Soak) (before now : SinkState) (refused : Bool) : Type 0 where
+  pub ticks : ℕ
+  pub output : Appends before.held now.held (soak_output dg node soak ticks)
+  pub status : refused ≡ is_soak_refused dg node soak
+
+-- The run ended early. What was written is a prefix of the line.
+pub record SoakStopped (dg : Digest) (node : List ℕ) (soak : Soak) (before now : SinkState) : Type 0 where
+  pub ticks : ℕ
+  pub output : AppendsPrefix before.held now.held (soak_output dg node soak ticks)

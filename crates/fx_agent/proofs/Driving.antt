@@ -1,0 +1,71 @@
+-- A sequencer and a driver go on by one message.
+use Rattle.std.proofs.Common.{◌≡◌, true, Some, None, Option, sym, subst}
+use Rattle.fx_model.specs.declared.resources.Resources.{Resources}
+use Rattle.fx_model.specs.declared.view.View.{View}
+use Rattle.fx_model.specs.Formed.{are_formed}
+use Rattle.fx_model.specs.Messages.{Change, next_message, step, step_by, step_at}
+use Rattle.fx_model.specs.Views.{view_of}
+use Rattle.fx_names.specs.Digests.{Digest}
+use Rattle.fx_laws.proofs.FormedLemmas.{is_formed_view-view_of}
+use Rattle.fx_laws.proofs.SetKinds.{wanted_sets-of-kinds}
+use Rattle.fx_laws.proofs.StepClosed.{step-closed}
+use Rattle.fx_laws.proofs.StepFormed.{step-formed, step-of-kinds}
+use Rattle.fx_laws.proofs.ViewClosed.{view_of-closed}
+use Rattle.fx_driver.specs.declared.driver.Driver.{Driver}
+use Rattle.fx_driver.specs.Drives.{Drives, Follows, IsNext}
+use Rattle.fx_driver.specs.Stepping.{IsDrivable, IsStep}
+use Rattle.fx_sequencer.specs.declared.sides.Sides.{Sides}
+use Rattle.fx_agent.specs.Driven.{IsDriven}
+
+-- what resources call for can be driven
+pub wanted-drivable : (dg : Digest) (R : Resources) → are_formed R ≡ true → IsDrivable (view_of dg R)
+wanted-drivable dg R formed = record {
+  closed = view_of-closed dg R;
+  formed = is_formed_view-view_of dg R formed;
+  kinds = wanted_sets-of-kinds dg R;
+}
+
+-- other resources, and so another view that is wanted
+pub driven-anew : (dg : Digest) (R : Resources) → are_formed R ≡ true → (sides anew : Sides) (driver : Driver) → IsDriven sides driver
+    → anew.sent ≡ sides.sent → anew.now ≡ view_of dg R → IsDriven anew driver
+driven-anew dg R formed sides anew driver was sent now = record {
+  drives = subst (Drives driver) (sym sent) was.drives;
+  from = subst IsDrivable (sym sent) was.from;
+  to = subst IsDrivable (sym now) (wanted-drivable dg R formed);
+}
+
+module _ (sides : Sides) (driver : Driver) (was : IsDriven sides driver) where
+  abbrev sent : View
+  sent = sides.sent
+
+  abbrev now : View
+  now = sides.now
+
+  stepped-drivable : (c : Change) → next_message sent now ≡ Some c → IsDrivable (step_at c sent now)
+  stepped-drivable c is = record {
+    closed = step-closed sent now was.from.closed was.to.closed c is;
+    formed = step-formed sent now c was.from.formed was.to.formed;
+    kinds = step-of-kinds sent now c was.from.kinds was.to.kinds;
+  }
+
+  pub is-step : (c : Change) → next_message sent now ≡ Some c → IsStep sent now c
+  is-step c is = record { from = was.from; to = was.to; next = is }
+
+  pub is-next : (c : Change) → next_message sent now ≡ Some c → IsNext driver c
+  is-next c is = (sent, (now, (was.drives, is-step c is)))
+
+  -- after the message the driver holds the view after the step
+  pub driven-on : (c : Change) → next_message sent now ≡ Some c → (after : Driver) → Follows driver after c → IsDriven (record { sent = step sent now; now = now }) after
+  driven-on c is after follows = record {
+    drives = follows sent now was.drives (is-step c is);
+    from = subst (λ (o : Option Change). IsDrivable (step_by o sent now)) (sym is) (stepped-drivable c is);
+    to = was.to;
+  }
+
+  -- and where there is none, all stays
+  pub driven-still : next_message sent now ≡ None → IsDriven (record { sent = step sent now; now = now }) driver
+  driven-still none = record {
+    drives = subst (λ (o : Option Change). Drives driver (step_by o sent now)) (sym none) was.drives;
+    from = subst (λ (o : Option Change). IsDrivable (step_by o sent now)) (sym none) was.from;
+    to = was.to;
+  }

@@ -1,0 +1,75 @@
+-- What the agent answers, each answer by its cause. Want of memory is the one free answer.
+use Rattle.std.specs.Prelude.{◌≡◌, ◌⊎◌, ℕ, Bool, true, false, Option, Some, None, ⊤}
+use Rattle.fx_base.specs.Streams.{Rose}
+use Rattle.fx_names.specs.Claims.{Clash}
+use Rattle.fx_model.specs.declared.chain.Reason.{Reason}
+use Rattle.fx_model.specs.declared.packet.Verdict.{Verdict}
+use Rattle.fx_model.specs.Messages.{Change}
+use Rattle.fx_model.specs.Policy.{Outcome}
+use Rattle.fx_store.specs.declared.fault.CheckFault.{CheckFault}
+use Rattle.fx_store.specs.declared.fault.CheckFault.TheVariants as check
+use Rattle.fx_agent.specs.declared.faults.OutFault.{OutFault}
+use Rattle.fx_agent.specs.declared.faults.OutFault.TheVariants as out
+use Rattle.fx_agent.specs.declared.faults.PullFault.{PullFault}
+use Rattle.fx_agent.specs.declared.faults.PullFault.TheVariants as pull
+use Rattle.fx_agent.specs.declared.faults.Pulled.{Pulled}
+use Rattle.fx_agent.specs.declared.faults.Pulled.TheVariants as pulled
+use Rattle.fx_agent.specs.declared.faults.UpdateFault.{UpdateFault}
+use Rattle.fx_agent.specs.declared.faults.UpdateFault.TheVariants as update
+
+-- ---- updates
+
+-- whether the agent had failed, and whether the update clashes
+abbrev pub IsUpdateCause : Bool → Option Clash → UpdateFault → Type 0
+IsUpdateCause failed clash (update.Taken name holder) = (failed ≡ false) × (clash ≡ Some (record { name = name; holder = holder }))
+IsUpdateCause failed clash update.Memory = failed ≡ false
+IsUpdateCause failed clash update.NeedsResync = failed ≡ true
+
+-- all stays, or the agent has failed
+abbrev pub UpdateLeaves : (same : Type 0) → (failed : Bool) → UpdateFault → Type 0
+UpdateLeaves same failed (update.Taken name holder) = same
+UpdateLeaves same failed update.Memory = failed ≡ true
+UpdateLeaves same failed update.NeedsResync = same
+
+-- all stays, unless there was no memory
+abbrev pub StaysIfTaken : (same : Type 0) → CheckFault → Type 0
+StaysIfTaken same (check.Taken name holder) = same
+StaysIfTaken same check.Memory = ⊤
+
+-- ---- pulls
+
+-- the next message was handed on, or there is none and the out stays
+abbrev pub IsPulled : Option Change → (handed : Change → Type 0) → (same : Type 0) → Pulled → Type 0
+IsPulled next handed same pulled.Sent = (c : Change) × ((next ≡ Some c) × handed c)
+IsPulled next handed same pulled.Nothing = (next ≡ None) × same
+
+-- whether the agent had failed; and at a write fault the out's count rose
+abbrev pub IsPullCause : Bool → (before now : ℕ) → PullFault → Type 0
+IsPullCause failed before now pull.Write = (failed ≡ false) × Rose before now
+IsPullCause failed before now pull.Memory = failed ≡ false
+IsPullCause failed before now pull.NeedsResync = failed ≡ true
+
+-- all stays, or the agent has failed
+abbrev pub PullLeaves : (same : Type 0) → (failed : Bool) → PullFault → Type 0
+PullLeaves same failed pull.Write = same
+PullLeaves same failed pull.Memory = failed ≡ true
+PullLeaves same failed pull.NeedsResync = same
+
+-- what the out took of the next message
+abbrev pub OutLeaves : Option Change → (handed torn : Change → Type 0) → (same : Type 0) → PullFault → Type 0
+OutLeaves next handed torn same pull.Write = (c : Change) × ((next ≡ Some c) × torn c)
+OutLeaves next handed torn same pull.Memory = (c : Change) × ((next ≡ Some c) × (handed c ⊎ torn c))
+OutLeaves next handed torn same pull.NeedsResync = same
+
+-- the same where the agent had not failed
+abbrev pub IsOutLeft : Option Change → (handed torn : Change → Type 0) → OutFault → Type 0
+IsOutLeft next handed torn out.Write = (c : Change) × ((next ≡ Some c) × torn c)
+IsOutLeft next handed torn out.Memory = (c : Change) × ((next ≡ Some c) × (handed c ⊎ torn c))
+
+-- ---- packets
+
+-- the verdict and the reasons are those of an outcome
+pub record IsAnswer (outcome : Outcome) (verdict : Verdict) (egress ingress : Option Reason) : Type 0 where
+  pub same_verdict : verdict ≡ outcome.verdict
+  pub same_egress : egress ≡ outcome.egress
+  pub same_ingress : ingress ≡ outcome.ingress

@@ -1,0 +1,55 @@
+//! What the agent answers, and what an out of messages does.
+use fx_base::{KernelName, Memory, Text};
+use thiserror::Error;
+
+/// Why an update isn't taken.
+#[derive(Debug, Drop, Error)]
+pub enum UpdateFault {
+    /// A name in the kernel that it claims is another holder's.
+    #[error("a name in the kernel is taken")]
+    Taken { name: KernelName, holder: Text },
+    #[error("no memory is left")]
+    Memory,
+    /// Memory ran out before, so what the agent holds isn't known any more.
+    #[error("the agent has to begin anew")]
+    NeedsResync,
+}
+
+/// What a pull did.
+#[derive(Clone, Copy, Debug, PartialEq, Eq)]
+pub enum Pulled {
+    Sent,
+    /// The sent view is the wanted one.
+    Nothing,
+}
+
+/// Why a pull sent nothing.
+#[derive(Clone, Copy, Debug, PartialEq, Eq, Error)]
+pub enum PullFault {
+    /// The message could not be written. It stays the next one.
+    #[error("the message could not be written")]
+    Write,
+    #[error("no memory is left")]
+    Memory,
+    /// Memory ran out before, so what the agent holds isn't known any more.
+    #[error("the agent has to begin anew")]
+    NeedsResync,
+}
+
+/// Why a message isn't taken.
+#[derive(Clone, Copy, Debug, PartialEq, Eq)]
+pub enum OutFault {
+    Write,
+    Memory,
+}
+
+impl From<Memory> for OutFault {
+    ghost use Rattle.std.specs.Prelude.{◌≡◌};
+    ghost use Rattle.fx_agent.specs.declared.faults.OutFault.TheVariants as fault;
+
+    ghost from_gives = { λ _ e. e ≡ fault.Memory };
+
+    fn from(_: Memory) -> Self {
+        OutFault::Memory
+    }
+}

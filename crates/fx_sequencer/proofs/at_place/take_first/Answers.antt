@@ -1,0 +1,21 @@
+use Rattle.std.proofs.Common.{◌≤◌, length, sym, ap, ◌∙◌, arith}
+use Rattle.fx_sequencer.specs.Pending.{pending_places}
+use Rattle.fx_sequencer.proofs.NextPlaces.{none_left, step_taken, others_pending}
+use Rattle.fx_sequencer.proofs.at_place.take_first.Goals as goal
+
+pub returns-in_default-clause-ok : goal.returns-in_default-clause-ok
+returns-in_default-clause-ok c =
+    let empty : length c.args.places.items ≤ 0 = omega (arith, c.in_default.ensures.cases.0, c.args.places.ok.0) in
+    none_left _ _ _ c.requires.pending empty c.requires.differ
+
+pub returns-clause-ok : goal.returns-clause-ok
+returns-clause-ok c =
+    let s = c.args.sides.now in
+    let taken = c.in_ok-take_at.ensures.ok ∙ step_taken s.sent s.now _ _ _ c.requires.pending c.in-Some.ensures.items in
+    λ i. record { sent = taken i; now = s.now }
+
+pub returns-clause-others : goal.returns-clause-others
+returns-clause-others c =
+    let s = c.args.sides.now in
+    others_pending s.sent s.now _ _ _ c.requires.pending c.in-Some.ensures.items
+    ∙ ap (λ v. pending_places v s.now) (sym c.in_ok-take_at.ensures.ok)

@@ -1,0 +1,103 @@
+//! The first of the places that are not as they are wanted: the message that tells of it, and what is left once it was sent.
+ghost use Rattle.std.specs.Prelude.{◌≡◌, IfOk, OnOk, OnErr, IsSome, option_map};
+ghost use Rattle.std.specs.Option.{ForSome, option_copied};
+ghost use Rattle.fx_model.specs.Lent.{change_of};
+ghost use Rattle.fx_model.specs.Messages.{next_message, step};
+ghost use Rattle.fx_sequencer.specs.Pending.{change_at, pending_places, set_change};
+
+use crate::pending::pending_places;
+use crate::sides::Sides;
+use fx_base::{Memory, SetName};
+use fx_model::{MemberList, MemberSet, Message, Place, View, take_at};
+use std::alloc::Global;
+use std::collections::VecDeque;
+
+/// The places as they were listed, or else as a walk of the views lists them.
+pub fn listed(
+    alloc: Global,
+    ahead: Option<VecDeque<Place>>,
+    sent: &View,
+    wanted: &View,
+) -> Result<VecDeque<Place>, Memory>
+    requires { ForSome ahead (λ places. places.items ≡ pending_places sent.now wanted.now) }
+    ensures { IfOk result (λ places. places.items ≡ pending_places sent.now wanted.now) }
+{
+    match ahead {
+        Some(places) => Ok(places),
+        None => pending_places(alloc, sent, wanted),
+    }
+}
+
+/// The message at the first of these places, if there is one.
+pub fn first_message<'a>(
+    places: &'a VecDeque<Place>,
+    sent: &'a View,
+    wanted: &'a View,
+) -> Option<Message<'a>>
+    requires { places.now.items ≡ pending_places sent.now wanted.now }
+    ensures { option_map change_of result ≡ next_message sent.now wanted.now }
+{
+    match places.front() {
+        Some(place) => Some(message_at(place, sent, wanted)),
+        None => None,
+    }
+}
+
+/// Takes over what is wanted at the first of these places, and gives the others.
+pub fn take_first(sides: &mut Sides, mut places: VecDeque<Place>) -> Result<VecDeque<Place>, Memory>
+    requires pending { places.items ≡ pending_places sides.old.sent sides.old.now }
+    requires differ { IsSome (next_message sides.old.sent sides.old.now) }
+    ensures ok { OnOk result (sides.new ≡ record sides.old { sent = step sides.old.sent sides.old.now }) }
+    ensures others { IfOk result (λ others. others.items ≡ pending_places sides.new.sent sides.new.now) }
+    ensures err { OnErr result (sides.new ≡ sides.old) }
+{
+    let Some(place) = places.pop_front() else {
+        return Ok(places);
+    };
+    take_at(&mut sides.sent, &sides.now, place)?;
+    Ok(places)
+}
+
+// The message that tells of a place that is not as it is wanted.
+fn message_at<'a>(place: &'a Place, sent: &'a View, wanted: &'a View) -> Message<'a>
+    ensures { change_of result ≡ change_at place.now sent.now wanted.now }
+{
+    match place {
+        Place::Set(name) => set_message(name, sent.sets.get(name), wanted.sets.get(name)),
+        Place::Policy(key) => match wanted.policies.get(key) {
+            Some(policy) => Message::PolicyPut { key, policy },
+            None => Message::PolicyGone { key },
+        },
+        Place::Profile(key) => match wanted.profiles.get(key) {
+            Some(profile) => Message::ProfilePut { key, profile },
+            None => Message::ProfileGone { key },
+        },
+        Place::Endpoint(iface) => match wanted.endpoints.get(iface) {
+            Some(endpoint) => Message::EndpointPut { iface, endpoint },
+            None => Message::EndpointGone { iface },
+        },
+    }
+}
+
+fn set_message<'a>(
+    name: &'a SetName,
+    before: Option<&'a MemberSet>,
+    wanted: Option<&'a MemberSet>,
+) -> Message<'a>
+    ensures { change_of result ≡ set_change name.now (option_copied before.entry) (option_copied wanted.entry) }
+{
+    let Some(members) = wanted else {
+        return Message::SetGone { name };
+    };
+    match before {
+        Some(before) => Message::SetDelta {
+            name,
+            adds: MemberList::minus(members, before),
+            removes: MemberList::minus(before, members),
+        },
+        None => Message::SetAdd {
+            name,
+            members: MemberList::all(members),
+        },
+    }
+}

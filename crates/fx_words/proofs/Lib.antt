@@ -1,0 +1,11 @@
+pub mod Options
+pub mod Rows
+pub mod Forms
+pub mod Turns
+pub mod Singles
+pub mod Walking
+pub mod Whole
+pub mod DecimalTexts
+pub mod PlainTexts
+pub mod Cuts
+pub mod Unplain
