@@ -5,6 +5,7 @@ ghost use Rattle.std.specs.Ordering.{nat_cmp};
 ghost use Rattle.std.specs.Cmp.{partial_equiv_from_equiv};
 ghost use Rattle.std.specs.Cmp.Lexicographic.{slice_cmp, pointwise, nat_list_cmp_total, nat_list_eq_equiv, texts_po, texts_ties};
 
+use crate::bytes_order::order;
 use crate::exact::Exact;
 use std::cmp::Ordering;
 use std::marker::Model;
@@ -89,7 +90,7 @@ impl<const N: usize> Ord for FixedName<N> {
     ghost matches_eq = { texts_ties };
 
     fn cmp(&self, other: &FixedName<N>) -> Ordering {
-        self.bytes().cmp(other.bytes())
+        order(self.bytes(), other.bytes())
     }
 }
 

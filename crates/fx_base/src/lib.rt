@@ -23,6 +23,7 @@ pub use uses::Uses;
 
 mod address_text;
 mod bytes_map;
+mod bytes_order;
 mod chain_name;
 mod counts;
 mod exact;
