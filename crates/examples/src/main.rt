@@ -14,13 +14,15 @@ use std::{fs, io};
 const NODE: &str = "--node n1";
 
 // The name and the words of each.
-const EXAMPLES: [(&str, &str); 9] = [
+const EXAMPLES: [(&str, &str); 11] = [
     ("first", NODE),
     ("packets", NODE),
     ("rules", NODE),
     ("policies", NODE),
     ("sets", NODE),
     ("endpoints", NODE),
+    ("kubernetes", NODE),
+    ("kubectl", NODE),
     ("refusals", NODE),
     ("delete", NODE),
     ("soak", "--node n1 --soak 7 --count 2000"),

@@ -6,6 +6,7 @@ pub mod ClosingLemmas
 pub mod Served
 pub mod Policing
 pub mod Asked
+pub mod KubernetesKept
 pub mod Ready
 pub mod Taking
 pub mod Pulling

@@ -8,5 +8,6 @@ pub mod Standing
 pub mod Top
 pub mod Closing
 pub mod Policed
+pub mod KubernetesLines
 pub mod Soak
 pub mod SoakRuns

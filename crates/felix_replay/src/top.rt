@@ -12,6 +12,7 @@ ghost use Rattle.felix_replay.specs.Standing.{IsReady, state_of};
 ghost use Rattle.felix_replay.specs.Output.{start};
 ghost use Rattle.felix_replay.specs.Closing.{IsWhole, views_along};
 ghost use Rattle.felix_replay.specs.Policed.{KeepsPolicy, PathsAreRuns};
+ghost use Rattle.felix_replay.specs.KubernetesLines.{KeepsKubernetes};
 
 use crate::replay::Replay;
 use crate::run_fault::RunFault;
@@ -40,7 +41,7 @@ pub enum Status {
 ///
 /// A line is a JSON object with one member; each output line is written with its newline by one put. Names in the kernel that are
 /// too long are made by the namer's digest rule.
-#[tactic(auto, using(fx_base::proofs::AtKey::reads, crate::proofs::ClosingLemmas::run_stays_whole, crate::proofs::Policing::keeps_policy, crate::proofs::Policing::paths_are_runs))]
+#[tactic(auto, using(fx_base::proofs::AtKey::reads, crate::proofs::ClosingLemmas::run_stays_whole, crate::proofs::Policing::keeps_policy, crate::proofs::Policing::paths_are_runs, crate::proofs::KubernetesKept::keeps_kubernetes))]
 pub fn felix_replay<S: Source, K: Sink, R: DigestRule, F: DigestFunction<R> + Drop>(
     alloc: Global,
     words: &[Text],
@@ -73,6 +74,9 @@ pub fn felix_replay<S: Source, K: Sink, R: DigestRule, F: DigestFunction<R> + Dr
 
     // A line with a first packet is answered as the policy reference says, where each accepted update was flushed.
     ensures policy { KeepsPolicy R.digest_of (node_name words.now) }
+
+    // Its verdict is Kubernetes' where the resources are those of a cluster.
+    ensures kubernetes { KeepsKubernetes R.digest_of (node_name words.now) }
 
     // Without a fault it is never anything else but want of memory.
     ensures complete { IsSome (asked_of words.now)

@@ -4,6 +4,10 @@
 #[cfg(test)]
 mod endpoint_rows;
 #[cfg(test)]
+mod kube_rows;
+#[cfg(test)]
+mod kube_tests;
+#[cfg(test)]
 mod policy_rows;
 #[cfg(test)]
 mod policy_tests;

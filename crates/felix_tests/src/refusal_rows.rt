@@ -15,10 +15,12 @@ pub const ROWS: &str = r##"# lines
 {"put":{"apiVersion":"projectcalico.org/v1","kind":"Profile","metadata":{"name":"p"},"spec":{}}} => refused 1 1 UnknownKind
 {"put":{"apiVersion":"v1","kind":"Profile","metadata":{"name":"p"},"spec":{}}} => refused 1 1 UnknownKind
 {"put":{"apiVersion":"projectcalico.org/v3","kind":"NetworkSet","metadata":[],"spec":[]}} => refused 1 3 BadField metadata
-{"put":{"apiVersion":"networking.k8s.io/v1","kind":"NetworkPolicy","metadata":{"name":"p"},"spec":{}}} => refused 1 5 Unsupported kind
+{"put":{"apiVersion":"networking.k8s.io/v1","kind":"NetworkPolicy","metadata":{"name":"p"},"spec":{}}} => refused 1 2 MissingField metadata.namespace
+{"put":{"apiVersion":"networking.k8s.io/v1","kind":"Namespace","metadata":{"name":"p"},"spec":{}}} => refused 1 1 UnknownKind
 {"put":{"apiVersion":"v1","kind":"NetworkPolicy","metadata":{"name":"p"},"spec":{}}} => refused 1 1 UnknownKind
-{"put":{"apiVersion":"v1","kind":"Namespace","metadata":{"name":"p"},"spec":{}}} => refused 1 5 Unsupported kind
-{"delete":{"apiVersion":"v1","kind":"ServiceAccount","metadata":{}}} => refused 1 5 Unsupported kind
+{"put":{"apiVersion":"v1","kind":"Namespace","metadata":{"name":"p"},"spec":[]}}
+{"put":{"apiVersion":"v1","kind":"Pod","metadata":{"name":"p"}}} => refused 1 1 UnknownKind
+{"delete":{"apiVersion":"v1","kind":"ServiceAccount","metadata":{}}} => refused 1 2 MissingField metadata.name
 {"delete":{"apiVersion":"projectcalico.org/v3","kind":"NetworkSet","metadata":{}}} => refused 1 2 MissingField metadata.name
 {"delete":{"apiVersion":"projectcalico.org/v3","kind":"GlobalNetworkSet","metadata":{}}} => refused 1 2 MissingField metadata.name
 {"delete":{"apiVersion":"projectcalico.org/v3","kind":"HostEndpoint","metadata":{}}} => refused 1 1 UnknownKind
@@ -423,4 +425,84 @@ pub const ROWS: &str = r##"# lines
 {"delete":{"apiVersion":"projectcalico.org/v3","kind":"NetworkSet","metadata":{"name":"s"}}} => refused 1 2 MissingField metadata.namespace
 {"delete":{"apiVersion":"projectcalico.org/v3","kind":"NetworkSet","metadata":{"name":"s","namespace":"a","labels":7}}}
 {"delete":{"apiVersion":"projectcalico.org/v3","kind":"GlobalNetworkSet","metadata":{"name":"s/t"}}} => refused 1 3 BadField metadata.name
+# Kubernetes: names
+{"put":{"apiVersion":"v1","kind":"Namespace","metadata":{"namespace":"n"}}} => refused 1 2 MissingField metadata.name
+{"put":{"apiVersion":"v1","kind":"Namespace","metadata":{"name":"n","labels":{"a":1}}}} => refused 1 3 BadField metadata.labels
+{"put":{"apiVersion":"v1","kind":"Namespace","metadata":{"name":"n","labels":{"a":null}}}}
+{"put":{"apiVersion":"v1","kind":"ServiceAccount","metadata":{"name":"s"}}} => refused 1 2 MissingField metadata.namespace
+{"put":{"apiVersion":"v1","kind":"ServiceAccount","metadata":{"name":"s","namespace":"N","labels":7}}} => refused 1 3 BadField metadata.namespace
+{"put":{"apiVersion":"v1","kind":"ServiceAccount","metadata":{"name":"s","namespace":"n","labels":7}}} => refused 1 3 BadField metadata.labels
+{"delete":{"apiVersion":"v1","kind":"Namespace","metadata":{"name":"n/m"}}} => refused 1 3 BadField metadata.name
+{"delete":{"apiVersion":"v1","kind":"ServiceAccount","metadata":{"name":"s"}}} => refused 1 2 MissingField metadata.namespace
+{"delete":{"apiVersion":"networking.k8s.io/v1","kind":"NetworkPolicy","metadata":{"name":"p","namespace":"n"},"spec":7}}
+# Kubernetes: label selectors
+{"put":{"apiVersion":"networking.k8s.io/v1","kind":"NetworkPolicy","metadata":{"name":"p","namespace":"n"},"spec":{"podSelector":7}}} => refused 1 3 BadField spec.podSelector
+{"put":{"apiVersion":"networking.k8s.io/v1","kind":"NetworkPolicy","metadata":{"name":"p","namespace":"n"},"spec":{"podSelector":null}}}
+{"put":{"apiVersion":"networking.k8s.io/v1","kind":"NetworkPolicy","metadata":{"name":"p","namespace":"n"},"spec":{"podSelector":{"matchLabels":[]}}}} => refused 1 3 BadField spec.podSelector.matchLabels
+{"put":{"apiVersion":"networking.k8s.io/v1","kind":"NetworkPolicy","metadata":{"name":"p","namespace":"n"},"spec":{"podSelector":{"matchLabels":{"a":"b c"}}}}} => refused 1 3 BadField spec.podSelector.matchLabels
+{"put":{"apiVersion":"networking.k8s.io/v1","kind":"NetworkPolicy","metadata":{"name":"p","namespace":"n"},"spec":{"podSelector":{"matchLabels":{"a b":"c"}}}}} => refused 1 3 BadField spec.podSelector.matchLabels
+{"put":{"apiVersion":"networking.k8s.io/v1","kind":"NetworkPolicy","metadata":{"name":"p","namespace":"n"},"spec":{"podSelector":{"matchLabels":{"":"c"}}}}} => refused 1 3 BadField spec.podSelector.matchLabels
+{"put":{"apiVersion":"networking.k8s.io/v1","kind":"NetworkPolicy","metadata":{"name":"p","namespace":"n"},"spec":{"podSelector":{"matchLabels":{"a":""}}}}}
+{"put":{"apiVersion":"networking.k8s.io/v1","kind":"NetworkPolicy","metadata":{"name":"p","namespace":"n"},"spec":{"podSelector":{"matchLabels":{"a":"vvvvvvvvvvvvvvvvvvvvvvvvvvvvvvvvvvvvvvvvvvvvvvvvvvvvvvvvvvvvvvv"}}}}}
+{"put":{"apiVersion":"networking.k8s.io/v1","kind":"NetworkPolicy","metadata":{"name":"p","namespace":"n"},"spec":{"podSelector":{"matchLabels":{"a":"vvvvvvvvvvvvvvvvvvvvvvvvvvvvvvvvvvvvvvvvvvvvvvvvvvvvvvvvvvvvvvvv"}}}}} => refused 1 3 BadField spec.podSelector.matchLabels
+{"put":{"apiVersion":"networking.k8s.io/v1","kind":"NetworkPolicy","metadata":{"name":"p","namespace":"n"},"spec":{"podSelector":{"matchLabels":{"kkkkkkkkkkkkkkkkkkkkkkkkkkkkkkkkkkkkkkkkkkkkkkkkkkkkkkkkkkkkkkkkkkkkkkkkkkkkkkkkkkkkkkkkkkkkkkkkkkkkkkkkkkkkkkkkkkkkkkkkkkkkkkkkkkkkkkkkkkkkkkkkkkkkkkkkkkkkkkkkkkkkkkkkkkkkkkkkkkkkkkkkkkkkkkkkkkkkkkkkkkkkkkkkkkkkkkkkkkkkkkkkkkkkkkkkkkkkkkkkkkkkkkkkkkkkkkkkkkkkkkkkkkkkkkkkkkkkkkkkkkkkkkkkkkkkkkkkkkkkkkkkkkkkkkkkkkkkkkkkkkkkkkkkkkkkkkkkkkkkkkkkkkkkkkkkkkkkkkkkkkkkkkkkkkkkkkkkkkkkkkkkkkkkkkkkkkkkkkkkkkkkkkkkkkkkkkkkkkkkkkkkkkkkkkkkkkkkkkkkkkkkkkkkkkkkkkkkkkkkkkkkkkkkkkkkkkkkkkkkkkkkkkkkkkkkkkkkkkkkkkkkkkkkkkkk":"v"}}}}}
+{"put":{"apiVersion":"networking.k8s.io/v1","kind":"NetworkPolicy","metadata":{"name":"p","namespace":"n"},"spec":{"podSelector":{"matchLabels":{"kkkkkkkkkkkkkkkkkkkkkkkkkkkkkkkkkkkkkkkkkkkkkkkkkkkkkkkkkkkkkkkkkkkkkkkkkkkkkkkkkkkkkkkkkkkkkkkkkkkkkkkkkkkkkkkkkkkkkkkkkkkkkkkkkkkkkkkkkkkkkkkkkkkkkkkkkkkkkkkkkkkkkkkkkkkkkkkkkkkkkkkkkkkkkkkkkkkkkkkkkkkkkkkkkkkkkkkkkkkkkkkkkkkkkkkkkkkkkkkkkkkkkkkkkkkkkkkkkkkkkkkkkkkkkkkkkkkkkkkkkkkkkkkkkkkkkkkkkkkkkkkkkkkkkkkkkkkkkkkkkkkkkkkkkkkkkkkkkkkkkkkkkkkkkkkkkkkkkkkkkkkkkkkkkkkkkkkkkkkkkkkkkkkkkkkkkkkkkkkkkkkkkkkkkkkkkkkkkkkkkkkkkkkkkkkkkkkkkkkkkkkkkkkkkkkkkkkkkkkkkkkkkkkkkkkkkkkkkkkkkkkkkkkkkkkkkkkkkkkkkkkkkkkkkkkkk":"v"}}}}} => refused 1 3 BadField spec.podSelector.matchLabels
+{"put":{"apiVersion":"networking.k8s.io/v1","kind":"NetworkPolicy","metadata":{"name":"p","namespace":"n"},"spec":{"podSelector":{"matchLabels":{"a":1},"matchExpressions":[7]}}}} => refused 1 3 BadField spec.podSelector.matchLabels
+{"put":{"apiVersion":"networking.k8s.io/v1","kind":"NetworkPolicy","metadata":{"name":"p","namespace":"n"},"spec":{"podSelector":{"matchExpressions":{}}}}} => refused 1 3 BadField spec.podSelector.matchExpressions
+{"put":{"apiVersion":"networking.k8s.io/v1","kind":"NetworkPolicy","metadata":{"name":"p","namespace":"n"},"spec":{"podSelector":{"matchExpressions":[null]}}}} => refused 1 3 BadField spec.podSelector.matchExpressions[0]
+{"put":{"apiVersion":"networking.k8s.io/v1","kind":"NetworkPolicy","metadata":{"name":"p","namespace":"n"},"spec":{"podSelector":{"matchExpressions":[{"key":"a","operator":"In"}]}}}} => refused 1 12 BadExpression spec.podSelector.matchExpressions[0]
+{"put":{"apiVersion":"networking.k8s.io/v1","kind":"NetworkPolicy","metadata":{"name":"p","namespace":"n"},"spec":{"podSelector":{"matchExpressions":[{"key":"a","operator":"In","values":[]}]}}}} => refused 1 12 BadExpression spec.podSelector.matchExpressions[0]
+{"put":{"apiVersion":"networking.k8s.io/v1","kind":"NetworkPolicy","metadata":{"name":"p","namespace":"n"},"spec":{"podSelector":{"matchExpressions":[{"key":"a","operator":"NotIn","values":null}]}}}} => refused 1 12 BadExpression spec.podSelector.matchExpressions[0]
+{"put":{"apiVersion":"networking.k8s.io/v1","kind":"NetworkPolicy","metadata":{"name":"p","namespace":"n"},"spec":{"podSelector":{"matchExpressions":[{"key":"a","operator":"Exists","values":["b"]}]}}}} => refused 1 12 BadExpression spec.podSelector.matchExpressions[0]
+{"put":{"apiVersion":"networking.k8s.io/v1","kind":"NetworkPolicy","metadata":{"name":"p","namespace":"n"},"spec":{"podSelector":{"matchExpressions":[{"key":"a","operator":"DoesNotExist","values":["b"]}]}}}} => refused 1 12 BadExpression spec.podSelector.matchExpressions[0]
+{"put":{"apiVersion":"networking.k8s.io/v1","kind":"NetworkPolicy","metadata":{"name":"p","namespace":"n"},"spec":{"podSelector":{"matchExpressions":[{"key":"a","operator":"in","values":["b"]}]}}}} => refused 1 12 BadExpression spec.podSelector.matchExpressions[0]
+{"put":{"apiVersion":"networking.k8s.io/v1","kind":"NetworkPolicy","metadata":{"name":"p","namespace":"n"},"spec":{"podSelector":{"matchExpressions":[{"key":"a","values":["b"]}]}}}} => refused 1 12 BadExpression spec.podSelector.matchExpressions[0]
+{"put":{"apiVersion":"networking.k8s.io/v1","kind":"NetworkPolicy","metadata":{"name":"p","namespace":"n"},"spec":{"podSelector":{"matchExpressions":[{"operator":"Exists"}]}}}} => refused 1 12 BadExpression spec.podSelector.matchExpressions[0]
+{"put":{"apiVersion":"networking.k8s.io/v1","kind":"NetworkPolicy","metadata":{"name":"p","namespace":"n"},"spec":{"podSelector":{"matchExpressions":[{"key":"a b","operator":"Exists"}]}}}} => refused 1 12 BadExpression spec.podSelector.matchExpressions[0]
+{"put":{"apiVersion":"networking.k8s.io/v1","kind":"NetworkPolicy","metadata":{"name":"p","namespace":"n"},"spec":{"podSelector":{"matchExpressions":[{"key":7,"operator":"Exists"}]}}}} => refused 1 12 BadExpression spec.podSelector.matchExpressions[0]
+{"put":{"apiVersion":"networking.k8s.io/v1","kind":"NetworkPolicy","metadata":{"name":"p","namespace":"n"},"spec":{"podSelector":{"matchExpressions":[{"key":"a","operator":"In","values":"b"}]}}}} => refused 1 12 BadExpression spec.podSelector.matchExpressions[0]
+{"put":{"apiVersion":"networking.k8s.io/v1","kind":"NetworkPolicy","metadata":{"name":"p","namespace":"n"},"spec":{"podSelector":{"matchExpressions":[{"key":"a","operator":"In","values":["b",7]}]}}}} => refused 1 12 BadExpression spec.podSelector.matchExpressions[0]
+{"put":{"apiVersion":"networking.k8s.io/v1","kind":"NetworkPolicy","metadata":{"name":"p","namespace":"n"},"spec":{"podSelector":{"matchExpressions":[{"key":"a","operator":"In","values":["b",null]}]}}}} => refused 1 12 BadExpression spec.podSelector.matchExpressions[0]
+{"put":{"apiVersion":"networking.k8s.io/v1","kind":"NetworkPolicy","metadata":{"name":"p","namespace":"n"},"spec":{"podSelector":{"matchExpressions":[{"key":"a","operator":"In","values":["b/c"]}]}}}} => refused 1 12 BadExpression spec.podSelector.matchExpressions[0]
+{"put":{"apiVersion":"networking.k8s.io/v1","kind":"NetworkPolicy","metadata":{"name":"p","namespace":"n"},"spec":{"podSelector":{"matchExpressions":[{}]}}}} => refused 1 12 BadExpression spec.podSelector.matchExpressions[0]
+{"put":{"apiVersion":"networking.k8s.io/v1","kind":"NetworkPolicy","metadata":{"name":"p","namespace":"n"},"spec":{"podSelector":{"matchExpressions":[{"key":"a","operator":"Exists","values":[]}]}}}}
+{"put":{"apiVersion":"networking.k8s.io/v1","kind":"NetworkPolicy","metadata":{"name":"p","namespace":"n"},"spec":{"podSelector":{"matchExpressions":[{"key":"a","operator":"In","values":["b"]},{}]},"ingress":7}}} => refused 1 12 BadExpression spec.podSelector.matchExpressions[1]
+# Kubernetes: types and rules
+{"put":{"apiVersion":"networking.k8s.io/v1","kind":"NetworkPolicy","metadata":{"name":"p","namespace":"n"},"spec":{"policyTypes":["ingress"]}}} => refused 1 3 BadField spec.policyTypes[0]
+{"put":{"apiVersion":"networking.k8s.io/v1","kind":"NetworkPolicy","metadata":{"name":"p","namespace":"n"},"spec":{"policyTypes":"Ingress"}}} => refused 1 3 BadField spec.policyTypes
+{"put":{"apiVersion":"networking.k8s.io/v1","kind":"NetworkPolicy","metadata":{"name":"p","namespace":"n"},"spec":{"policyTypes":["Egress"],"ingress":[{"from":7}]}}} => refused 1 3 BadField spec.ingress[0].from
+{"put":{"apiVersion":"networking.k8s.io/v1","kind":"NetworkPolicy","metadata":{"name":"p","namespace":"n"},"spec":{"ingress":{}}}} => refused 1 3 BadField spec.ingress
+{"put":{"apiVersion":"networking.k8s.io/v1","kind":"NetworkPolicy","metadata":{"name":"p","namespace":"n"},"spec":{"ingress":[null]}}} => refused 1 3 BadField spec.ingress[0]
+{"put":{"apiVersion":"networking.k8s.io/v1","kind":"NetworkPolicy","metadata":{"name":"p","namespace":"n"},"spec":{"ingress":[{"to":7}]}}}
+{"put":{"apiVersion":"networking.k8s.io/v1","kind":"NetworkPolicy","metadata":{"name":"p","namespace":"n"},"spec":{"egress":[{"from":7,"to":[7]}]}}} => refused 1 3 BadField spec.egress[0].to[0]
+# Kubernetes: peers
+{"put":{"apiVersion":"networking.k8s.io/v1","kind":"NetworkPolicy","metadata":{"name":"p","namespace":"n"},"spec":{"ingress":[{"from":[{"podSelector":{},"ipBlock":{"cidr":"10.0.0.0/8"}}]}]}}} => refused 1 10 BlockWithSelector spec.ingress[0].from[0]
+{"put":{"apiVersion":"networking.k8s.io/v1","kind":"NetworkPolicy","metadata":{"name":"p","namespace":"n"},"spec":{"ingress":[{"from":[{"namespaceSelector":7,"ipBlock":7}]}]}}} => refused 1 10 BlockWithSelector spec.ingress[0].from[0]
+{"put":{"apiVersion":"networking.k8s.io/v1","kind":"NetworkPolicy","metadata":{"name":"p","namespace":"n"},"spec":{"ingress":[{"from":[{}]}]}}} => refused 1 2 MissingField spec.ingress[0].from[0]
+{"put":{"apiVersion":"networking.k8s.io/v1","kind":"NetworkPolicy","metadata":{"name":"p","namespace":"n"},"spec":{"ingress":[{"from":[{"podSelector":null}]}]}}} => refused 1 2 MissingField spec.ingress[0].from[0]
+{"put":{"apiVersion":"networking.k8s.io/v1","kind":"NetworkPolicy","metadata":{"name":"p","namespace":"n"},"spec":{"ingress":[{"from":[{"podSelector":7,"namespaceSelector":7}]}]}}} => refused 1 3 BadField spec.ingress[0].from[0].podSelector
+{"put":{"apiVersion":"networking.k8s.io/v1","kind":"NetworkPolicy","metadata":{"name":"p","namespace":"n"},"spec":{"ingress":[{"from":[{"namespaceSelector":{"matchExpressions":[{}]}}]}]}}} => refused 1 12 BadExpression spec.ingress[0].from[0].namespaceSelector.matchExpressions[0]
+{"put":{"apiVersion":"networking.k8s.io/v1","kind":"NetworkPolicy","metadata":{"name":"p","namespace":"n"},"spec":{"ingress":[{"from":[{"ipBlock":{}}]}]}}} => refused 1 2 MissingField spec.ingress[0].from[0].ipBlock.cidr
+{"put":{"apiVersion":"networking.k8s.io/v1","kind":"NetworkPolicy","metadata":{"name":"p","namespace":"n"},"spec":{"ingress":[{"from":[{"ipBlock":7}]}]}}} => refused 1 3 BadField spec.ingress[0].from[0].ipBlock
+{"put":{"apiVersion":"networking.k8s.io/v1","kind":"NetworkPolicy","metadata":{"name":"p","namespace":"n"},"spec":{"ingress":[{"from":[{"ipBlock":{"cidr":"10.0.0.0/33","except":7}}]}]}}} => refused 1 3 BadField spec.ingress[0].from[0].ipBlock.cidr
+{"put":{"apiVersion":"networking.k8s.io/v1","kind":"NetworkPolicy","metadata":{"name":"p","namespace":"n"},"spec":{"ingress":[{"from":[{"ipBlock":{"cidr":"10.0.0.0/8","except":["10.0.0.0/8","x"]}}]}]}}} => refused 1 3 BadField spec.ingress[0].from[0].ipBlock.except[1]
+{"put":{"apiVersion":"networking.k8s.io/v1","kind":"NetworkPolicy","metadata":{"name":"p","namespace":"n"},"spec":{"ingress":[{"from":[{"ipBlock":{"cidr":"fd00::/8","except":["fd00::/9"]}}]}]}}}
+# Kubernetes: ports
+{"put":{"apiVersion":"networking.k8s.io/v1","kind":"NetworkPolicy","metadata":{"name":"p","namespace":"n"},"spec":{"ingress":[{"ports":[7]}]}}} => refused 1 3 BadField spec.ingress[0].ports[0]
+{"put":{"apiVersion":"networking.k8s.io/v1","kind":"NetworkPolicy","metadata":{"name":"p","namespace":"n"},"spec":{"ingress":[{"ports":[{"protocol":"ICMP"}]}]}}} => refused 1 3 BadField spec.ingress[0].ports[0].protocol
+{"put":{"apiVersion":"networking.k8s.io/v1","kind":"NetworkPolicy","metadata":{"name":"p","namespace":"n"},"spec":{"ingress":[{"ports":[{"protocol":"sctp"},{"protocol":17},{}]}]}}}
+{"put":{"apiVersion":"networking.k8s.io/v1","kind":"NetworkPolicy","metadata":{"name":"p","namespace":"n"},"spec":{"ingress":[{"ports":[{"port":0}]}]}}} => refused 1 3 BadField spec.ingress[0].ports[0].port
+{"put":{"apiVersion":"networking.k8s.io/v1","kind":"NetworkPolicy","metadata":{"name":"p","namespace":"n"},"spec":{"ingress":[{"ports":[{"port":65536}]}]}}} => refused 1 3 BadField spec.ingress[0].ports[0].port
+{"put":{"apiVersion":"networking.k8s.io/v1","kind":"NetworkPolicy","metadata":{"name":"p","namespace":"n"},"spec":{"ingress":[{"ports":[{"port":"80"}]}]}}} => refused 1 3 BadField spec.ingress[0].ports[0].port
+{"put":{"apiVersion":"networking.k8s.io/v1","kind":"NetworkPolicy","metadata":{"name":"p","namespace":"n"},"spec":{"ingress":[{"ports":[{"port":80.0}]}]}}} => refused 1 3 BadField spec.ingress[0].ports[0].port
+{"put":{"apiVersion":"networking.k8s.io/v1","kind":"NetworkPolicy","metadata":{"name":"p","namespace":"n"},"spec":{"ingress":[{"ports":[{"port":"a b"}]}]}}} => refused 1 3 BadField spec.ingress[0].ports[0].port
+{"put":{"apiVersion":"networking.k8s.io/v1","kind":"NetworkPolicy","metadata":{"name":"p","namespace":"n"},"spec":{"ingress":[{"ports":[{"port":""}]}]}}} => refused 1 3 BadField spec.ingress[0].ports[0].port
+{"put":{"apiVersion":"networking.k8s.io/v1","kind":"NetworkPolicy","metadata":{"name":"p","namespace":"n"},"spec":{"ingress":[{"ports":[{"port":[]}]}]}}} => refused 1 3 BadField spec.ingress[0].ports[0].port
+{"put":{"apiVersion":"networking.k8s.io/v1","kind":"NetworkPolicy","metadata":{"name":"p","namespace":"n"},"spec":{"ingress":[{"ports":[{"port":1000,"endPort":999}]}]}}} => refused 1 11 BadEndPort spec.ingress[0].ports[0].endPort
+{"put":{"apiVersion":"networking.k8s.io/v1","kind":"NetworkPolicy","metadata":{"name":"p","namespace":"n"},"spec":{"ingress":[{"ports":[{"port":1000,"endPort":65536}]}]}}} => refused 1 11 BadEndPort spec.ingress[0].ports[0].endPort
+{"put":{"apiVersion":"networking.k8s.io/v1","kind":"NetworkPolicy","metadata":{"name":"p","namespace":"n"},"spec":{"ingress":[{"ports":[{"port":1000,"endPort":"1001"}]}]}}} => refused 1 11 BadEndPort spec.ingress[0].ports[0].endPort
+{"put":{"apiVersion":"networking.k8s.io/v1","kind":"NetworkPolicy","metadata":{"name":"p","namespace":"n"},"spec":{"ingress":[{"ports":[{"endPort":7}]}]}}} => refused 1 11 BadEndPort spec.ingress[0].ports[0].endPort
+{"put":{"apiVersion":"networking.k8s.io/v1","kind":"NetworkPolicy","metadata":{"name":"p","namespace":"n"},"spec":{"ingress":[{"ports":[{"port":"pg","endPort":7}]}]}}} => refused 1 11 BadEndPort spec.ingress[0].ports[0].endPort
+{"put":{"apiVersion":"networking.k8s.io/v1","kind":"NetworkPolicy","metadata":{"name":"p","namespace":"n"},"spec":{"ingress":[{"ports":[{"port":1000,"endPort":1000},{"port":"pg","endPort":null},{"port":1,"endPort":65535}]}]}}}
+{"put":{"apiVersion":"networking.k8s.io/v1","kind":"NetworkPolicy","metadata":{"name":"p","namespace":"n"},"spec":{"ingress":[{"from":[{}],"ports":[7]}]}}} => refused 1 2 MissingField spec.ingress[0].from[0]
 "##;

@@ -416,4 +416,25 @@ pub const RUNS: &str = r#"
 < profile open open missing
 < endpoint cali1 a/w1 in - out default(gnp/e) profiles open
 < flushed 4
+= a policy of Kubernetes with a named port, beside one that denies all
+> {"put":{"apiVersion":"v1","kind":"Namespace","metadata":{"name":"prod"}}}
+> {"put":{"apiVersion":"projectcalico.org/v3","kind":"WorkloadEndpoint","metadata":{"name":"web","namespace":"prod"},"spec":{"node":"n1","orchestrator":"k8s","interfaceName":"cali1","ipNetworks":["10.0.0.1"],"profiles":["kns.prod"]}}}
+> {"put":{"apiVersion":"projectcalico.org/v3","kind":"WorkloadEndpoint","metadata":{"name":"db","namespace":"prod","labels":{"app":"db"}},"spec":{"node":"n1","orchestrator":"k8s","interfaceName":"cali2","ipNetworks":["10.0.0.2"],"profiles":["kns.prod"],"ports":[{"name":"pg","protocol":"TCP","port":5432}]}}}
+> {"put":{"apiVersion":"projectcalico.org/v3","kind":"WorkloadEndpoint","metadata":{"name":"job","namespace":"prod"},"spec":{"node":"n2","orchestrator":"k8s","interfaceName":"cali3","ipNetworks":["10.0.0.3"],"profiles":["kns.prod"]}}}
+> {"put":{"apiVersion":"networking.k8s.io/v1","kind":"NetworkPolicy","metadata":{"name":"deny","namespace":"prod"},"spec":{"podSelector":{}}}}
+> {"put":{"apiVersion":"networking.k8s.io/v1","kind":"NetworkPolicy","metadata":{"name":"db","namespace":"prod"},"spec":{"podSelector":{"matchLabels":{"app":"db"}},"ingress":[{"from":[],"ports":[{"port":"pg"},{"protocol":"UDP","port":1000,"endPort":1010}]}]}}}
+> {"inSync":true}
+> {"flush":{}}
+> {"packet":{"in":"cali1","out":"cali2","src":"10.0.0.1","dst":"10.0.0.2","proto":"TCP","sport":40000,"dport":5432}}
+< set-add cali40n:dGNwLHBnLGFsbCgpAAAAAAA hash:ip,port 10.0.0.2,tcp:5432
+< policy knp/prod/db knp/prod/db in 2 out 0
+< policy knp/prod/deny knp/prod/deny in 0 out 0
+< profile kns.prod kns.prod in 1 out 1
+< endpoint cali1 prod/web in default(knp/prod/deny) out - profiles kns.prod
+< endpoint cali2 prod/db in default(knp/prod/db,knp/prod/deny) out - profiles kns.prod
+< flushed 6
+< path cali-FORWARD:2 cali-from-wl-dispatch:1 cali-fw-cali1:4 cali-pro-kns.prod:1 cali-FORWARD:3 cali-to-wl-dispatch:2 cali-tw-cali2:5 cali-pi-knp/prod/db:1
+< egress cali1 profile kns.prod 1
+< ingress cali2 policy knp/prod/db 1
+< verdict allow
 "#;

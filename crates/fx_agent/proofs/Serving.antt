@@ -25,7 +25,8 @@ use Rattle.fx_sequencer.specs.declared.sides.Sides.{Sides}
 use Rattle.fx_store.specs.declared.store.Store.{Store}
 use Rattle.fx_store.specs.Keeping.{KeepsClaims}
 use Rattle.fx_walk.proofs.Families.{first_there}
-use Rattle.fx_agent.specs.Answers.{IsAnswer}
+use Rattle.fx_kube_laws.proofs.Kept.{kubernetes_verdict_is_kept}
+use Rattle.fx_agent.specs.Answers.{IsAnswer, IsKubernetesVerdict}
 use Rattle.fx_agent.specs.Driven.{IsDriven, KeepsResources}
 use Rattle.fx_agent.specs.Sound.{IsAgent, IsSound}
 use Rattle.fx_agent.proofs.Driving.{driven-anew}
@@ -98,6 +99,13 @@ pub sound-policy : (dg : Digest) (s : Store) (g : GraphState) (d : Driver) → I
 sound-policy dg s g d is same a new v egress ingress answer =
     let known = answer dg s.resources (sound-tables dg s g d is same) is.servable new in
     record { same_verdict = known.0; same_egress = known.1; same_ingress = known.2 }
+
+-- and Kubernetes' verdict, where the resources are a cluster's
+pub sound-kubernetes : (dg : Digest) (s : Store) (g : GraphState) (d : Driver) → IsSound dg s g d → (sides_of g).sent ≡ (sides_of g).now
+    → (a : Packet) → a.state ≡ New → (v : Verdict) (egress ingress : Option Reason) → IsPolicyAnswer d.tables a v egress ingress → IsKubernetesVerdict s.resources a v
+sound-kubernetes dg s g d is same a new v egress ingress answer K converted plain =
+    let known = sound-policy dg s g d is same a new v egress ingress answer in
+    known.same_verdict ∙ kubernetes_verdict_is_kept K s.resources a converted plain
 
 -- the same agent
 pub agent-same : (dg : Digest) (s : Store) (g h : GraphState) (d e : Driver) (failed : Bool) → IsAgent dg s g d failed → h ≡ g → e ≡ d → IsAgent dg s h e failed

@@ -3,9 +3,13 @@ use Rattle.std.specs.Prelude.{◌≡◌, ◌⊎◌, ℕ, Bool, true, false, Opti
 use Rattle.fx_base.specs.Streams.{Rose}
 use Rattle.fx_names.specs.Claims.{Clash}
 use Rattle.fx_model.specs.declared.chain.Reason.{Reason}
+use Rattle.fx_model.specs.declared.packet.Packet.{Packet}
 use Rattle.fx_model.specs.declared.packet.Verdict.{Verdict}
+use Rattle.fx_model.specs.declared.resources.Resources.{Resources}
 use Rattle.fx_model.specs.Messages.{Change}
 use Rattle.fx_model.specs.Policy.{Outcome}
+use Rattle.fx_k8s.specs.Clusters.{IsConverted, IsPlain}
+use Rattle.fx_k8s.specs.KubeVerdict.{Cluster, kubernetes_verdict}
 use Rattle.fx_store.specs.declared.fault.CheckFault.{CheckFault}
 use Rattle.fx_store.specs.declared.fault.CheckFault.TheVariants as check
 use Rattle.fx_agent.specs.declared.faults.OutFault.{OutFault}
@@ -73,3 +77,8 @@ pub record IsAnswer (outcome : Outcome) (verdict : Verdict) (egress ingress : Op
   pub same_verdict : verdict ≡ outcome.verdict
   pub same_egress : egress ≡ outcome.egress
   pub same_ingress : ingress ≡ outcome.ingress
+
+-- The verdict is Kubernetes' on each cluster that becomes the resources, by Kubernetes' API reference (`networking.k8s.io/v1`). Which
+-- rule decides, that reference doesn't say.
+abbrev pub IsKubernetesVerdict : Resources → Packet → Verdict → Type 0
+IsKubernetesVerdict R a verdict = (K : Cluster) → IsConverted K R → IsPlain K → verdict ≡ kubernetes_verdict K a

@@ -17,7 +17,7 @@ ghost use Rattle.fx_model.specs.Views.{empty_view};
 ghost use Rattle.fx_model.specs.declared.packet.State.TheVariants as state;
 ghost use Rattle.fx_store.specs.Checking.{Tells};
 ghost use Rattle.fx_graph.specs.Graphs.{sides_of};
-ghost use Rattle.fx_agent.specs.Answers.{IsAnswer, IsUpdateCause, StaysIfTaken, UpdateLeaves};
+ghost use Rattle.fx_agent.specs.Answers.{IsAnswer, IsKubernetesVerdict, IsUpdateCause, StaysIfTaken, UpdateLeaves};
 ghost use Rattle.fx_agent.specs.Sound.{IsAgent, IsSound};
 
 use crate::faults::UpdateFault;
@@ -130,6 +130,11 @@ impl<R: DigestRule, F: DigestFunction<R> + Drop> Agent<R, F> {
             → (sides_of self.now.graph.state).sent ≡ (sides_of self.now.graph.state).now → packet.now.state ≡ state.New
             → IsAnswer (packet_verdict self.now.store.resources packet.now)
             result.verdict (option_copied result.egress) (option_copied result.ingress) }
+
+        // Where moreover the resources are what a cluster becomes, the verdict is Kubernetes'.
+        ensures kubernetes { self.now.failed ≡ false
+            → (sides_of self.now.graph.state).sent ≡ (sides_of self.now.graph.state).now → packet.now.state ≡ state.New
+            → IsKubernetesVerdict self.now.store.resources packet.now result.verdict }
     {
         decide(self.driver.tables(), packet)
     }

@@ -8,7 +8,7 @@ use Rattle.fx_selector.specs.Tree.{IsString, AreStrings}
 use Rattle.fx_selector.proofs.Literals.{string_test, literal_string}
 use Rattle.fx_fields.specs.declared.names.NamespacedName.{NamespacedName}
 use Rattle.fx_fields.specs.declared.texts.TextForm.TheVariants.{Namespace}
-use Rattle.fx_fields.specs.Forms.{is_name_byte, is_namespace_byte, has_length, is_name, is_namespace, text}
+use Rattle.fx_fields.specs.Forms.{is_name_byte, is_namespace_byte, has_length, is_name, is_namespace, is_label_value, text}
 use Rattle.fx_fields.specs.Fields.{required, section}
 use Rattle.fx_fields.specs.Names.{name_at, namespaced_name, namespaced_name_in}
 use Rattle.fx_fields.proofs.Readings.{then-if, read-if, required-if, both, first_of, second_of, text-formed}
@@ -40,6 +40,17 @@ pub names-strings : (names : List (List ℕ)) → list_all is_name names ≡ tru
 names-strings [] e = tt
 names-strings (s ∷ ss) e =
     (name-string s (first_of (is_name s) (list_all is_name ss) e), names-strings ss (second_of (is_name s) (list_all is_name ss) e))
+
+-- ---- values of labels
+
+pub label_value-string : (s : List ℕ) → is_label_value s ≡ true → IsString s
+label_value-string s e =
+    literal_string s (all_pass is_name_byte string_test plain_name_byte s (second_of (has_length 0 63 s) (list_all is_name_byte s) e))
+
+pub label_values-strings : (values : List (List ℕ)) → list_all is_label_value values ≡ true → AreStrings values
+label_values-strings [] e = tt
+label_values-strings (s ∷ ss) e =
+    (label_value-string s (first_of (is_label_value s) (list_all is_label_value ss) e), label_values-strings ss (second_of (is_label_value s) (list_all is_label_value ss) e))
 
 -- ---- of a name that was read
 

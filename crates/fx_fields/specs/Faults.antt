@@ -1,7 +1,7 @@
 -- The numbers and names of faults. docs/INPUT.md of this repository is their public source.
 use Rattle.std.specs.Prelude.{◌≡◌, ◌⊎◌, ℕ, List, Bool, true, false, codes, Option, Some, None, Result, Ok, Err}
 use Rattle.fx_fields.specs.declared.fault.ReadFault.{ReadFault}
-use Rattle.fx_fields.specs.declared.fault.ReadFault.TheVariants.{UnknownKind, MissingField, BadField, BadSelector, Unsupported, PortsWithoutProtocol, IcmpWithoutProtocol, PassInProfile, Memory}
+use Rattle.fx_fields.specs.declared.fault.ReadFault.TheVariants.{UnknownKind, MissingField, BadField, BadSelector, Unsupported, PortsWithoutProtocol, IcmpWithoutProtocol, PassInProfile, BlockWithSelector, BadEndPort, BadExpression, Memory}
 
 abbrev pub fault_number : ReadFault → ℕ
 fault_number UnknownKind = 1
@@ -12,6 +12,9 @@ fault_number (Unsupported path) = 5
 fault_number (PortsWithoutProtocol path) = 6
 fault_number (IcmpWithoutProtocol path) = 7
 fault_number (PassInProfile path) = 8
+fault_number (BlockWithSelector path) = 10
+fault_number (BadEndPort path) = 11
+fault_number (BadExpression path) = 12
 fault_number Memory = 9
 
 abbrev pub fault_name : ReadFault → List ℕ
@@ -23,6 +26,9 @@ fault_name (Unsupported path) = codes "Unsupported"
 fault_name (PortsWithoutProtocol path) = codes "PortsWithoutProtocol"
 fault_name (IcmpWithoutProtocol path) = codes "IcmpWithoutProtocol"
 fault_name (PassInProfile path) = codes "PassInProfile"
+fault_name (BlockWithSelector path) = codes "BlockWithSelector"
+fault_name (BadEndPort path) = codes "BadEndPort"
+fault_name (BadExpression path) = codes "BadExpression"
 fault_name Memory = codes "Memory"
 
 -- where the value at fault stands
@@ -35,6 +41,9 @@ path_of (Unsupported path) = Some path
 path_of (PortsWithoutProtocol path) = Some path
 path_of (IcmpWithoutProtocol path) = Some path
 path_of (PassInProfile path) = Some path
+path_of (BlockWithSelector path) = Some path
+path_of (BadEndPort path) = Some path
+path_of (BadExpression path) = Some path
 path_of Memory = None
 
 -- where a selector's text is at fault: so many bytes of it come before
@@ -47,6 +56,9 @@ place_of (Unsupported path) = None
 place_of (PortsWithoutProtocol path) = None
 place_of (IcmpWithoutProtocol path) = None
 place_of (PassInProfile path) = None
+place_of (BlockWithSelector path) = None
+place_of (BadEndPort path) = None
+place_of (BadExpression path) = None
 place_of Memory = None
 
 abbrev pub is_memory : ReadFault → Bool
@@ -58,6 +70,9 @@ is_memory (Unsupported path) = false
 is_memory (PortsWithoutProtocol path) = false
 is_memory (IcmpWithoutProtocol path) = false
 is_memory (PassInProfile path) = false
+is_memory (BlockWithSelector path) = false
+is_memory (BadEndPort path) = false
+is_memory (BadExpression path) = false
 is_memory Memory = true
 
 -- What code answers where a value isn't read: the fault, unless memory is wanted.

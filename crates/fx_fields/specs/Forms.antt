@@ -4,7 +4,7 @@ use Rattle.std.specs.List.{list_all, starts_with}
 use Rattle.std.specs.Char.{is_ascii_digit, is_ascii_lowercase, is_ascii_uppercase}
 use Rattle.serde_json.specs.Find.{as_str}
 use Rattle.fx_fields.specs.declared.texts.TextForm.{TextForm}
-use Rattle.fx_fields.specs.declared.texts.TextForm.TheVariants.{Name, Namespace, Interface, WorkloadInterface, PortName}
+use Rattle.fx_fields.specs.declared.texts.TextForm.TheVariants.{Name, Namespace, Interface, WorkloadInterface, PortName, LabelValue}
 use Rattle.fx_fields.specs.Fields.{Reader, formed}
 
 -- ---- bytes
@@ -42,12 +42,17 @@ is_workload_interface s = is_interface s && starts_with nat_eq s (codes "cali")
 abbrev pub is_port_name : List ℕ → Bool
 is_port_name s = has_length 1 128 s && list_all is_name_byte s && not (list_all is_ascii_digit s)
 
+-- a label's value has at most 63 bytes
+abbrev pub is_label_value : List ℕ → Bool
+is_label_value s = has_length 0 63 s && list_all is_name_byte s
+
 abbrev pub is_in : TextForm → List ℕ → Bool
 is_in Name = is_name
 is_in Namespace = is_namespace
 is_in Interface = is_interface
 is_in WorkloadInterface = is_workload_interface
 is_in PortName = is_port_name
+is_in LabelValue = is_label_value
 
 -- ---- reading them
 

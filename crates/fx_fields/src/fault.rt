@@ -19,6 +19,9 @@ pub enum ReadFault {
     PortsWithoutProtocol { path: Text },
     IcmpWithoutProtocol { path: Text },
     PassInProfile { path: Text },
+    BlockWithSelector { path: Text },
+    BadEndPort { path: Text },
+    BadExpression { path: Text },
     Memory,
 }
 
@@ -36,6 +39,9 @@ impl ReadFault {
             ReadFault::PortsWithoutProtocol { .. } => 6,
             ReadFault::IcmpWithoutProtocol { .. } => 7,
             ReadFault::PassInProfile { .. } => 8,
+            ReadFault::BlockWithSelector { .. } => 10,
+            ReadFault::BadEndPort { .. } => 11,
+            ReadFault::BadExpression { .. } => 12,
             ReadFault::Memory => 9,
         }
     }
@@ -52,6 +58,9 @@ impl ReadFault {
             ReadFault::PortsWithoutProtocol { .. } => b"PortsWithoutProtocol",
             ReadFault::IcmpWithoutProtocol { .. } => b"IcmpWithoutProtocol",
             ReadFault::PassInProfile { .. } => b"PassInProfile",
+            ReadFault::BlockWithSelector { .. } => b"BlockWithSelector",
+            ReadFault::BadEndPort { .. } => b"BadEndPort",
+            ReadFault::BadExpression { .. } => b"BadExpression",
             ReadFault::Memory => b"Memory",
         }
     }
@@ -68,7 +77,10 @@ impl ReadFault {
             | ReadFault::Unsupported { path }
             | ReadFault::PortsWithoutProtocol { path }
             | ReadFault::IcmpWithoutProtocol { path }
-            | ReadFault::PassInProfile { path } => Some(path),
+            | ReadFault::PassInProfile { path }
+            | ReadFault::BlockWithSelector { path }
+            | ReadFault::BadEndPort { path }
+            | ReadFault::BadExpression { path } => Some(path),
         }
     }
 

@@ -2,15 +2,13 @@
 ghost use Rattle.std.specs.Prelude.{◌≡◌, option_map};
 ghost use Rattle.serde_json.specs.View.{view};
 ghost use Rattle.fx_fields.specs.Faults.{IsAnswerOf};
-ghost use Rattle.fx_fields.specs.Kinds.{unread_kind, calico_kind, core_kind, network_kind, kind_named, text_at, kind_of};
+ghost use Rattle.fx_fields.specs.Kinds.{calico_kind, core_kind, network_kind, kind_named, kubernetes_kind_named, kubernetes_kind, text_at, kind_of};
 
 use crate::fault::ReadFault;
 use crate::fields::field;
-use crate::path::Path;
 use serde_json::Value;
-use std::alloc::Global;
 
-/// The kinds that are read.
+/// Calico's kinds.
 #[derive(Clone, Copy)]
 pub enum Kind {
     Profile,
@@ -22,9 +20,9 @@ pub enum Kind {
     GlobalNetworkSet,
 }
 
-/// The kind of a resource, if it is one that is read.
+/// The kind of a resource, if it is one of Calico's.
 #[tactic(auto, unfolding(crate::specs::Kinds::kind_of))]
-pub fn kind_of(alloc: Global, resource: &Value) -> Result<Kind, ReadFault>
+pub fn kind_of(resource: &Value) -> Result<Kind, ReadFault>
     ensures { IsAnswerOf (kind_of (view resource.now)) result }
 {
     let Some(version) = text_at(resource, "apiVersion") else {
@@ -33,22 +31,21 @@ pub fn kind_of(alloc: Global, resource: &Value) -> Result<Kind, ReadFault>
     let Some(kind) = text_at(resource, "kind") else {
         return Err(ReadFault::UnknownKind);
     };
-    kind_named(alloc, version, kind)
+    kind_named(version, kind)
 }
 
-fn text_at<'v>(object: &'v Value, key: &str) -> Option<&'v str>
+/// The text of this name.
+pub fn text_at<'v>(object: &'v Value, key: &str) -> Option<&'v str>
     ensures { option_map (λ text. text.now) result ≡ text_at key.now (view object.now) }
 {
     field(object, key)?.as_str()
 }
 
-fn kind_named(alloc: Global, version: &str, kind: &str) -> Result<Kind, ReadFault>
+fn kind_named(version: &str, kind: &str) -> Result<Kind, ReadFault>
     ensures { IsAnswerOf (kind_named version.now kind.now) result }
 {
     match version {
         "projectcalico.org/v3" => calico_kind(kind),
-        "v1" => core_kind(alloc, kind),
-        "networking.k8s.io/v1" => network_kind(alloc, kind),
         _ => Err(ReadFault::UnknownKind),
     }
 }
@@ -69,31 +66,51 @@ fn calico_kind(kind: &str) -> Result<Kind, ReadFault>
     }
 }
 
+// ---- Kubernetes' kinds
+
+/// The kinds of Kubernetes that select or name workloads.
+#[derive(Clone, Copy)]
+pub enum KubernetesKind {
+    Namespace,
+    ServiceAccount,
+    NetworkPolicy,
+}
+
+/// The kind of a resource of Kubernetes, if it is one that is read.
+pub fn kubernetes_kind(resource: &Value) -> Option<KubernetesKind>
+    ensures { result ≡ kubernetes_kind (view resource.now) }
+{
+    let version = text_at(resource, "apiVersion")?;
+    let kind = text_at(resource, "kind")?;
+    kubernetes_kind_named(version, kind)
+}
+
+fn kubernetes_kind_named(version: &str, kind: &str) -> Option<KubernetesKind>
+    ensures { result ≡ kubernetes_kind_named version.now kind.now }
+{
+    match version {
+        "v1" => core_kind(kind),
+        "networking.k8s.io/v1" => network_kind(kind),
+        _ => None,
+    }
+}
+
 #[tactic(auto, unfolding(crate::specs::Kinds::core_kind))]
-fn core_kind(alloc: Global, kind: &str) -> Result<Kind, ReadFault>
-    ensures { IsAnswerOf (core_kind kind.now) result }
+fn core_kind(kind: &str) -> Option<KubernetesKind>
+    ensures { result ≡ core_kind kind.now }
 {
     match kind {
-        "Namespace" | "ServiceAccount" => unread_kind(alloc),
-        _ => Err(ReadFault::UnknownKind),
+        "Namespace" => Some(KubernetesKind::Namespace),
+        "ServiceAccount" => Some(KubernetesKind::ServiceAccount),
+        _ => None,
     }
 }
 
-#[tactic(auto, unfolding(crate::specs::Kinds::network_kind))]
-fn network_kind(alloc: Global, kind: &str) -> Result<Kind, ReadFault>
-    ensures { IsAnswerOf (network_kind kind.now) result }
+fn network_kind(kind: &str) -> Option<KubernetesKind>
+    ensures { result ≡ network_kind kind.now }
 {
     match kind {
-        "NetworkPolicy" => unread_kind(alloc),
-        _ => Err(ReadFault::UnknownKind),
+        "NetworkPolicy" => Some(KubernetesKind::NetworkPolicy),
+        _ => None,
     }
-}
-
-// A kind that is known and isn't read yet.
-fn unread_kind(alloc: Global) -> Result<Kind, ReadFault>
-    ensures { IsAnswerOf unread_kind result }
-{
-    Err(ReadFault::Unsupported {
-        path: Path::top("kind").text(alloc)?,
-    })
 }

@@ -7,7 +7,7 @@ pub use fields::{
     Form, UnreadForm, defaulted, field, formed, has_members, is_absent, is_given, items, list_at,
     object, optional, read_items, required, section,
 };
-pub use kinds::{Kind, kind_of};
+pub use kinds::{Kind, KubernetesKind, kind_of, kubernetes_kind, text_at};
 pub use labels::{in_namespace, labels_at, own_labels};
 pub use laws::selectors_are_read;
 pub use metadata::{GlobalMetadata, Metadata, global_metadata_in, metadata_in};
@@ -19,10 +19,10 @@ pub use policy_fields::{
     read_flags, read_place,
 };
 pub use refusal::Refusal;
-pub use rule_form::RuleForm;
-pub use selectors::{global_selector, namespaced_selector};
+pub use rule_form::{OwnNamespace, RuleForm};
+pub use selectors::{global_selector, namespaced_selector, of_namespace, push_given};
 pub use side_selectors::{SideSelectors, read_selectors};
-pub use texts::{TextForm, is_name, is_port_name};
+pub use texts::{TextForm, is_label_value, is_name, is_port_name};
 pub use values::{
     AddressForm, ByteForm, HostForm, NetForm, ProtocolForm, VersionForm, WordForm, one_port,
     ports_in, protocol_in, word_in,

@@ -183,6 +183,7 @@ fn all_parts(
     Selector::and(alloc, parts)
 }
 
+/// A part more, if one is given.
 pub fn push_given(parts: &mut Vec<Selector>, part: Option<Selector>) -> Result<(), Memory>
     requires parts { All (λ t. height t ≤ 139) parts.old.items }
     requires part { IfSome part (λ t. height t ≤ 139) }

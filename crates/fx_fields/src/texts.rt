@@ -4,7 +4,7 @@ ghost use Rattle.std.specs.List.{list_all};
 ghost use Rattle.std.specs.Char.{is_ascii_digit};
 ghost use Rattle.serde_json.specs.Find.{as_str};
 ghost use Rattle.serde_json.specs.View.{view};
-ghost use Rattle.fx_fields.specs.Forms.{is_name_byte, is_namespace_byte, has_length, is_name, is_namespace, is_interface, is_workload_interface, is_port_name, is_in, passing, text};
+ghost use Rattle.fx_fields.specs.Forms.{is_name_byte, is_namespace_byte, has_length, is_name, is_namespace, is_interface, is_workload_interface, is_port_name, is_label_value, is_in, passing, text};
 
 use crate::fault::ReadFault;
 use crate::fields::{Form, formed};
@@ -21,6 +21,7 @@ pub enum TextForm {
     Interface,
     WorkloadInterface,
     PortName,
+    LabelValue,
 }
 
 impl Form for TextForm {
@@ -56,6 +57,7 @@ fn is_in(form: TextForm, text: &[u8]) -> bool
         TextForm::Interface => is_interface(text),
         TextForm::WorkloadInterface => is_workload_interface(text),
         TextForm::PortName => is_port_name(text),
+        TextForm::LabelValue => is_label_value(text),
     }
 }
 
@@ -106,6 +108,16 @@ pub fn is_port_name(text: &[u8]) -> bool
         return false;
     }
     !are_digits(text)
+}
+
+/// Whether a label may have this value in Kubernetes.
+pub fn is_label_value(text: &[u8]) -> bool
+    ensures { result ≡ is_label_value text.now }
+{
+    if !has_length(text, 0, 63) {
+        return false;
+    }
+    are_name_bytes(text)
 }
 
 // ---- bytes

@@ -1,6 +1,6 @@
 -- Each update that is read is formed: a namespace holds no `/`, and an item is of its key's kind. It puts no endpoint on an
 -- interface that isn't one of workloads, either.
-use Rattle.std.proofs.Common.{◌≡◌, ℕ, List, true, Result, Ok, Err, IfOk, refl}
+use Rattle.std.proofs.Common.{◌≡◌, ℕ, List, true, Option, Some, None, Result, Ok, Err, IfOk, refl}
 use Rattle.std.specs.Prelude.{codes}
 use Rattle.std.specs.List.{list_all}
 use Rattle.serde_json.specs.Data.{Data}
@@ -13,13 +13,16 @@ use Rattle.fx_fields.specs.declared.fault.ReadFault.{ReadFault}
 use Rattle.fx_fields.specs.Faults.{IsAnswerOf}
 use Rattle.fx_fields.specs.declared.kinds.Kind.{Kind}
 use Rattle.fx_fields.specs.declared.kinds.Kind.TheVariants.{Profile as AProfile, WorkloadEndpoint, Tier as ATier, GlobalNetworkPolicy, NetworkPolicy, NetworkSet, GlobalNetworkSet}
+use Rattle.fx_fields.specs.declared.kinds.KubernetesKind.{KubernetesKind}
+use Rattle.fx_fields.specs.declared.kinds.KubernetesKind.TheVariants as kubernetes
 use Rattle.fx_fields.specs.declared.rule_form.RuleForm.TheVariants.{OfProfile}
 use Rattle.fx_fields.specs.Fields.{items, section}
 use Rattle.fx_fields.specs.Labels.{labels_at}
 use Rattle.fx_json.specs.Rules.{rule}
 use Rattle.fx_fields.specs.Names.{name_at, namespaced_name, name_in}
-use Rattle.fx_fields.specs.Kinds.{kind_of}
-use Rattle.fx_json.specs.Resources.{profile_of, profile_put, put_of, resource_of, key_of, delete_of, key_in, profile_in}
+use Rattle.fx_fields.specs.Kinds.{kind_of, kubernetes_kind}
+use Rattle.fx_json.specs.Resources.{profile_of, profile_put, put_of, resource_of, key_of, calico_delete, kubernetes_delete, delete_of, key_in, profile_in}
+use Rattle.fx_json.specs.Kubernetes.{kubernetes_key_of, kubernetes_key_in}
 use Rattle.fx_fields.proofs.Readings.{then-if, read-if, both, items-each}
 use Rattle.fx_json.proofs.FormedNames.{named-formed}
 use Rattle.fx_json.proofs.FormedRules.{profile_rule-formed}
@@ -75,6 +78,16 @@ key_in-formed : (kind : Kind) (d : Data) → IfOk (key_in kind d) (λ k. is_form
 unfolding key_in
 key_in-formed kind d = then-if (λ k. is_formed_key k ≡ true) (section (codes "metadata") (codes "metadata") d) _ (λ metadata _. key_of-formed kind (codes "metadata") metadata)
 
+kubernetes_key_of-formed : (kind : KubernetesKind) (path : List ℕ) (d : Data) → IfOk (kubernetes_key_of kind path d) IsFormedKey
+kubernetes_key_of-formed kubernetes.Namespace path d = then-if IsFormedKey (name_at path d) _ (λ name _. refl)
+kubernetes_key_of-formed kubernetes.ServiceAccount path d = then-if IsFormedKey (namespaced_name path d) _ (λ named _. refl)
+kubernetes_key_of-formed kubernetes.NetworkPolicy path d = then-if IsFormedKey (namespaced_name path d) _ (λ named is. named-formed path d named is)
+
+kubernetes_key_in-formed : (kind : KubernetesKind) (d : Data) → IfOk (kubernetes_key_in kind d) IsFormedKey
+unfolding kubernetes_key_in
+kubernetes_key_in-formed kind d =
+    then-if IsFormedKey (section (codes "metadata") (codes "metadata") d) _ (λ metadata _. kubernetes_key_of-formed kind (codes "metadata") metadata)
+
 -- ---- puts and deletes
 
 put_of-formed : (kind : Kind) (d : Data) → IfOk (put_of kind d) IsTakable
@@ -90,12 +103,26 @@ pub resource_of-takable : (d : Data) → IfOk (resource_of d) IsTakable
 unfolding resource_of
 resource_of-takable d = then-if IsTakable (kind_of d) _ (λ kind _. put_of-formed kind d)
 
-pub delete_of-takable : (d : Data) → IfOk (delete_of d) IsTakable
-unfolding delete_of
-delete_of-takable d =
+calico_delete-takable : (d : Data) → IfOk (calico_delete d) IsTakable
+unfolding calico_delete
+calico_delete-takable d =
     then-if IsTakable (kind_of d) _ (λ kind _.
     then-if IsTakable (key_in kind d) _ (λ k k_read.
     (read-if (λ (k : Key). is_formed_key k ≡ true) (key_in kind d) k (key_in-formed kind d) k_read, λ node. refl)))
+
+kubernetes_delete-takable : (kind : KubernetesKind) (d : Data) → IfOk (kubernetes_delete kind d) IsTakable
+unfolding kubernetes_delete
+kubernetes_delete-takable kind d =
+    then-if IsTakable (kubernetes_key_in kind d) _ (λ k k_read.
+    (read-if IsFormedKey (kubernetes_key_in kind d) k (kubernetes_key_in-formed kind d) k_read, λ node. refl))
+
+pub delete_of-takable : (d : Data) → IfOk (delete_of d) IsTakable
+unfolding delete_of
+delete_of-takable d =
+    elim (kubernetes_kind d) as (λ o. IfOk (elim o [ Some kind ↦ kubernetes_delete kind d | None ↦ calico_delete d ]) IsTakable) [
+      | Some kind ↦ kubernetes_delete-takable kind d
+      | None ↦ calico_delete-takable d
+    ]
 
 first-if : (answer : Result Update ReadFault) → IfOk answer IsTakable → IfOk answer (λ u. is_formed u ≡ true)
 first-if (Ok u) is = is.0

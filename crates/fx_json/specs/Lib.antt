@@ -4,5 +4,6 @@ pub mod Rules
 pub mod Policies
 pub mod Endpoints
 pub mod NetSets
+pub mod Kubernetes
 pub mod Resources
 pub mod Packets

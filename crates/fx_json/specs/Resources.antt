@@ -1,6 +1,6 @@
--- A resource, by its kind, and a Profile field by field in the order of Calico's resource reference
+-- A resource of Calico, by its kind, what a delete names, and a Profile field by field in the order of Calico's resource reference
 -- (`projectcalico.org/v3`). Members that aren't named here are ignored.
-use Rattle.std.specs.Prelude.{Result, Ok, codes}
+use Rattle.std.specs.Prelude.{Option, Some, None, Result, Ok, codes}
 use Rattle.serde_json.specs.Data.{Data}
 use Rattle.fx_model.specs.declared.ids.Key.{Key}
 use Rattle.fx_model.specs.declared.ids.Key.TheVariants as key
@@ -13,12 +13,14 @@ use Rattle.fx_fields.specs.declared.kinds.Kind.{Kind}
 use Rattle.fx_fields.specs.declared.kinds.Kind.TheVariants.{Profile as AProfile, WorkloadEndpoint, Tier as ATier, GlobalNetworkPolicy, NetworkPolicy, NetworkSet, GlobalNetworkSet}
 use Rattle.fx_fields.specs.declared.rule_form.RuleForm.TheVariants.{OfProfile}
 use Rattle.fx_fields.specs.Fields.{◌>>=◌, Reader, section, items}
-use Rattle.fx_fields.specs.Kinds.{kind_of}
+use Rattle.fx_fields.specs.declared.kinds.KubernetesKind.{KubernetesKind}
+use Rattle.fx_fields.specs.Kinds.{kind_of, kubernetes_kind}
 use Rattle.fx_fields.specs.Names.{name_at, namespaced_name, name_in}
 use Rattle.fx_fields.specs.Labels.{labels_at}
 use Rattle.fx_json.specs.Rules.{rule}
 use Rattle.fx_json.specs.Policies.{tier_put, global_key, global_policy_put, namespaced_key, namespaced_policy_put}
 use Rattle.fx_json.specs.Endpoints.{endpoint_key, endpoint_put}
+use Rattle.fx_json.specs.Kubernetes.{kubernetes_key_in}
 use Rattle.fx_json.specs.NetSets.{global_set_key, global_set_put, net_set_key, net_set_put}
 
 -- ---- profiles
@@ -54,7 +56,7 @@ put_of NetworkPolicy d = namespaced_policy_put d
 put_of NetworkSet d = net_set_put d
 put_of GlobalNetworkSet d = global_set_put d
 
--- what a put of a resource is read as
+-- what a put of a resource of Calico is read as
 unfoldable pub resource_of : Data → Result Update ReadFault
 resource_of d = do
   kind ← kind_of d
@@ -75,9 +77,21 @@ key_in kind d = do
   metadata ← section (codes "metadata") (codes "metadata") d
   key_of kind (codes "metadata") metadata
 
--- what a delete of a resource is read as
-unfoldable pub delete_of : Data → Result Update ReadFault
-delete_of d = do
+unfoldable pub calico_delete : Data → Result Update ReadFault
+calico_delete d = do
   kind ← kind_of d
   k ← key_in kind d
   Ok (update.Delete k)
+
+unfoldable pub kubernetes_delete : KubernetesKind → Data → Result Update ReadFault
+kubernetes_delete kind d = do
+  k ← kubernetes_key_in kind d
+  Ok (update.Delete k)
+
+-- what a delete of a resource is read as, one of Kubernetes or one of Calico
+unfoldable pub delete_of : Data → Result Update ReadFault
+delete_of d = by_kind (kubernetes_kind d)
+  where
+    by_kind : Option KubernetesKind → Result Update ReadFault
+    by_kind (Some kind) = kubernetes_delete kind d
+    by_kind None = calico_delete d

@@ -1,10 +1,12 @@
 //! Reads resources and packets from the values that `serde_json` makes of a line.
 #![tactic(auto)]
 
+pub use kubernetes::{account_key, kubernetes_policy_key, namespace_key};
 pub use packets::read_packet;
 pub use resources::{read_delete, read_resource};
 
 mod endpoints;
+mod kubernetes;
 mod net_sets;
 mod packets;
 mod policies;

@@ -4,21 +4,22 @@ ghost use Rattle.serde_json.specs.View.{view};
 ghost use Rattle.fx_model.specs.Formed.{is_formed, puts_workload_interface};
 ghost use Rattle.fx_fields.specs.Faults.{IsAnswerOf};
 ghost use Rattle.fx_fields.specs.Paths.{text_of};
-ghost use Rattle.fx_json.specs.Resources.{profile_of, profile_put, put_of, resource_of, key_of, delete_of, key_in, profile_in};
+ghost use Rattle.fx_json.specs.Resources.{profile_of, profile_put, put_of, resource_of, key_of, calico_delete, kubernetes_delete, delete_of, key_in, profile_in};
 
 use crate::endpoints::{endpoint_key, endpoint_put};
+use crate::kubernetes::kubernetes_key_in;
 use crate::net_sets::{global_set_key, global_set_put, net_set_key, net_set_put};
 use crate::policies::{global_policy_put, namespaced_key, namespaced_policy_put, tier_put};
 use crate::rules::RuleReader;
 use fx_fields::{
-    Kind, Path, ReadFault, RuleForm, items, kind_of, labels_at, name_at, name_in, namespaced_name,
-    section,
+    Kind, KubernetesKind, Path, ReadFault, RuleForm, items, kind_of, kubernetes_kind, labels_at,
+    name_at, name_in, namespaced_name, section,
 };
 use fx_model::{Item, Key, PolicyId, Profile, Update};
 use serde_json::Value;
 use std::alloc::Global;
 
-/// The update that a put of this resource is, or the first fault of the resource.
+/// The update that a put of this resource of Calico is, or the first fault of the resource.
 pub fn read_resource(alloc: Global, value: &Value) -> Result<Update, ReadFault>
     ensures answer { IsAnswerOf (resource_of (view value.now)) result }
     ensures formed { IfOk result (λ update. is_formed update ≡ true) }
@@ -31,7 +32,7 @@ pub fn read_resource(alloc: Global, value: &Value) -> Result<Update, ReadFault>
 fn put_of(alloc: Global, value: &Value) -> Result<Update, ReadFault>
     ensures { IsAnswerOf (resource_of (view value.now)) result }
 {
-    match kind_of(alloc, value)? {
+    match kind_of(value)? {
         Kind::Profile => profile_put(alloc, value),
         Kind::WorkloadEndpoint => endpoint_put(alloc, value),
         Kind::Tier => tier_put(alloc, value),
@@ -42,7 +43,7 @@ fn put_of(alloc: Global, value: &Value) -> Result<Update, ReadFault>
     }
 }
 
-/// The update that a delete of this resource is, or the first fault of what names the resource.
+/// The update that a delete of this resource of Calico or Kubernetes is, or the first fault of what names the resource.
 pub fn read_delete(alloc: Global, value: &Value) -> Result<Update, ReadFault>
     ensures answer { IsAnswerOf (delete_of (view value.now)) result }
     ensures formed { IfOk result (λ update. is_formed update ≡ true) }
@@ -55,8 +56,30 @@ pub fn read_delete(alloc: Global, value: &Value) -> Result<Update, ReadFault>
 fn delete_of(alloc: Global, value: &Value) -> Result<Update, ReadFault>
     ensures { IsAnswerOf (delete_of (view value.now)) result }
 {
-    let kind = kind_of(alloc, value)?;
+    match kubernetes_kind(value) {
+        Some(kind) => kubernetes_delete(alloc, kind, value),
+        None => calico_delete(alloc, value),
+    }
+}
+
+#[tactic(auto, unfolding(crate::specs::Resources::calico_delete))]
+fn calico_delete(alloc: Global, value: &Value) -> Result<Update, ReadFault>
+    ensures { IsAnswerOf (calico_delete (view value.now)) result }
+{
+    let kind = kind_of(value)?;
     let key = key_in(alloc, kind, value)?;
+    Ok(Update::Delete { key })
+}
+
+#[tactic(auto, unfolding(crate::specs::Resources::kubernetes_delete))]
+fn kubernetes_delete(
+    alloc: Global,
+    kind: KubernetesKind,
+    value: &Value,
+) -> Result<Update, ReadFault>
+    ensures { IsAnswerOf (kubernetes_delete kind (view value.now)) result }
+{
+    let key = kubernetes_key_in(alloc, kind, value)?;
     Ok(Update::Delete { key })
 }
 

@@ -12,8 +12,10 @@ use Rattle.fx_fields.specs.declared.refusal.Refusal.{Refusal}
 use Rattle.fx_fields.specs.declared.refusal.Refusal.TheVariants.{LineTooLong}
 use Rattle.fx_fields.specs.Fields.{field, is_object, has_members}
 use Rattle.fx_json.specs.Packets.{packet_of}
-use Rattle.fx_json.specs.Resources.{resource_of, delete_of}
-use Rattle.fx_json.proofs.FormedResources.{resource_of-formed, delete_of-formed, resource_of-workload, delete_of-workload}
+use Rattle.fx_json.specs.Resources.{delete_of}
+use Rattle.fx_k8s.specs.Puts.{put_of}
+use Rattle.fx_json.proofs.FormedResources.{delete_of-formed, delete_of-workload}
+use Rattle.fx_k8s.proofs.FormedPuts.{put_of-formed, put_of-workload}
 use Rattle.fx_lines.specs.declared.commands.Command.{Command}
 use Rattle.fx_lines.specs.declared.commands.Command.TheVariants as command
 use Rattle.fx_lines.specs.Formed.{is_formed_command, puts_on_workloads, IsReadCommand}
@@ -29,7 +31,7 @@ at_member-if P None answer others here there = there
 at_member-if P (Some d) answer others here there = here d
 
 -- what holds of each update that is read, and of each command that is none, holds of each command
-module _ (Q : Update → Type 0) (put : (d : Data) → IfOk (resource_of d) Q) (delete : (d : Data) → IfOk (delete_of d) Q) (P : Command → Type 0) (of_update : (u : Update) → Q u → P (command.Update u)) (of_mark : P (command.Update update.InSync)) (of_packet : (a : Packet) → P (command.Packet a)) (of_blank : P command.Blank) (of_flush : P command.Flush) (of_tables : P command.Tables) where
+module _ (Q : Update → Type 0) (put : (d : Data) → IfOk (put_of d) Q) (delete : (d : Data) → IfOk (delete_of d) Q) (P : Command → Type 0) (of_update : (u : Update) → Q u → P (command.Update u)) (of_mark : P (command.Update update.InSync)) (of_packet : (a : Packet) → P (command.Packet a)) (of_blank : P command.Blank) (of_flush : P command.Flush) (of_tables : P command.Tables) where
   update_answer-if : (answer : Result Update ReadFault) → IfOk answer Q → IfOk (update_answer answer) P
   update_answer-if (Ok u) holds = of_update u holds
   update_answer-if (Err fault) holds = tt
@@ -41,7 +43,7 @@ module _ (Q : Update → Type 0) (put : (d : Data) → IfOk (resource_of d) Q) (
   by_name-if : (d : Data) → IfOk (by_name d) P
   unfolding by_name
   by_name-if d =
-      at_member-if P (field (codes "put") d) _ _ (λ v. shaped-if P (is_object v) _ (update_answer-if (resource_of v) (put v)))
+      at_member-if P (field (codes "put") d) _ _ (λ v. shaped-if P (is_object v) _ (update_answer-if (put_of v) (put v)))
       (at_member-if P (field (codes "delete") d) _ _ (λ v. shaped-if P (is_object v) _ (update_answer-if (delete_of v) (delete v)))
       (at_member-if P (field (codes "inSync") d) _ _ (λ v. shaped-if P (is_true v) _ of_mark)
       (at_member-if P (field (codes "flush") d) _ _ (λ v. shaped-if P (has_members 0 v) _ of_flush)
@@ -80,12 +82,12 @@ both-read (Err r) formed standing = tt
 pub of_value-read : (o : Option Data) → IfOk (of_value o) IsReadCommand
 of_value-read o =
     both-read (of_value o)
-    (of_value-if (λ u. is_formed u ≡ true) resource_of-formed delete_of-formed FormedCommand (λ u formed. formed) refl (λ a. refl) refl refl refl o)
-    (λ node. of_value-if (λ u. puts_workload_interface node u ≡ true) (resource_of-workload node) (delete_of-workload node) (OnWorkloads node) (λ u standing. standing) refl (λ a. refl) refl refl refl o)
+    (of_value-if (λ u. is_formed u ≡ true) put_of-formed delete_of-formed FormedCommand (λ u formed. formed) refl (λ a. refl) refl refl refl o)
+    (λ node. of_value-if (λ u. puts_workload_interface node u ≡ true) (put_of-workload node) (delete_of-workload node) (OnWorkloads node) (λ u standing. standing) refl (λ a. refl) refl refl refl o)
 
 -- a line whose answer is a command gives one that is read so
 pub command_of-read : (line : List ℕ) → IfOk (command_of line) IsReadCommand
 command_of-read line =
     both-read (command_of line)
-    (command_of-if (λ u. is_formed u ≡ true) resource_of-formed delete_of-formed FormedCommand (λ u formed. formed) refl (λ a. refl) refl refl refl line)
-    (λ node. command_of-if (λ u. puts_workload_interface node u ≡ true) (resource_of-workload node) (delete_of-workload node) (OnWorkloads node) (λ u standing. standing) refl (λ a. refl) refl refl refl line)
+    (command_of-if (λ u. is_formed u ≡ true) put_of-formed delete_of-formed FormedCommand (λ u formed. formed) refl (λ a. refl) refl refl refl line)
+    (λ node. command_of-if (λ u. puts_workload_interface node u ≡ true) (put_of-workload node) (delete_of-workload node) (OnWorkloads node) (λ u standing. standing) refl (λ a. refl) refl refl refl line)

@@ -15,7 +15,8 @@ use Rattle.fx_fields.specs.declared.refusal.Refusal.{Refusal}
 use Rattle.fx_fields.specs.declared.refusal.Refusal.TheVariants.{Read, LineTooLong, BadJson, BadLine}
 use Rattle.fx_fields.specs.Fields.{field, is_object, has_members}
 use Rattle.fx_json.specs.Packets.{packet_of}
-use Rattle.fx_json.specs.Resources.{resource_of, delete_of}
+use Rattle.fx_json.specs.Resources.{delete_of}
+use Rattle.fx_k8s.specs.Puts.{put_of}
 use Rattle.fx_lines.specs.Lines.{line_limit}
 
 -- spaces, tabs and carriage returns
@@ -54,7 +55,7 @@ packet_answer (Err fault) = Err (Read fault)
 -- by the name of the one member
 unfoldable pub by_name : Data → Result Command Refusal
 by_name d =
-    at_member (field (codes "put") d) (λ v. shaped (is_object v) (update_answer (resource_of v)))
+    at_member (field (codes "put") d) (λ v. shaped (is_object v) (update_answer (put_of v)))
     (at_member (field (codes "delete") d) (λ v. shaped (is_object v) (update_answer (delete_of v)))
     (at_member (field (codes "inSync") d) (λ v. shaped (is_true v) (Ok (command.Update update.InSync)))
     (at_member (field (codes "flush") d) (λ v. shaped (has_members 0 v) (Ok command.Flush))

@@ -5,13 +5,15 @@ ghost use Rattle.serde_json.specs.View.{view};
 ghost use Rattle.fx_fields.specs.Fields.{is_object};
 ghost use Rattle.fx_json.specs.Packets.{packet_of};
 ghost use Rattle.fx_fields.specs.Refusals.{Refuses};
-ghost use Rattle.fx_json.specs.Resources.{resource_of, delete_of};
+ghost use Rattle.fx_json.specs.Resources.{delete_of};
+ghost use Rattle.fx_k8s.specs.Puts.{put_of};
 ghost use Rattle.fx_lines.specs.Commands.{is_blank_byte, is_true, by_name, command_of, shaped, of_value, update_answer, packet_answer};
 ghost use Rattle.fx_lines.specs.Formed.{IsReadCommand};
 
 use crate::lines::is_too_long;
 use fx_fields::{ReadFault, Refusal, field, has_members};
-use fx_json::{read_delete, read_packet, read_resource};
+use fx_json::{read_delete, read_packet};
+use fx_k8s::read_put;
 use fx_model::{Packet, Update};
 use serde_json::Value;
 use std::alloc::Global;
@@ -85,12 +87,12 @@ fn command_by_name(alloc: Global, value: &Value) -> Result<Command, Refusal>
 }
 
 fn put_command(alloc: Global, resource: &Value) -> Result<Command, Refusal>
-    ensures { Refuses (shaped (is_object (view resource.now)) (update_answer (resource_of (view resource.now)))) result }
+    ensures { Refuses (shaped (is_object (view resource.now)) (update_answer (put_of (view resource.now)))) result }
 {
     if !resource.is_object() {
         return Err(Refusal::BadLine);
     }
-    Ok(Command::Update(read_resource(alloc, resource)?))
+    Ok(Command::Update(read_put(alloc, resource)?))
 }
 
 fn delete_command(alloc: Global, resource: &Value) -> Result<Command, Refusal>

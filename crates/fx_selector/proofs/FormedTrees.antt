@@ -28,15 +28,15 @@ key_tested : (k : List ℕ) → IsKey k → is_key_text k ≡ true
 key_tested [] h = absurd (omega (arith, h.1))
 key_tested (c ∷ cs) h = each_tested is_key (c ∷ cs) h.0
 
-tested_key : (k : List ℕ) → is_key_text k ≡ true → IsKey k
+pub tested_key : (k : List ℕ) → is_key_text k ≡ true → IsKey k
 tested_key [] h = cc
 tested_key (c ∷ cs) h = (tested_each is_key (c ∷ cs) h, omega (arith, h))
 
-strings_tested : (vs : List (List ℕ)) → AreStrings vs → list_all is_string vs ≡ true
+pub strings_tested : (vs : List (List ℕ)) → AreStrings vs → list_all is_string vs ≡ true
 strings_tested [] h = refl
 strings_tested (v ∷ vs) h = both_hold (is_string v) (list_all is_string vs) (each_tested (is_text (quote_of v)) v h.0) (strings_tested vs h.1)
 
-tested_strings : (vs : List (List ℕ)) → list_all is_string vs ≡ true → AreStrings vs
+pub tested_strings : (vs : List (List ℕ)) → list_all is_string vs ≡ true → AreStrings vs
 tested_strings [] h = tt
 tested_strings (v ∷ vs) h = let p = both_pass (is_string v) (list_all is_string vs) h in (tested_each (is_text (quote_of v)) v p.0, tested_strings vs p.1)
 

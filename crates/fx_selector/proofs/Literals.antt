@@ -4,6 +4,7 @@ use Rattle.std.proofs.lemmas.Bool.Decides.{nat_tests}
 use Rattle.std.specs.List.{list_all}
 use Rattle.fx_base.specs.Same.{both_pass}
 use Rattle.fx_selector.specs.Phrase.{Each, is_key, is_text}
+use Rattle.fx_selector.specs.Formed.{is_key_text}
 use Rattle.fx_selector.specs.Tree.{IsKey, IsString, quote_of}
 use Rattle.fx_selector.proofs.Language.{other_byte, key_is}
 use Rattle.fx_selector.proofs.Spelled.{no_double}
@@ -46,6 +47,11 @@ Each-list_all p (x ∷ xs) = (
 -- what a test of all bytes says of a key, and of a string
 pub key_by : (k : List ℕ) (r : Bool) → 0 < length k → r ≡ list_all (λ c. is_key c) k → (IsTrue r → IsKey k) × (IsKey k → IsTrue r)
 key_by k r h e = (λ t. ((Each-list_all (λ c. is_key c) k).0 (sym e ∙ t), h), λ g. e ∙ (Each-list_all (λ c. is_key c) k).1 g.0)
+
+-- the test of a key that has bytes
+pub key_text_by : (k : List ℕ) → 0 < length k → list_all (λ c. is_key c) k ≡ is_key_text k
+key_text_by [] h = absurd (omega (arith, h))
+key_text_by (c ∷ cs) h = refl
 
 pub string_by : (v : List ℕ) (q : ℕ) (r : Bool) → q ≡ quote_of v → r ≡ list_all (λ c. is_text q c) v → (IsTrue r → IsString v) × (IsString v → IsTrue r)
 string_by v q r s e =

@@ -3,6 +3,7 @@ pub mod Tree
 pub mod TreeCode
 pub mod Nodes
 pub mod Truth
+pub mod Prefixed
 pub mod Asked
 pub mod Language
 pub mod Canonical

@@ -1,6 +1,7 @@
 //! The forms of keys and strings, for those who build selectors from parts.
 ghost use Rattle.std.specs.Prelude.{◌≡◌, ◌↔◌, IsTrue};
 ghost use Rattle.std.specs.List.{list_all};
+ghost use Rattle.fx_selector.specs.Formed.{is_key_text};
 ghost use Rattle.fx_selector.specs.Phrase.{is_key, is_text};
 ghost use Rattle.fx_selector.specs.Tree.{IsKey, IsString};
 
@@ -10,7 +11,8 @@ use crate::tokens::is_key_byte;
 
 /// Whether a text may be a key: one byte or more of `[A-Za-z0-9_./-]`.
 pub fn is_selector_key(text: &[u8]) -> bool
-    ensures { IsTrue result ↔ IsKey text.now }
+    ensures form { IsTrue result ↔ IsKey text.now }
+    ensures test { result ≡ is_key_text text.now }
 {
     if text.is_empty() {
         return false;

@@ -1,11 +1,12 @@
 //! The labels of an item, seen as a finite map from texts to texts.
-ghost use Rattle.std.specs.Prelude.{◌≡◌, ◌&&◌, OnOk, nat_eq};
+ghost use Rattle.std.specs.Prelude.{◌≡◌, ◌&&◌, ◌++◌, IfOk, OnOk, nat_eq};
 ghost use Rattle.std.specs.Option.{option_copied};
 ghost use Rattle.std.specs.FinMap as map;
 ghost use Rattle.std.specs.Cmp.{on_per, and_per, on_equiv, and_equiv, partial_equiv_from_equiv};
 ghost use Rattle.std.specs.Cmp.Lexicographic.{pointwise, lists_per, lists_equiv, nat_list_eq_equiv};
 ghost use Rattle.fx_base.specs.Extended.{extended};
 ghost use Rattle.fx_base.specs.Same.{same_bytes, same_finite};
+ghost use Rattle.fx_selector.specs.Prefixed.{prefixed};
 
 use fx_base::{Exact, Memory, Text};
 use std::alloc::{AllocError, Global};
@@ -67,6 +68,18 @@ impl Labels {
         Ok(())
     }
 
+    /// These labels, each key with the prefix before it.
+    pub fn prefixed(&self, prefix: &[u8]) -> Result<Labels, Memory>
+        ensures { IfOk result (λ labels. labels ≡ prefixed prefix.now self.now) }
+    {
+        let mut labels = Labels::new(self.alloc);
+        for (key, value) in self.held.iter() {
+            let key = with_prefix(self.alloc, prefix, key.as_slice())?;
+            labels.put(key.as_slice(), value.bytes())?;
+        }
+        Ok(labels)
+    }
+
     pub fn get(&self, key: &[u8]) -> Option<&[u8]>
         ensures { option_copied result ≡ map.get self.now key.now }
     {
@@ -75,6 +88,14 @@ impl Labels {
             None => None,
         }
     }
+}
+
+fn with_prefix(alloc: Global, prefix: &[u8], key: &[u8]) -> Result<Vec<u8>, Memory>
+    ensures { IfOk result (λ whole. whole.items ≡ prefix.now ++ key.now) }
+{
+    let mut whole = Vec::from_slice(alloc, prefix)?;
+    whole.extend_from_slice(key)?;
+    Ok(whole)
 }
 
 impl Clone for Labels {

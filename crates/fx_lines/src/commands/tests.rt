@@ -50,7 +50,10 @@ fn answered_fault(fault: &ReadFault) -> &'static str {
         | ReadFault::Unsupported { .. }
         | ReadFault::PortsWithoutProtocol { .. }
         | ReadFault::IcmpWithoutProtocol { .. }
-        | ReadFault::PassInProfile { .. } => "another fault",
+        | ReadFault::PassInProfile { .. }
+        | ReadFault::BlockWithSelector { .. }
+        | ReadFault::BadEndPort { .. }
+        | ReadFault::BadExpression { .. } => "another fault",
     }
 }
 

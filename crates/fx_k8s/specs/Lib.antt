@@ -1,0 +1,10 @@
+pub mod LabelSelectors
+pub mod Entries
+pub mod Peers
+pub mod PolicyRules
+pub mod Conversion
+pub mod Policies
+pub mod Profiles
+pub mod Puts
+pub mod KubeVerdict
+pub mod Clusters
