@@ -1,11 +1,10 @@
 //! What Kubernetes' resources are read as. Rows are typed by hand from Calico's resource reference (`projectcalico.org/v3`), by which a
 //! policy of Kubernetes is one with these selectors and rules.
 use fx_base::Text;
-use fx_fields::ReadFault;
 use fx_json::read_delete;
-use fx_k8s::{convert_namespace, convert_policy, convert_service_account, read_put};
-use fx_model::{Item, Key, Policy, PolicyId, Profile, Update};
-use fx_selector::Selector;
+use fx_k8s::{convert_policy, read_put};
+use fx_model::{Item, Key, Policy, PolicyId, Rule, Update};
+use fx_selector::{Labels, Selector};
 use serde_json::Value;
 use std::alloc::Global;
 use std::test::Fail;
@@ -18,80 +17,105 @@ const NAMESPACE: &str =
 const ACCOUNT: &str =
     r#"{"apiVersion":"v1","kind":"ServiceAccount","metadata":{"name":"s","namespace":"n","labels":{"team":"red"}}}"#;
 
-// The profile that is put, with its name.
-fn profile_of(answer: Result<Update, ReadFault>) -> Option<(Text, Profile)> {
-    match answer {
-        Ok(
-            Update::Put {
-                key: Key::Profile { name },
-                item: Item::Profile(profile),
-            },
-        ) => Some((name, profile)),
-        _ => None,
+// A resource, the name of its profile, one of the profile's labels, and how many rules the profile has in each direction.
+const PROFILES: [(&str, &str, &str, &str, usize); 3] = [
+    (NAMESPACE, "kns.n", "pcns.env", "prod", 1),
+    (NAMESPACE, "kns.n", "pcns.a/b", "", 1),
+    (ACCOUNT, "ksa.n.s", "pcsa.team", "red", 0),
+];
+
+fn has_label(labels: &Labels, key: &str, value: &str) -> bool {
+    match labels.get(key.as_bytes()) {
+        Some(found) => found == value.as_bytes(),
+        None => false,
+    }
+}
+
+fn puts_profile(update: &Update, name: &str, key: &str, value: &str, rules: usize) -> bool {
+    match update {
+        Update::Put {
+            key: Key::Profile { name: found },
+            item: Item::Profile(profile),
+        } => {
+            found.bytes() == name.as_bytes()
+                && has_label(&profile.labels, key, value)
+                && profile.ingress.as_slice().len() == rules
+                && profile.egress.as_slice().len() == rules
+        }
+        _ => false,
+    }
+}
+
+fn put_of(alloc: Global, text: &str) -> Result<Update, Fail> {
+    let value = Value::from_str(alloc, text)?;
+    match read_put(alloc, &value) {
+        Ok(update) => Ok(update),
+        Err(_) => Err("refused".into()),
     }
 }
 
 #[test]
-fn a_namespace_allows_all_and_gives_its_labels(rt: HostRuntime) -> Result<(), Fail> {
-    let alloc = rt.alloc();
-    let value = Value::from_str(alloc, NAMESPACE)?;
-    let (name, profile) = profile_of(convert_namespace(alloc, &value)).ok_or("no profile")?;
-    assert_eq!(rt; name.bytes(), b"kns.n".as_slice());
-    assert_eq!(rt; profile.labels.get(b"pcns.env"), Some(b"prod".as_slice()));
-    assert_eq!(rt; profile.labels.get(b"pcns.a/b"), Some(b"".as_slice()));
-    assert_eq!(rt; profile.labels.get(b"pcns.old"), None);
-    assert_eq!(rt; profile.labels.get(b"env"), None);
-    assert_eq!(rt; profile.ingress.as_slice().len(), 1);
-    assert_eq!(rt; profile.egress.as_slice().len(), 1);
+fn namespaces_and_accounts_are_profiles(rt: HostRuntime) -> Result<(), Fail> {
+    for (text, name, key, value, rules) in PROFILES {
+        let update = put_of(rt.alloc(), text)?;
+        assert!(rt; puts_profile(&update, name, key, value, rules), "{key}");
+    }
     Ok(())
 }
 
-#[test]
-fn an_account_gives_its_labels_alone(rt: HostRuntime) -> Result<(), Fail> {
-    let alloc = rt.alloc();
-    let value = Value::from_str(alloc, ACCOUNT)?;
-    let (name, profile) = profile_of(convert_service_account(alloc, &value)).ok_or("no profile")?;
-    assert_eq!(rt; name.bytes(), b"ksa.n.s".as_slice());
-    assert_eq!(rt; profile.labels.get(b"pcsa.team"), Some(b"red".as_slice()));
-    assert!(rt; profile.ingress.as_slice().is_empty());
-    assert!(rt; profile.egress.as_slice().is_empty());
-    Ok(())
+fn deletes_profile(update: &Update, name: &str) -> bool {
+    match update {
+        Update::Delete {
+            key: Key::Profile { name: found },
+        } => found.bytes() == name.as_bytes(),
+        _ => false,
+    }
+}
+
+fn is_deleted_as(alloc: Global, text: &str, name: &str) -> Result<bool, Fail> {
+    let value = Value::from_str(alloc, text)?;
+    match read_delete(alloc, &value) {
+        Ok(update) => Ok(deletes_profile(&update, name)),
+        Err(_) => Ok(false),
+    }
 }
 
 #[test]
 fn deletes_name_what_puts_name(rt: HostRuntime) -> Result<(), Fail> {
-    let alloc = rt.alloc();
-    for (text, want) in [(NAMESPACE, "kns.n"), (ACCOUNT, "ksa.n.s")] {
-        let value = Value::from_str(alloc, text)?;
-        let Ok(
-            Update::Delete {
-                key: Key::Profile { name },
-            },
-        ) = read_delete(alloc, &value)
-        else {
-            return Err("no delete of a profile".into());
-        };
-        assert_eq!(rt; name.bytes(), want.as_bytes());
-    }
+    assert!(rt; is_deleted_as(rt.alloc(), NAMESPACE, "kns.n")?);
+    assert!(rt; is_deleted_as(rt.alloc(), ACCOUNT, "ksa.n.s")?);
     Ok(())
 }
 
 // ---- policies
 
-// The policy `p` of namespace `n` with this spec.
-fn policy_of(alloc: Global, spec: &str) -> Result<Option<Policy>, Fail> {
+// The put of the policy `p` of namespace `n` with this spec.
+fn policy_put(alloc: Global, spec: &str) -> Result<Update, Fail> {
     let text = format!(in alloc;
         "{{\"apiVersion\":\"networking.k8s.io/v1\",\"kind\":\"NetworkPolicy\",\"metadata\":{{\"name\":\"p\",\"namespace\":\"n\"}},\"spec\":{spec}}}"
     )?;
     let value = Value::from_str(alloc, text.as_str())?;
     match convert_policy(alloc, &value) {
-        Ok(
-            Update::Put {
-                key: Key::Policy(PolicyId::Kube { .. }),
-                item: Item::Policy(policy),
-            },
-        ) => Ok(Some(policy)),
-        _ => Ok(None),
+        Ok(update) => Ok(update),
+        Err(_) => Err("refused".into()),
+    }
+}
+
+// The policy of Kubernetes that is put.
+fn policy_in(update: &Update) -> Option<&Policy> {
+    match update {
+        Update::Put {
+            key: Key::Policy(PolicyId::Kube { .. }),
+            item: Item::Policy(policy),
+        } => Some(policy),
+        _ => None,
+    }
+}
+
+fn canonical(alloc: Global, selector: Option<&Selector>) -> Result<Text, Fail> {
+    match selector {
+        Some(selector) => Ok(selector.canonical(alloc)?),
+        None => Ok(Text::new(alloc, b"-")?),
     }
 }
 
@@ -103,13 +127,19 @@ const SELECTED: &str =
 {"podSelector":{"matchExpressions":[{"key":"c","operator":"NotIn","values":["z","y","z"]},{"key":"d","operator":"In","values":["x"]}],"matchLabels":{"a":""}}} => (a == "" && c not in {"y", "z"} && d in {"x"} && projectcalico.org/orchestrator == "k8s" && projectcalico.org/namespace == "n")
 {"podSelector":{"matchExpressions":[{"key":"c","operator":"Exists"},{"key":"d","operator":"DoesNotExist"}]}} => (has(c) && !has(d) && projectcalico.org/orchestrator == "k8s" && projectcalico.org/namespace == "n")"#;
 
+fn selected_text(alloc: Global, spec: &str) -> Result<Text, Fail> {
+    let update = policy_put(alloc, spec)?;
+    match policy_in(&update) {
+        Some(policy) => canonical(alloc, Some(&policy.selector)),
+        None => canonical(alloc, None),
+    }
+}
+
 #[test]
 fn policies_select_pods_of_their_namespace(rt: HostRuntime) -> Result<(), Fail> {
-    let alloc = rt.alloc();
     for row in SELECTED.lines() {
         let (spec, want) = row.split_once(" => ").ok_or("no text")?;
-        let policy = policy_of(alloc, spec)?.ok_or("no policy")?;
-        let text = policy.selector.canonical(alloc)?;
+        let text = selected_text(rt.alloc(), spec)?;
         assert_eq!(rt; text.bytes(), want.as_bytes(), "{row}");
     }
     Ok(())
@@ -124,22 +154,27 @@ const PEERS: &str =
 {"namespaceSelector":{"matchExpressions":[{"key":"b","operator":"NotIn","values":["2"]}]},"podSelector":{"matchLabels":{"a":"1"}}} => (a == "1" && projectcalico.org/orchestrator == "k8s" && pcns.b not in {"2"})
 {"ipBlock":{"cidr":"10.0.0.0/8"}} => -"#;
 
-fn canonical(alloc: Global, selector: Option<&Selector>) -> Result<Text, Fail> {
-    match selector {
-        Some(selector) => Ok(selector.canonical(alloc)?),
-        None => Ok(Text::new(alloc, b"-")?),
+fn first_source(alloc: Global, rules: &[Rule]) -> Result<Text, Fail> {
+    match rules.first() {
+        Some(rule) => canonical(alloc, rule.source.selector.as_ref()),
+        None => canonical(alloc, None),
+    }
+}
+
+fn source_text(alloc: Global, peer: &str) -> Result<Text, Fail> {
+    let spec = format!(in alloc; "{{\"ingress\":[{{\"from\":[{peer}]}}]}}")?;
+    let update = policy_put(alloc, spec.as_str())?;
+    match policy_in(&update) {
+        Some(policy) => first_source(alloc, policy.ingress.as_slice()),
+        None => canonical(alloc, None),
     }
 }
 
 #[test]
 fn peers_ask_by_all_their_parts(rt: HostRuntime) -> Result<(), Fail> {
-    let alloc = rt.alloc();
     for row in PEERS.lines() {
         let (peer, want) = row.split_once(" => ").ok_or("no text")?;
-        let spec = format!(in alloc; "{{\"ingress\":[{{\"from\":[{peer}]}}]}}")?;
-        let policy = policy_of(alloc, spec.as_str())?.ok_or("no policy")?;
-        let rule = policy.ingress.as_slice().first().ok_or("no rule")?;
-        let text = canonical(alloc, rule.source.selector.as_ref())?;
+        let text = source_text(rt.alloc(), peer)?;
         assert_eq!(rt; text.bytes(), want.as_bytes(), "{row}");
     }
     Ok(())
@@ -152,46 +187,39 @@ const ENTRIES: &str = r#"[] => - 0 - 0
 [{"port":1},{}] => 6 0 6 0
 [{"protocol":"SCTP","port":1},{"port":2},{"protocol":"UDP"}] => 6 1 17 0 132 1 6 1 17 0 132 1"#;
 
-fn push_rules(alloc: Global, policy: &Policy) -> Result<String, Fail> {
+fn rule_text(alloc: Global, rule: &Rule) -> Result<String, Fail> {
+    let ports = rule.destination.ports.as_slice().len();
+    match rule.protocol {
+        Some(protocol) => Ok(format!(in alloc; " {} {ports}", protocol.0)?),
+        None => Ok(format!(in alloc; " - {ports}")?),
+    }
+}
+
+fn rules_text(alloc: Global, rules: &[Rule]) -> Result<String, Fail> {
     let mut told = String::new(alloc);
-    for rule in policy.ingress.as_slice() {
-        if !told.is_empty() {
-            told.push_str(" ")?;
-        }
-        let ports = rule.destination.ports.as_slice().len();
-        let text = match rule.protocol {
-            Some(protocol) => format!(in alloc; "{} {ports}", protocol.0)?,
-            None => format!(in alloc; "- {ports}")?,
-        };
-        told.push_str(text.as_str())?;
+    for rule in rules {
+        told.push_str(rule_text(alloc, rule)?.as_str())?;
     }
     Ok(told)
 }
 
-#[test]
-fn a_rule_is_one_for_each_peer_and_protocol(rt: HostRuntime) -> Result<(), Fail> {
-    let alloc = rt.alloc();
-    for row in ENTRIES.lines() {
-        let (entries, want) = row.split_once(" => ").ok_or("no rules")?;
-        let spec = format!(in alloc;
-            "{{\"ingress\":[{{\"from\":[{{\"podSelector\":{{}}}},{{\"ipBlock\":{{\"cidr\":\"10.0.0.0/8\"}}}}],\"ports\":{entries}}}]}}"
-        )?;
-        let policy = policy_of(alloc, spec.as_str())?.ok_or("no policy")?;
-        let told = push_rules(alloc, &policy)?;
-        assert_eq!(rt; told.as_str(), want, "{row}");
+fn entries_text(alloc: Global, entries: &str) -> Result<String, Fail> {
+    let spec = format!(in alloc;
+        "{{\"ingress\":[{{\"from\":[{{\"podSelector\":{{}}}},{{\"ipBlock\":{{\"cidr\":\"10.0.0.0/8\"}}}}],\"ports\":{entries}}}]}}"
+    )?;
+    let update = policy_put(alloc, spec.as_str())?;
+    match policy_in(&update) {
+        Some(policy) => rules_text(alloc, policy.ingress.as_slice()),
+        None => Ok(String::new(alloc)),
     }
-    Ok(())
 }
 
 #[test]
-fn puts_are_of_either_kind(rt: HostRuntime) -> Result<(), Fail> {
-    let alloc = rt.alloc();
-    let tier = r#"{"apiVersion":"projectcalico.org/v3","kind":"Tier","metadata":{"name":"t"}}"#;
-    for (text, is_profile) in [(NAMESPACE, true), (ACCOUNT, true), (tier, false)] {
-        let value = Value::from_str(alloc, text)?;
-        let put = read_put(alloc, &value);
-        assert!(rt; put.is_ok());
-        assert_eq!(rt; profile_of(put).is_some(), is_profile);
+fn a_rule_is_one_for_each_peer_and_protocol(rt: HostRuntime) -> Result<(), Fail> {
+    for row in ENTRIES.lines() {
+        let (entries, want) = row.split_once(" =>").ok_or("no rules")?;
+        let told = entries_text(rt.alloc(), entries)?;
+        assert_eq!(rt; told.as_str(), want, "{row}");
     }
     Ok(())
 }
