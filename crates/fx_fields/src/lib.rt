@@ -12,7 +12,7 @@ pub use labels::{in_namespace, labels_at, own_labels};
 pub use laws::selectors_are_read;
 pub use metadata::{GlobalMetadata, Metadata, global_metadata_in, metadata_in};
 pub use names::{NamespacedName, name_at, name_in, namespaced_name, namespaced_name_in};
-pub use nets::{ReadNets, ipv4_addresses, ipv4_nets, read_nets};
+pub use nets::{ReadNets, ipv4_addresses, ipv4_nets, is_ipv6, read_nets};
 pub use path::Path;
 pub use policy_fields::{
     DefaultActionForm, Directions, OrderForm, PolicyType, PolicyTypeForm, TierPlace, directions_of,

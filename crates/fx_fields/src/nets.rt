@@ -80,7 +80,8 @@ fn are_ipv6(nets: &[NetText]) -> bool
     nets.iter().all(is_ipv6)
 }
 
-fn is_ipv6(net: &NetText) -> bool
+/// Whether a net is one of IPv6.
+pub fn is_ipv6(net: &NetText) -> bool
     ensures { result ≡ is_ipv6 net.now }
 {
     match net {

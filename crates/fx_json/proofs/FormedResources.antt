@@ -1,6 +1,6 @@
 -- Each update that is read is formed: a namespace holds no `/`, and an item is of its key's kind. It puts no endpoint on an
 -- interface that isn't one of workloads, either.
-use Rattle.std.proofs.Common.{◌≡◌, ℕ, List, true, Option, Some, None, Result, Ok, Err, IfOk, refl}
+use Rattle.std.proofs.Common.{◌≡◌, ℕ, List, true, Some, None, Result, Ok, Err, IfOk, refl}
 use Rattle.std.specs.Prelude.{codes}
 use Rattle.std.specs.List.{list_all}
 use Rattle.serde_json.specs.Data.{Data}

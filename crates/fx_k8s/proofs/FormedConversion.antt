@@ -1,6 +1,6 @@
 -- Each policy that is made of one of Kubernetes is formed: its rules list ports beside a protocol that has them, and their selectors
 -- are ones that some text spells.
-use Rattle.std.proofs.Common.{◌≡◌, ◌≤◌, ℕ, List, [], ◌∷◌, ◌++◌, map, length, nat_le, Bool, true, false, Option, Some, None, refl, sym, arith, lit<}
+use Rattle.std.proofs.Common.{◌≡◌, ◌≤◌, ℕ, List, [], ◌∷◌, ◌++◌, map, length, nat_le, Bool, true, false, Option, Some, None, refl, arith, lit<}
 use Rattle.std.specs.Prelude.{◌&&◌, if◌then◌else◌, codes}
 use Rattle.std.specs.List.{list_all, list_any, flat_map}
 use Rattle.fx_selector.specs.Formed.{is_key_text, is_tree}
@@ -19,7 +19,7 @@ use Rattle.fx_base.specs.Given.{is_given}
 use Rattle.fx_model.specs.Formed as formed
 use Rattle.fx_fields.specs.declared.policy_fields.PolicyType.{PolicyType}
 use Rattle.fx_fields.specs.declared.policy_fields.PolicyType.TheVariants.{Ingress, Egress}
-use Rattle.fx_fields.specs.Forms.{is_label_value, is_port_name}
+use Rattle.fx_fields.specs.Forms.{is_label_value}
 use Rattle.fx_fields.proofs.NameTexts.{label_value-string, label_values-strings}
 use Rattle.fx_fields.proofs.Readings.{both, first_of, second_of}
 use Rattle.fx_json.specs.Policies.{kept}
@@ -38,8 +38,7 @@ use Rattle.fx_k8s.specs.declared.peers.PodPeer.{PodPeer}
 use Rattle.fx_k8s.specs.declared.policies.NetworkPolicy.{NetworkPolicy}
 use Rattle.fx_k8s.specs.declared.policy_rules.PolicyRule.{PolicyRule}
 use Rattle.fx_k8s.specs.LabelSelectors.{is_label_key}
-use Rattle.fx_k8s.specs.Conversion.{pair_tree, expression_tree, selector_trees, given_trees, orchestrated, some_namespace, namespace_trees, peer_tree, open_side, asked_side, with_ports, rule_of, allow_rule, is_of, ports_from, ports_of, proto_of, protocol_rules, peer_rules, rules_of_peers, converted_rule, converted_rules, converted_policy}
-use Rattle.fx_fields.specs.Selectors.{of_namespace}
+use Rattle.fx_k8s.specs.Conversion.{pair_tree, expression_tree, selector_trees, given_trees, orchestrated, some_namespace, namespace_trees, peer_tree, open_side, asked_side, with_ports, allow_rule, is_of, ports_from, ports_of, proto_of, protocol_rules, peer_rules, rules_of_peers, converted_rule, converted_rules, converted_policy}
 use Rattle.fx_k8s.proofs.ReadForms.{is_formed_pair, is_formed_expression, is_formed_selector, is_formed_part, is_formed_peer, is_formed_spec, is_formed_entry, is_formed_rule, IsFormedPolicy}
 
 -- ---- trees of label selectors

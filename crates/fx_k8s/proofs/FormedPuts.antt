@@ -1,5 +1,5 @@
 -- Each update that is read is formed, and puts no endpoint on an interface that isn't one of workloads.
-use Rattle.std.proofs.Common.{◌≡◌, ℕ, List, true, Option, Some, None, Result, Ok, Err, IfOk, refl}
+use Rattle.std.proofs.Common.{◌≡◌, ℕ, List, true, Some, None, Result, Ok, Err, IfOk, refl}
 use Rattle.serde_json.specs.Data.{Data}
 use Rattle.fx_model.specs.declared.resources.Update.{Update}
 use Rattle.fx_model.specs.Formed.{is_formed_policy_id, is_formed_policy, is_formed, puts_workload_interface}

@@ -18,7 +18,6 @@ use Rattle.fx_k8s.specs.declared.entries.Protocol.{Protocol}
 use Rattle.fx_k8s.specs.declared.entries.Protocol.TheVariants.{Tcp, Udp, Sctp}
 use Rattle.fx_k8s.specs.declared.expressions.Expression.{Expression}
 use Rattle.fx_k8s.specs.declared.expressions.Expression.TheVariants.{In, NotIn, Exists, DoesNotExist}
-use Rattle.fx_k8s.specs.declared.label_selectors.LabelSelector.{LabelSelector}
 use Rattle.fx_k8s.specs.declared.peers.Peer.{Peer}
 use Rattle.fx_k8s.specs.declared.peers.Peer.TheVariants.{Block, Pods}
 use Rattle.fx_k8s.specs.declared.policies.NetworkPolicy.{NetworkPolicy}

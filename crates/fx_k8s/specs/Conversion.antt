@@ -6,7 +6,6 @@ use Rattle.std.specs.Prelude.{ℕ, pos, List, [], ◌∷◌, ◌++◌, map, Bool
 use Rattle.std.specs.List.{list_any, flat_map}
 use Rattle.fx_base.specs.declared.net.NetText.{NetText}
 use Rattle.fx_base.specs.declared.net.Proto.{Proto}
-use Rattle.fx_base.specs.Given.{is_given}
 use Rattle.fx_selector.specs.Tree.{Tree, has, equal, within, outside, negated, set_of, and_of}
 use Rattle.fx_selector.specs.Rewriting.{namespace_tree}
 use Rattle.fx_model.specs.declared.policy.Policy.{Policy}

@@ -1,7 +1,7 @@
 -- A label selector, as Kubernetes' API reference has it (`meta/v1` LabelSelector): `matchLabels` is an object of labels, and
 -- `matchExpressions` a list of requirements with a `key`, an `operator` and `values`. Keys are those of Calico's selectors
 -- (`projectcalico.org/v3`, "Selectors"), and values as Kubernetes has them. Members that aren't named here are ignored.
-use Rattle.std.specs.Prelude.{ℕ, List, [], ◌∷◌, ◌++◌, length, Bool, not, ◌&&◌, nat_le, if◌then◌else◌, Option, Some, None, option_map, option_and_then, Result, Ok, Err, codes}
+use Rattle.std.specs.Prelude.{ℕ, List, [], ◌∷◌, ◌++◌, length, Bool, not, ◌&&◌, nat_le, if◌then◌else◌, Option, Some, None, option_and_then, Result, Ok, Err, codes}
 use Rattle.std.specs.Str.{bytes_eq}
 use Rattle.serde_json.specs.Data.{Data, null, boolean, number, string, array, object, Items, no_items, item, Members, no_members, member}
 use Rattle.serde_json.specs.Find.{as_str, as_array, as_object}

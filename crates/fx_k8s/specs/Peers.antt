@@ -1,10 +1,8 @@
 -- A peer of a rule, as Kubernetes' API reference has it (`networking.k8s.io/v1` NetworkPolicyPeer and IPBlock): addresses by
 -- `ipBlock`, or pods by `podSelector` and `namespaceSelector`. Addresses stand beside no selector. Members that aren't named here are
 -- ignored.
-use Rattle.std.specs.Prelude.{ℕ, List, Bool, true, false, ◌&&◌, Result, Ok, Err, codes}
+use Rattle.std.specs.Prelude.{Bool, true, false, ◌&&◌, Ok, Err, codes}
 use Rattle.std.specs.List.{filter_map}
-use Rattle.serde_json.specs.Data.{Data}
-use Rattle.fx_fields.specs.declared.fault.ReadFault.{ReadFault}
 use Rattle.fx_fields.specs.declared.fault.ReadFault.TheVariants.{MissingField, BlockWithSelector}
 use Rattle.fx_k8s.specs.declared.peers.IpBlock.{IpBlock}
 use Rattle.fx_k8s.specs.declared.peers.Peer.{Peer}

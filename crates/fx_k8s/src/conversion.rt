@@ -13,7 +13,7 @@ use crate::policy_rules::PolicyRule;
 use crate::rule_ports::{has_entry, ports_of};
 use crate::selectors::{peer_selector, policy_selector};
 use fx_base::{Memory, Net, NetText, Proto, Seq, Text};
-use fx_fields::{OwnNamespace, PolicyType};
+use fx_fields::{OwnNamespace, PolicyType, is_ipv6};
 use fx_model::{Action, Policy, PortSpec, Rule, Side};
 use std::alloc::Global;
 
@@ -237,20 +237,11 @@ fn block_side(alloc: Global, block: &IpBlock) -> Result<AskedSide, Memory>
 {
     let mut side = open_side(alloc);
     side.nets = ipv4_of(alloc, &block.cidr)?;
-    side.not_nets = copies_of(alloc, block.except.as_slice())?;
+    side.not_nets = block.except.clone()?;
     Ok(AskedSide {
         side,
         never: is_ipv6(&block.cidr),
     })
-}
-
-fn is_ipv6(net: &NetText) -> bool
-    ensures { result ≡ is_ipv6 net.now }
-{
-    match net {
-        NetText::V4(_) => false,
-        NetText::V6 => true,
-    }
 }
 
 fn ipv4_of(alloc: Global, net: &NetText) -> Result<Seq<Net>, Memory>
@@ -261,16 +252,6 @@ fn ipv4_of(alloc: Global, net: &NetText) -> Result<Seq<Net>, Memory>
         nets.push(*net)?;
     }
     Ok(Seq::from_vec(nets))
-}
-
-fn copies_of(alloc: Global, nets: &[Net]) -> Result<Seq<Net>, Memory>
-    ensures { IfOk result (λ copies. copies ≡ nets.now) }
-{
-    let mut copies = Vec::new(alloc);
-    for net in nets {
-        copies.push(*net)?;
-    }
-    Ok(Seq::from_vec(copies))
 }
 
 /// What asks nothing.

@@ -4,7 +4,7 @@ ghost use Rattle.std.specs.List.{list_any};
 ghost use Rattle.fx_k8s.specs.Conversion.{is_of, ports_of};
 
 use crate::entries::{PortEntry, Protocol};
-use fx_base::{Memory, Seq, Text};
+use fx_base::{Memory, Seq};
 use fx_model::PortSpec;
 use std::alloc::Global;
 
@@ -35,17 +35,8 @@ pub fn ports_of(
             let Some(port) = &entry.port else {
                 return Ok(Seq::new(alloc));
             };
-            ports.push(copy_of(alloc, port)?)?;
+            ports.push(port.clone()?)?;
         }
     }
     Ok(Seq::from_vec(ports))
-}
-
-fn copy_of(alloc: Global, port: &PortSpec) -> Result<PortSpec, Memory>
-    ensures { IfOk result (λ copy. copy ≡ port.now) }
-{
-    match port {
-        PortSpec::Number(range) => Ok(PortSpec::Number(*range)),
-        PortSpec::Named(name) => Ok(PortSpec::Named(Text::new(alloc, name.bytes())?)),
-    }
 }

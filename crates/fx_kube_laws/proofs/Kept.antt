@@ -3,7 +3,6 @@ use Rattle.std.proofs.Common.{◌≡◌, ℕ, Bool, true, false, not, ◌&&◌, 
 use Rattle.std.specs.Prelude.{filter, if◌then◌else◌}
 use Rattle.std.specs.List.{AllByRecursion}
 use Rattle.std.specs.Str.{bytes_eq}
-use Rattle.std.specs.FinMap as maps
 use Rattle.fx_model.specs.declared.ids.ItemKey.{ItemKey}
 use Rattle.fx_model.specs.declared.packet.Packet.{Packet}
 use Rattle.fx_model.specs.declared.packet.Verdict.{Verdict}
@@ -12,11 +11,11 @@ use Rattle.fx_model.specs.declared.chain.Reason.{Reason}
 use Rattle.fx_model.specs.declared.resources.Endpoint.{Endpoint}
 use Rattle.fx_model.specs.declared.resources.Resources.{Resources}
 use Rattle.fx_model.specs.Directions.{Direction, Ingress, Egress}
-use Rattle.fx_model.specs.Policy.{Decision, Outcome, with_iface, endpoint_at, verdict_at, is_workload, unknown_or_free, side_verdict, with_ingress, both_sides, packet_verdict}
+use Rattle.fx_model.specs.Policy.{Decision, Outcome, with_iface, endpoint_at, verdict_at, is_workload, unknown_or_free, side_verdict, with_ingress, both_sides}
 use Rattle.fx_model.specs.Resources.{is_served}
 use Rattle.fx_k8s.specs.Clusters.{endpoint_of, endpoint_entry, IsConverted, IsPodOf, IsPlain, KubernetesVerdictIsKept}
-use Rattle.fx_k8s.specs.KubeVerdict.{Pod, Cluster, first_on, pod_on, side_takes, takes, kubernetes_verdict}
-use Rattle.fx_kube_laws.specs.Chain.{verdict_if, on_interface, InterfacesAreKept}
+use Rattle.fx_k8s.specs.KubeVerdict.{Pod, Cluster, first_on, pod_on, side_takes, takes}
+use Rattle.fx_kube_laws.proofs.Chain.{verdict_if, on_interface, InterfacesAreKept}
 use Rattle.fx_kube_laws.proofs.KeptPods.{pods_are_kept}
 
 -- ---- interfaces

@@ -1,18 +1,15 @@
 -- The endpoints that selectors select and that have an address or a port are the pods of the cluster that have it.
-use Rattle.std.proofs.Common.{◌≡◌, ℕ, Bool, true, ◌&&◌, ◌||◌, List, [], ◌∷◌, ◌++◌, map, Option, Some, None, refl, sym, ap, ◌∙◌}
+use Rattle.std.proofs.Common.{◌≡◌, ℕ, Bool, true, ◌&&◌, ◌||◌, List, [], ◌∷◌, ◌++◌, map, refl, ap, ◌∙◌}
 use Rattle.std.specs.Prelude.{nat_eq}
 use Rattle.std.specs.List.{list_any, AllByRecursion}
-use Rattle.std.specs.Str.{bytes_eq}
-use Rattle.std.specs.FinMap as maps
 use Rattle.std.proofs.Math.Nat.{div-one}
 use Rattle.std.proofs.lemmas.List.{append-nil}
 use Rattle.fx_base.specs.Nets.{host}
 use Rattle.fx_base.specs.declared.net.Ipv4.{Ipv4}
-use Rattle.fx_selector.specs.Tree.{Tree, all}
+use Rattle.fx_selector.specs.Tree.{all}
 use Rattle.fx_selector.specs.Truth.{holds}
 use Rattle.fx_model.specs.declared.ids.ItemKey.{ItemKey}
 use Rattle.fx_model.specs.declared.ids.ItemKey.TheVariants as item_key
-use Rattle.fx_model.specs.declared.packet.Packet.{Packet}
 use Rattle.fx_model.specs.declared.policy.NetSet.{NetSet}
 use Rattle.fx_model.specs.declared.resources.Endpoint.{Endpoint}
 use Rattle.fx_model.specs.declared.resources.Item.{Item}
@@ -28,8 +25,8 @@ use Rattle.fx_k8s.specs.Clusters.{endpoint_of, endpoint_entry, IsConverted, IsPo
 use Rattle.fx_k8s.specs.Conversion.{peer_tree}
 use Rattle.fx_k8s.specs.KubeVerdict.{Pod, Cluster, is_peer, has_address, has_port}
 use Rattle.fx_k8s.specs.declared.peers.PodPeer.{PodPeer}
-use Rattle.fx_kube_laws.specs.Chain.{labels_among, AddressesAreTheSame, PortsOfPeersAreTheSame, PortsOfAllAreTheSame}
-use Rattle.fx_kube_laws.proofs.Lists.{any-map, any-same, each, every}
+use Rattle.fx_kube_laws.proofs.Chain.{labels_among, AddressesAreTheSame, PortsOfPeersAreTheSame, PortsOfAllAreTheSame}
+use Rattle.fx_kube_laws.proofs.Lists.{any-map, any-same, each}
 use Rattle.fx_kube_laws.proofs.KeptLabels.{labels_are_kept}
 use Rattle.fx_kube_laws.proofs.KeptSelectors.{peers_are_the_same}
 

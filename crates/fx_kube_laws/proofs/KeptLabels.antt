@@ -18,11 +18,11 @@ use Rattle.fx_model.specs.Labels.{over, over_others, inherited}
 use Rattle.fx_fields.specs.declared.names.NamespacedName.{NamespacedName}
 use Rattle.fx_fields.specs.Labels.{in_namespace, with_given, own_labels}
 use Rattle.fx_json.specs.Kubernetes as kubernetes
-use Rattle.fx_k8s.specs.Clusters.{namespace_entry, account_entry, IsConverted, is_plain_key, begin_with, IsPodOf}
+use Rattle.fx_k8s.specs.Clusters.{namespace_entry, account_entry, IsConverted, is_plain_key, begin_with}
 use Rattle.fx_k8s.specs.KubeVerdict.{Pod, Cluster, labels_in, namespace_labels}
 use Rattle.fx_k8s.specs.Profiles.{namespace_profile}
 use Rattle.fx_laws.proofs.EntryLookups.{is, is_same}
-use Rattle.fx_kube_laws.specs.Chain.{labels_among, HasLabels, LabelsAreKept}
+use Rattle.fx_kube_laws.proofs.Chain.{labels_among, HasLabels, LabelsAreKept}
 use Rattle.fx_kube_laws.proofs.Lists.{every, tested, all-first, of_map, to_map, to_both, or_none, get-over, get-behind, get-none}
 
 -- ---- names of keys

@@ -13,8 +13,7 @@ use Rattle.fx_model.specs.declared.chain.Reason.{Reason}
 use Rattle.fx_model.specs.declared.chain.Reason.TheVariants as reason
 use Rattle.fx_model.specs.declared.ids.PolicyId.{PolicyId}
 use Rattle.fx_model.specs.declared.packet.Packet.{Packet}
-use Rattle.fx_model.specs.declared.packet.Verdict.{Verdict}
-use Rattle.fx_model.specs.declared.packet.Verdict.TheVariants.{Allow, Deny}
+use Rattle.fx_model.specs.declared.packet.Verdict.TheVariants.{Allow}
 use Rattle.fx_model.specs.declared.policy.Policy.{Policy}
 use Rattle.fx_model.specs.declared.resources.Profile.{Profile}
 use Rattle.fx_model.specs.declared.resources.Resources.{Resources}
@@ -27,7 +26,7 @@ use Rattle.fx_model.specs.Active.{applies, applying}
 use Rattle.fx_model.specs.Directions.{Direction, Ingress, Egress}
 use Rattle.fx_model.specs.Policy.{MetRule, Decision, first_answer, after_policies, end_of_tier, tiers_verdict, profiles_verdict, profile_verdict, rule_matches, met_rules, there_or_missing, listed_profile, met_policy, met_tier, tiers_for, endpoint_verdict}
 use Rattle.fx_model.specs.Policy as policy
-use Rattle.fx_model.specs.TierOrder.{place_in, onto_tiers, tier_by_tier, in_order, tiers_of}
+use Rattle.fx_model.specs.TierOrder.{place_in, onto_tiers, tier_by_tier, in_order}
 use Rattle.fx_model.proofs.Orders.{policy_total, place_total, exact_place}
 use Rattle.fx_fields.specs.declared.names.NamespacedName.{NamespacedName}
 use Rattle.fx_fields.specs.declared.policy_fields.PolicyType.{PolicyType}
@@ -42,9 +41,9 @@ use Rattle.fx_k8s.specs.declared.policies.NetworkPolicy.{NetworkPolicy}
 use Rattle.fx_k8s.specs.declared.policy_rules.PolicyRule.{PolicyRule}
 use Rattle.fx_k8s.specs.Clusters.{endpoint_of, policy_entry, IsConverted, begin_with, IsPodOf, asks_plainly, is_plain_rule, is_plain_policy, IsPlain}
 use Rattle.fx_k8s.specs.Conversion.{asked_side, allow_rule, is_of, ports_of, proto_of, protocol_rules, peer_rules, rules_of_peers, converted_rule, converted_rules, converted_policy}
-use Rattle.fx_k8s.specs.KubeVerdict.{Pod, Cluster, selects, namespace_labels, rule_allows, is_on, rules_of, isolates, is_isolated, is_allowed, pod_takes}
+use Rattle.fx_k8s.specs.KubeVerdict.{Pod, Cluster, selects, namespace_labels, rule_allows, rules_of, isolates, is_isolated, is_allowed, pod_takes}
 use Rattle.fx_k8s.specs.Profiles.{namespace_profile}
-use Rattle.fx_kube_laws.specs.Chain.{labels_among, HasLabels, verdict_if, direction_of, PoliciesApplyToTheSame, PodsAreKept}
+use Rattle.fx_kube_laws.proofs.Chain.{HasLabels, verdict_if, direction_of, PoliciesApplyToTheSame, PodsAreKept}
 use Rattle.fx_kube_laws.proofs.Collecting.{keys-collected, values-collected, AreApart, AreOthers, any-collected, entries-others, some-others}
 use Rattle.fx_kube_laws.proofs.KeptLabels.{namespace_there, labels_are_kept}
 use Rattle.fx_kube_laws.proofs.KeptRules.{rules_are_kept}

@@ -1,7 +1,7 @@
 -- Some rule that is made of one of Kubernetes matches where that one allows.
 use Rattle.std.proofs.Common.{◌≡◌, ℕ, Bool, true, false, not, ◌&&◌, ◌||◌, List, [], ◌∷◌, ◌++◌, Option, Some, None, refl, sym, ap, ◌∙◌}
 use Rattle.std.specs.Prelude.{nat_eq, if◌then◌else◌}
-use Rattle.std.specs.List.{list_any, list_all, AllByRecursion}
+use Rattle.std.specs.List.{list_any, list_all}
 use Rattle.std.proofs.lemmas.List.Folds.{list_any-append}
 use Rattle.fx_base.specs.Given.{is_given}
 use Rattle.fx_base.specs.Same.{same_numbers}
@@ -9,14 +9,14 @@ use Rattle.fx_base.specs.declared.net.NetText.{NetText}
 use Rattle.fx_base.specs.declared.net.NetText.TheVariants.{V4, V6}
 use Rattle.fx_base.specs.declared.net.Proto.{Proto}
 use Rattle.fx_selector.specs.Tree.{Tree}
-use Rattle.fx_model.specs.declared.chain.End.TheVariants.{Source, Dest}
+use Rattle.fx_model.specs.declared.chain.End.TheVariants.{Dest}
 use Rattle.fx_model.specs.declared.packet.Packet.{Packet}
 use Rattle.fx_model.specs.declared.resources.Resources.{Resources}
 use Rattle.fx_model.specs.declared.rules.PortSpec.{PortSpec}
 use Rattle.fx_model.specs.declared.rules.PortSpec.TheVariants.{Number, Named}
 use Rattle.fx_model.specs.declared.rules.Rule.{Rule}
 use Rattle.fx_model.specs.Criteria.{has_ports, proto_is, in_net, in_range, lies_in}
-use Rattle.fx_model.specs.Directions.{Direction, Ingress, Egress}
+use Rattle.fx_model.specs.Directions.{Direction}
 use Rattle.fx_model.specs.Policy.{some_port, some_port_given, rule_matches}
 use Rattle.fx_model.specs.Policy as policy
 use Rattle.fx_fields.specs.declared.policy_fields.PolicyType.{PolicyType}
@@ -24,15 +24,13 @@ use Rattle.fx_fields.specs.declared.policy_fields.PolicyType.TheVariants as list
 use Rattle.fx_k8s.specs.declared.entries.PortEntry.{PortEntry}
 use Rattle.fx_k8s.specs.declared.entries.Protocol.{Protocol}
 use Rattle.fx_k8s.specs.declared.entries.Protocol.TheVariants.{Tcp, Udp, Sctp}
-use Rattle.fx_k8s.specs.declared.peers.IpBlock.{IpBlock}
 use Rattle.fx_k8s.specs.declared.peers.Peer.{Peer}
 use Rattle.fx_k8s.specs.declared.peers.Peer.TheVariants.{Block, Pods}
-use Rattle.fx_k8s.specs.declared.policy_rules.PolicyRule.{PolicyRule}
-use Rattle.fx_k8s.specs.Clusters.{IsConverted, IsPlain, is_plain_peer, is_plain_rule}
-use Rattle.fx_k8s.specs.Conversion.{asked_side, allow_rule, is_of, ports_from, ports_of, proto_of, protocol_rules, peer_rules, rules_of_peers, converted_rule}
+use Rattle.fx_k8s.specs.Clusters.{IsConverted, IsPlain, is_plain_peer}
+use Rattle.fx_k8s.specs.Conversion.{asked_side, allow_rule, is_of, ports_from, ports_of, proto_of, protocol_rules, peer_rules, rules_of_peers}
 use Rattle.fx_k8s.specs.Entries.{number_of}
-use Rattle.fx_k8s.specs.KubeVerdict.{Cluster, peer_holds, other_address, port_holds, entry_holds, some_entry, some_peer, rule_allows}
-use Rattle.fx_kube_laws.specs.Chain.{direction_of, RulesAreKept}
+use Rattle.fx_k8s.specs.KubeVerdict.{Cluster, peer_holds, other_address, port_holds, entry_holds, some_entry, some_peer}
+use Rattle.fx_kube_laws.proofs.Chain.{direction_of, RulesAreKept}
 use Rattle.fx_kube_laws.proofs.Lists.{unmoved_or, unmoved_and, nothing_and, any-flat_map, any-same, each, tested}
 use Rattle.fx_kube_laws.proofs.KeptAddresses.{addresses_are_the_same, ports_of_peers_are_the_same, ports_of_all_are_the_same}
 

@@ -20,11 +20,10 @@ use Rattle.fx_k8s.specs.declared.expressions.Expression.{Expression}
 use Rattle.fx_k8s.specs.declared.expressions.Expression.TheVariants.{In, NotIn, Exists, DoesNotExist}
 use Rattle.fx_k8s.specs.declared.label_selectors.LabelPair.{LabelPair}
 use Rattle.fx_k8s.specs.declared.label_selectors.LabelSelector.{LabelSelector}
-use Rattle.fx_k8s.specs.declared.peers.PodPeer.{PodPeer}
-use Rattle.fx_k8s.specs.Clusters.{IsPodOf, is_plain_key, key_of, asks_plainly, asks_plainly_given}
-use Rattle.fx_k8s.specs.Conversion.{pair_tree, expression_tree, selector_trees, given_trees, orchestrated, policy_tree, some_namespace, namespace_trees, peer_tree}
-use Rattle.fx_k8s.specs.KubeVerdict.{Pod, Cluster, is_listed, pair_holds, expression_holds, selects, selects_given, namespace_labels, in_namespaces, is_peer}
-use Rattle.fx_kube_laws.specs.Chain.{labels_among, HasLabels, SelectorsAreKept, PoliciesSelectTheSame, PeersAreTheSame}
+use Rattle.fx_k8s.specs.Clusters.{is_plain_key, key_of, asks_plainly_given}
+use Rattle.fx_k8s.specs.Conversion.{pair_tree, expression_tree, selector_trees, given_trees, orchestrated, some_namespace, namespace_trees}
+use Rattle.fx_k8s.specs.KubeVerdict.{Pod, Cluster, is_listed, pair_holds, expression_holds, selects, selects_given, namespace_labels, in_namespaces}
+use Rattle.fx_kube_laws.proofs.Chain.{labels_among, HasLabels, SelectorsAreKept, PoliciesSelectTheSame, PeersAreTheSame}
 use Rattle.fx_kube_laws.proofs.Lists.{unmoved_and, all-same, all-map, every, tested, each}
 
 -- ---- parts together

@@ -1,4 +1,4 @@
-use Rattle.std.proofs.Common.{ℕ, List, length, sym, subst, nat_le}
+use Rattle.std.proofs.Common.{length, sym, subst, nat_le}
 use Rattle.fx_selector.specs.Formed.{is_key_text}
 use Rattle.fx_selector.specs.Tree.{IsKey}
 use Rattle.fx_selector.proofs.FormedTrees.{tested_key}
