@@ -1,7 +1,6 @@
 //! Answers one line after another.
 ghost use Rattle.std.specs.Prelude.{◌≡◌, ◌-◌, ◌^◌, ◌<◌, None, OnOk, IfOk, true};
 ghost use Rattle.std.specs.List.{concat};
-ghost use Rattle.fx_model.specs.Formed.{is_formed};
 ghost use Rattle.fx_model.specs.Messages.{flush};
 ghost use Rattle.fx_model.specs.TableTexts.{table_lines};
 ghost use Rattle.fx_model.specs.ViewTables.{tables_of};

@@ -45,8 +45,6 @@ mod protocol_text;
 mod seq;
 mod set_name;
 mod streams;
-#[cfg(test)]
-mod tests;
 mod text;
 mod text_map;
 mod uses;

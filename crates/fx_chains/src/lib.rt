@@ -6,5 +6,3 @@ pub use names::{endpoint_name, policy_name, profile_name};
 
 mod endpoint;
 mod names;
-#[cfg(test)]
-mod tests;

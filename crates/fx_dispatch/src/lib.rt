@@ -13,7 +13,5 @@ mod names;
 mod plan;
 mod rules;
 mod shared;
-#[cfg(test)]
-mod tests;
 mod tree;
 mod way;

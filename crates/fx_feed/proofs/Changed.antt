@@ -6,7 +6,7 @@ use Rattle.fx_label_index.specs.Canonicals.{Selectors}
 use Rattle.fx_label_index.specs.declared.held.Inputs as index
 use Rattle.fx_members.specs.declared.inputs.Inputs as members
 use Rattle.fx_sequencer.specs.declared.sides.Sides.{Sides}
-use Rattle.fx_told.specs.Kept.{SameButSets}
+use Rattle.fx_parts.specs.Kept.{SameButSets}
 
 pub index_after : (a b c : index.Inputs) (s t : Selectors) → b ≡ record a { selectors = s } → c ≡ record b { selectors = t } → c ≡ record a { selectors = t }
 index_after a b c s t first next = next ∙ ap (λ (n : index.Inputs). record n { selectors = t }) first

@@ -9,7 +9,7 @@ use Rattle.fx_model.specs.Sinks.{Policies, Uses}
 use Rattle.fx_model.specs.declared.set_use.SetUse.{SetUse}
 use Rattle.fx_joined.specs.Counting.{times, total, with_one, with_some, IsCounted}
 use Rattle.fx_joined.proofs.Counts.{raised_counted, lowered_counted}
-use Rattle.fx_told.specs.Noted.{Before, AreNoted, AreFormed}
+use Rattle.fx_parts.specs.Noted.{Before, AreNoted, AreFormed}
 use Rattle.fx_feed.specs.Fed.{raised_at, raised_by, lowered_at, lowered_by}
 use Rattle.fx_feed.specs.Used.{weight_at, used_in}
 use Rattle.fx_feed.proofs.Sums.{coming_among, leaving_among, balance}

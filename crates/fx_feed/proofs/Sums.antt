@@ -8,9 +8,9 @@ use Rattle.fx_base.proofs.KeyCases.{bytes_exact}
 use Rattle.fx_base.proofs.SumOver.{sum_over, sum_at, sum-insert, sum-remove}
 use Rattle.fx_model.specs.Sinks.{Uses}
 use Rattle.fx_model.specs.declared.set_use.SetUse.{SetUse}
-use Rattle.fx_told.specs.Noted.{Before, AreNoted}
+use Rattle.fx_parts.specs.Noted.{Before, AreNoted}
 use Rattle.fx_told.proofs.Brought.{IsBrought, begun, head_touched, head_before, put, off, ended}
-use Rattle.fx_told.proofs.NotedLemmas.{unnoted, noted_was}
+use Rattle.fx_parts.proofs.NotedLemmas.{unnoted, noted_was}
 use Rattle.fx_feed.specs.Used.{weight_of_use, weight_at, used_among, used_in}
 
 abbrev pub coming_among : Uses → List ℕ → List (List ℕ × Option SetUse) → ℕ

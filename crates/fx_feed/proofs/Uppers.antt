@@ -9,7 +9,7 @@ use Rattle.fx_joined.specs.Joining.{IsJoined}
 use Rattle.fx_joined.specs.Uppers.{IsUpper}
 use Rattle.fx_joined.specs.declared.join.Joined.{Joined}
 use Rattle.fx_joined.proofs.Uppers.{AreSelectors}
-use Rattle.fx_told.specs.Noted.{Before, AreFormed}
+use Rattle.fx_parts.specs.Noted.{Before, AreFormed}
 use Rattle.fx_feed.specs.Fed.{raised_by, lowered_by}
 use Rattle.fx_feed.specs.Since.{IsUpperSince}
 use Rattle.fx_feed.specs.Used.{used_in}

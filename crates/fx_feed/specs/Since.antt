@@ -5,7 +5,7 @@ use Rattle.fx_model.specs.Sinks.{Policies, Profiles, Uses}
 use Rattle.fx_joined.specs.Counting.{with_some}
 use Rattle.fx_joined.specs.Uppers.{IsUpper}
 use Rattle.fx_joined.specs.declared.join.Joined.{Joined}
-use Rattle.fx_told.specs.Noted.{Before, AreNoted}
+use Rattle.fx_parts.specs.Noted.{Before, AreNoted}
 use Rattle.fx_feed.specs.Used.{used_in}
 
 -- the index counts the selectors of the policies and of those sets, and besides them the text that a policy had before, if any

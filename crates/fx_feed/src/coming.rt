@@ -5,7 +5,7 @@ ghost use Rattle.std.specs.Option.{option_copied};
 ghost use Rattle.fx_feed.specs.Fed.{raised_at, raised_by};
 ghost use Rattle.fx_joined.specs.Joining.{IsJoined};
 ghost use Rattle.fx_members.specs.Members.{AreMembers};
-ghost use Rattle.fx_told.specs.Kept.{SameButSets};
+ghost use Rattle.fx_parts.specs.Kept.{SameButSets};
 
 use fx_base::{Memory, SetMap, Ticker};
 use fx_joined::Joined;

@@ -5,8 +5,8 @@ ghost use Rattle.fx_feed.specs.Used.{used_in};
 ghost use Rattle.fx_joined.specs.Counting.{with_some};
 ghost use Rattle.fx_joined.specs.Uppers.{IsUpper};
 ghost use Rattle.fx_members.specs.Members.{AreMembers};
-ghost use Rattle.fx_told.specs.Kept.{SameButSets};
-ghost use Rattle.fx_told.specs.Noted.{AreFormed};
+ghost use Rattle.fx_parts.specs.Kept.{SameButSets};
+ghost use Rattle.fx_parts.specs.Noted.{AreFormed};
 
 use crate::coming::feed_in;
 use crate::leaving::feed_out;

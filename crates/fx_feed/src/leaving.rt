@@ -4,7 +4,7 @@ ghost use Rattle.std.specs.FinMap as map;
 ghost use Rattle.fx_feed.specs.Fed.{lowered_at, lowered_by};
 ghost use Rattle.fx_joined.specs.Joining.{IsJoined};
 ghost use Rattle.fx_members.specs.Members.{AreMembers};
-ghost use Rattle.fx_told.specs.Kept.{SameButSets};
+ghost use Rattle.fx_parts.specs.Kept.{SameButSets};
 
 use fx_base::{Memory, SetMap, Ticker};
 use fx_joined::Joined;

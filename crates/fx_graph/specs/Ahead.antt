@@ -8,11 +8,11 @@ use Rattle.fx_joined.specs.Counting.{with_some}
 use Rattle.fx_joined.specs.Run.{IsRun}
 use Rattle.fx_joined.specs.Uppers.{IsUpper}
 use Rattle.fx_told.specs.Knowing.{IsBehind}
-use Rattle.fx_told.specs.Noted.{AreFormed}
-use Rattle.fx_told.specs.PairRun.{IsPairRun}
-use Rattle.fx_told.specs.Touched.{IsTouched}
+use Rattle.fx_parts.specs.Noted.{AreFormed}
+use Rattle.fx_logged.specs.PairRun.{IsPairRun}
+use Rattle.fx_logged.specs.Touched.{IsTouched}
 use Rattle.fx_joined.specs.declared.pair_log.PairChange.{PairChange}
-use Rattle.fx_told.specs.declared.active_log.Logged.{Logged}
+use Rattle.fx_logged.specs.declared.active_log.Logged.{Logged}
 use Rattle.fx_feed.specs.Used.{used_in}
 use Rattle.fx_graph.specs.declared.nodes.Nodes.{Nodes}
 

@@ -7,7 +7,7 @@ use Rattle.fx_scanner.specs.Scanned.{IsScanned}
 use Rattle.fx_joined.specs.Counting.{with_some}
 use Rattle.fx_joined.specs.Uppers.{IsUpper}
 use Rattle.fx_told.specs.Knowing.{AreKnown}
-use Rattle.fx_told.specs.Noted.{AreFormed}
+use Rattle.fx_parts.specs.Noted.{AreFormed}
 use Rattle.fx_feed.specs.Used.{used_in}
 use Rattle.fx_graph.specs.declared.nodes.Nodes.{Nodes}
 

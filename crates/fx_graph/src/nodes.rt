@@ -10,13 +10,13 @@ ghost use Rattle.fx_graph.specs.Taking.{taken_of};
 
 use fx_base::SetMap;
 use fx_joined::Upper;
+use fx_logged::ActiveTold;
 use fx_members::Members;
 use fx_model::{ItemMap, SetUse};
 use fx_node_laws::Waiting;
 use fx_resolver::Resolver;
 use fx_scanner::RuleScanner;
 use fx_sequencer::Sequencer;
-use fx_told::ActiveTold;
 use std::alloc::Global;
 
 /// The five nodes and the sequencer; beside them what the active rules told, the sets that rules use, and the endpoints of this

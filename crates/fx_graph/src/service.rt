@@ -12,10 +12,10 @@ ghost use Rattle.fx_graph.specs.Taking.{AreApart, IsBeside, taken_of, serving, A
 use crate::nodes::Nodes;
 use fx_base::{Memory, Seq, Ticker};
 use fx_joined::Upper;
+use fx_logged::{ActiveLog, ActiveStart, ActiveTold};
 use fx_model::{ActiveSink, ItemMap};
 use fx_names::{DigestFunction, DigestRule, Namer};
 use fx_node_laws::Waiting;
-use fx_told::{ActiveLog, ActiveStart, ActiveTold};
 use std::marker::Brand;
 use std::mem;
 

@@ -8,9 +8,10 @@ ghost use Rattle.fx_graph_tests.specs.Benches.{AreAlike, StaysAlike};
 use fx_base::{Counter, Memory};
 use fx_graph::Graph;
 use fx_lines::{Command, read_command};
-use fx_model::{Update, view_of};
+use fx_model::Update;
 use fx_names::PlainRule;
 use fx_store::Store;
+use fx_wanted::view_of;
 use std::alloc::Global;
 use std::test::Fail;
 

@@ -5,6 +5,5 @@ pub mod TierLemmas
 pub mod PlaceLemmas
 pub mod Inheriting
 pub mod ChainWrites
-pub mod Members
 pub mod UseLemmas
 pub mod KnownTrees

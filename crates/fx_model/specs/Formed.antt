@@ -3,7 +3,7 @@
 -- a name of an interface has at most 15 bytes, as the kernel bounds it (IFNAMSIZ); and a namespace holds no `/`, as Kubernetes has
 -- it. In a view a profile's key fits behind a chain's prefix. Apart from these forms, Calico's interfaces of workloads begin with
 -- `cali`.
-use Rattle.std.specs.Prelude.{ℕ, List, [], ◌∷◌, Bool, true, false, not, ◌&&◌, ◌||◌, ◌==◌, nat_le, nat_eq, length, Option, Some, None, is_some}
+use Rattle.std.specs.Prelude.{ℕ, List, Bool, true, false, not, ◌&&◌, ◌||◌, ◌==◌, nat_le, nat_eq, length, Option, Some, None, is_some}
 use Rattle.std.specs.List.{list_all}
 use Rattle.std.specs.Str.{bytes_eq}
 use Rattle.std.specs.FinMap as maps

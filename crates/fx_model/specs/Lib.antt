@@ -30,7 +30,6 @@ pub mod Walk
 pub mod Policy
 pub mod Formed
 pub mod ViewPolicy
-pub mod Places
 pub mod PolicyIdTexts
 pub mod MemberTexts
 pub mod MatchTexts

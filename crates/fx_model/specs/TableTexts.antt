@@ -8,7 +8,7 @@ use Rattle.fx_model.specs.declared.chain.Match.{Match}
 use Rattle.fx_model.specs.declared.chain.Target.{Target}
 use Rattle.fx_model.specs.declared.chain.Target.TheVariants as target
 use Rattle.fx_model.specs.declared.chain.ChainRule.{ChainRule}
-use Rattle.fx_model.specs.Tables.{Tables, Sets, Chains, ChainName}
+use Rattle.fx_model.specs.Tables.{Tables, Chains, ChainName}
 use Rattle.fx_model.specs.Messages.{Members}
 use Rattle.fx_model.specs.MemberTexts.{member_text, type_text}
 use Rattle.fx_model.specs.MatchTexts.{mark_text, match_text}

@@ -10,7 +10,7 @@ use Rattle.fx_model.specs.declared.view.ViewProfile.{ViewProfile}
 use Rattle.fx_model.specs.declared.view.ViewEndpoint.{ViewEndpoint}
 use Rattle.fx_model.specs.declared.chain.ChainRule.{ChainRule}
 use Rattle.fx_model.specs.Directions.{Ingress, Egress}
-use Rattle.fx_model.specs.Tables.{ChainName, Chains, Tables, policy_chain, policy_rules, profile_chain, profile_rules, endpoint_chain, endpoint_rules, forward, forward_rules}
+use Rattle.fx_model.specs.Tables.{ChainName, Tables, policy_chain, policy_rules, profile_chain, profile_rules, endpoint_chain, endpoint_rules, forward, forward_rules}
 use Rattle.fx_model.specs.Tree.{dispatch_chains_of}
 
 abbrev pub policy_chains : List ℕ × ViewPolicy → List (ChainName × List ChainRule)

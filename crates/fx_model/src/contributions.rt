@@ -18,14 +18,18 @@ pub fn contributed(alloc: Global, set: &SetUse, item: &Item) -> Result<Vec<Membe
     ensures { IfOk result (λ members. members.items ≡ contributed set.now item.now) }
 {
     match item {
-        Item::Endpoint(endpoint) => of_endpoint(alloc, set, endpoint),
-        Item::NetSet(net_set) => of_net_set(alloc, set, net_set),
+        Item::Endpoint(endpoint) => contributed_by_endpoint(alloc, set, endpoint),
+        Item::NetSet(net_set) => contributed_by_net_set(alloc, set, net_set),
         Item::Profile(_) | Item::Tier(_) | Item::Policy(_) => Ok(Vec::new(alloc)),
     }
 }
 
 /// The same of an endpoint: its addresses, or its ports of the set's protocol and name at each of them.
-pub fn of_endpoint(alloc: Global, set: &SetUse, endpoint: &Endpoint) -> Result<Vec<Member>, Memory>
+pub fn contributed_by_endpoint(
+    alloc: Global,
+    set: &SetUse,
+    endpoint: &Endpoint,
+) -> Result<Vec<Member>, Memory>
     ensures { IfOk result (λ members. members.items ≡ contributed set.now (item.Endpoint endpoint.now)) }
 {
     match &set.port {
@@ -35,7 +39,11 @@ pub fn of_endpoint(alloc: Global, set: &SetUse, endpoint: &Endpoint) -> Result<V
 }
 
 /// The same of a network set, which has no ports.
-pub fn of_net_set(alloc: Global, set: &SetUse, net_set: &NetSet) -> Result<Vec<Member>, Memory>
+pub fn contributed_by_net_set(
+    alloc: Global,
+    set: &SetUse,
+    net_set: &NetSet,
+) -> Result<Vec<Member>, Memory>
     ensures { IfOk result (λ members. members.items ≡ contributed set.now (item.NetSet net_set.now)) }
 {
     match &set.port {

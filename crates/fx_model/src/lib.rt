@@ -1,45 +1,38 @@
-//! What resources, views, messages, chains and packets are, and what one makes of another.
+//! What resources, views, messages, chains and packets are, and the definitions of what one makes of another.
 #![tactic(auto)]
 
 pub use chain::{ChainRule, End, Match, Reason, Tag, Target};
-pub use contributions::contributed;
+pub use contributions::{contributed, contributed_by_endpoint, contributed_by_net_set};
 pub use ids::{ItemKey, Key, PolicyId};
+pub use item_keys::{item_name, namespace_of, namespace_parents};
 pub use item_map::ItemMap;
-pub use labels::{applies, effective_labels, is_active};
 pub use member::{Member, MemberSet};
 pub use member_list::{MemberList, MemberWalk};
 pub use message::Message;
-pub use next::next_message;
 pub use packet::{Packet, State, Verdict, has_ports};
 pub use pairs::PairSet;
-pub use place::{Place, place_of, take_at};
 pub use place_map::PlaceMap;
 pub use policy::{NetSet, Policy, Tier};
 pub use policy_map::PolicyMap;
 pub use policy_pairs::PolicyPairSet;
 pub use resources::{Endpoint, EndpointPort, Item, Profile, Resources, Update};
 pub use rules::{Action, Icmp, PortSpec, Rule, Side};
-pub use set_use::{SetUse, push_both, push_uses};
+pub use set_use::{SetUse, ports_protocol, push_both, push_uses};
 pub use sinks::{ActiveSink, MatchSink, SetSink, UseSink, ViewSink};
 pub use tier_order::{Order, PolicyPlace, places_compare_as_stated, tiers_in_order};
 pub use view::{View, ViewEndpoint, ViewPolicy, ViewProfile, ViewTier};
 pub use view_rule::{ViewPort, ViewRule, ViewSide};
-pub use wanted::{item_name, namespace_of, view_of, view_profile};
-pub use wanted_policies::view_policy;
-pub use wanted_sets::namespace_parents;
 
 mod chain;
 mod contributions;
 mod ids;
+mod item_keys;
 mod item_map;
-mod labels;
 mod member;
 mod member_list;
 mod message;
-mod next;
 mod packet;
 mod pairs;
-mod place;
 mod place_map;
 mod policy;
 mod policy_map;
@@ -51,7 +44,3 @@ mod sinks;
 mod tier_order;
 mod view;
 mod view_rule;
-mod view_rules;
-mod wanted;
-mod wanted_policies;
-mod wanted_sets;

@@ -2,8 +2,6 @@
 //! alone.
 ghost use Rattle.std.specs.Prelude.{◌≡◌, OnOk, IsSome, Option, Some, true, false};
 ghost use Rattle.std.specs.Option.{option_copied};
-ghost use Rattle.std.specs.Ordering.{nat_cmp};
-ghost use Rattle.std.specs.Cmp.Lexicographic.{slice_cmp};
 ghost use Rattle.std.specs.FinMap as map;
 ghost use Rattle.fx_base.specs.Set as set;
 ghost use Rattle.fx_model.specs.Pairs.{Pairs, PolicyPairs};

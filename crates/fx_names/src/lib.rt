@@ -13,5 +13,3 @@ mod kernel_map;
 mod namer;
 mod prefix;
 mod registry;
-#[cfg(test)]
-mod tests;

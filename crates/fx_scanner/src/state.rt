@@ -11,8 +11,9 @@ use crate::counts::UseCounts;
 use crate::inputs::Inputs;
 use crate::used::{profile_of, uses_of_policy, uses_of_profile};
 use fx_base::{Memory, Text};
-use fx_model::{Policy, PolicyId, Profile, UseSink, view_policy, view_profile};
+use fx_model::{Policy, PolicyId, Profile, UseSink};
 use fx_names::{DigestFunction, DigestRule, Namer, Prefix};
+use fx_wanted::{view_policy, view_profile};
 use std::alloc::Global;
 
 /// What the node is told, and how often each set is used by it.

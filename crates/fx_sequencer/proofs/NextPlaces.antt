@@ -1,11 +1,11 @@
 -- The next message tells of the first of the places that are not as they are wanted.
-use Rattle.std.proofs.Common.{◌≡◌, ◌<◌, ◌≤◌, ℕ, Bool, true, false, cond, ◌&&◌, List, [], ◌∷◌, ◌++◌, map, not, length, slice_index_or, Option, Some, None, is_some, IsSome, option_map, refl, sym, ap, ◌∙◌, arith}
+use Rattle.std.proofs.Common.{◌≡◌, ◌<◌, ◌≤◌, ℕ, Bool, true, false, cond, List, [], ◌∷◌, ◌++◌, map, not, length, slice_index_or, Option, Some, None, is_some, IsSome, option_map, refl, sym, ap, ◌∙◌, arith}
 use Rattle.std.specs.List.{filter, find}
 use Rattle.std.specs.FinMap as maps
 use Rattle.fx_base.specs.Set as set
 use Rattle.fx_base.proofs.Found.{found_passes}
-use Rattle.fx_model.specs.declared.place.Place.{Place}
-use Rattle.fx_model.specs.declared.place.Place.TheVariants as place
+use Rattle.fx_wanted.specs.declared.place.Place.{Place}
+use Rattle.fx_wanted.specs.declared.place.Place.TheVariants as place
 use Rattle.fx_model.specs.declared.view.View.{View}
 use Rattle.fx_model.specs.declared.view.ViewPolicy.{ViewPolicy}
 use Rattle.fx_model.specs.declared.view.ViewProfile.{ViewProfile}
@@ -15,7 +15,7 @@ use Rattle.fx_model.specs.contracts.view.ViewProfilePartialEq.TheImpl as profile
 use Rattle.fx_model.specs.contracts.view.ViewEndpointPartialEq.TheImpl as endpoint_eq
 use Rattle.fx_model.specs.contracts.member.MemberSetPartialEq.TheImpl as members_eq
 use Rattle.fx_model.specs.Messages.{Named, Members, Change, SetDelta, PolicyPut, ProfilePut, EndpointPut, EndpointGone, ProfileGone, PolicyGone, SetGone, is_absent, is_changed, is_other, set_added, set_changed, members_of, or_else, next_put, next_gone, next_message, step, step_by}
-use Rattle.fx_model.specs.Places.{place_of, taken_at, step_at-place}
+use Rattle.fx_wanted.specs.Places.{place_of, taken_at, step_at-place}
 use Rattle.fx_laws.proofs.Apart.{found_there}
 use Rattle.fx_laws.proofs.NextCases.{Cases, by_cases}
 use Rattle.fx_sequencer.specs.Pending.{places_where, put_places, gone_places, pending_places, set_change, set_put, put_or_gone, change_at}

@@ -1,12 +1,12 @@
 -- The places that are not as they are wanted, once the first of them was taken over: all but that one.
-use Rattle.std.proofs.Common.{◌≡◌, ℕ, Bool, true, false, not, ◌&&◌, List, [], ◌∷◌, ◌++◌, map, Option, Some, None, is_some, refl, sym, ap, ◌∙◌, subst}
-use Rattle.std.specs.List.{filter, find}
+use Rattle.std.proofs.Common.{◌≡◌, ℕ, Bool, true, false, not, ◌&&◌, List, [], ◌∷◌, ◌++◌, map, Option, Some, None, is_some, refl, ap, ◌∙◌, subst}
+use Rattle.std.specs.List.{filter}
 use Rattle.std.specs.Option.{option_eq}
 use Rattle.std.specs.FinMap as maps
 use Rattle.fx_base.specs.Extended.{taken_from}
 use Rattle.fx_base.proofs.Found.{found_passes}
-use Rattle.fx_model.specs.declared.place.Place.{Place}
-use Rattle.fx_model.specs.declared.place.Place.TheVariants as place
+use Rattle.fx_wanted.specs.declared.place.Place.{Place}
+use Rattle.fx_wanted.specs.declared.place.Place.TheVariants as place
 use Rattle.fx_model.specs.declared.view.View.{View}
 use Rattle.fx_model.specs.contracts.view.ViewPolicyPartialEq.TheImpl as policy_eq
 use Rattle.fx_model.specs.contracts.view.ViewPolicyEq.TheImpl.Laws as policy_laws
@@ -17,7 +17,7 @@ use Rattle.fx_model.specs.contracts.view.ViewEndpointEq.TheImpl.Laws as endpoint
 use Rattle.fx_model.specs.contracts.member.MemberSetPartialEq.TheImpl as members_eq
 use Rattle.fx_model.specs.contracts.member.MemberSetEq.TheImpl.Laws as members_laws
 use Rattle.fx_model.specs.Messages.{Named, is_absent, is_changed, is_other}
-use Rattle.fx_model.specs.Places.{taken_at}
+use Rattle.fx_wanted.specs.Places.{taken_at}
 use Rattle.fx_laws.proofs.Apart.{found_there}
 use Rattle.fx_sequencer.specs.Pending.{absent_places, changed_places, other_places, put_places, gone_places, pending_places}
 use Rattle.fx_sequencer.proofs.PassingEntries.{same_first, same_rest, head_found, first_taken, none_taken, absent_there, first_removed, none_removed}

@@ -3,8 +3,8 @@ use Rattle.std.specs.Prelude.{ℕ, List, ◌++◌, Bool, Option, Some, None, map
 use Rattle.std.specs.List.{filter}
 use Rattle.std.specs.FinMap as maps
 use Rattle.fx_base.specs.Set as set
-use Rattle.fx_model.specs.declared.place.Place.{Place}
-use Rattle.fx_model.specs.declared.place.Place.TheVariants as place
+use Rattle.fx_wanted.specs.declared.place.Place.{Place}
+use Rattle.fx_wanted.specs.declared.place.Place.TheVariants as place
 use Rattle.fx_model.specs.declared.view.View.{View}
 use Rattle.fx_model.specs.contracts.view.ViewPolicyPartialEq.TheImpl as policy_eq
 use Rattle.fx_model.specs.contracts.view.ViewProfilePartialEq.TheImpl as profile_eq

@@ -8,7 +8,8 @@ ghost use Rattle.fx_sequencer.specs.Pending.{change_at, pending_places, set_chan
 use crate::pending::pending_places;
 use crate::sides::Sides;
 use fx_base::{Memory, SetName};
-use fx_model::{MemberList, MemberSet, Message, Place, View, take_at};
+use fx_model::{MemberList, MemberSet, Message, View};
+use fx_wanted::{Place, take_at};
 use std::alloc::Global;
 use std::collections::VecDeque;
 

@@ -9,5 +9,3 @@ mod held_sets;
 mod pending;
 mod sequencer;
 mod sides;
-#[cfg(test)]
-mod tests;

@@ -2,11 +2,12 @@
 ghost use Rattle.std.specs.Prelude.{◌≡◌, ◌++◌, ◌&&◌, not, is_some, IfOk, OnOk, Some};
 ghost use Rattle.std.specs.Option.{option_copied, option_eq};
 ghost use Rattle.fx_model.specs.contracts.member.MemberSetPartialEq.TheImpl as members_eq;
-ghost use Rattle.fx_model.specs.declared.place.Place.TheVariants as place;
+ghost use Rattle.fx_wanted.specs.declared.place.Place.TheVariants as place;
 ghost use Rattle.fx_sequencer.specs.Pending.{absent_places, changed_places, gone_places, other_places, pending_places, place_of_key, put_places};
 
 use fx_base::{Exact, Memory, NameKey, NameMap, SetMap, TextMap};
-use fx_model::{MemberSet, Place, View};
+use fx_model::{MemberSet, View};
+use fx_wanted::Place;
 use std::alloc::Global;
 use std::collections::VecDeque;
 

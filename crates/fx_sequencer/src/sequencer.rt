@@ -19,9 +19,9 @@ use crate::held_sets::{put_member, remove_member};
 use crate::sides::Sides;
 use fx_base::{Memory, NameKey, SetName, Text};
 use fx_model::{
-    Member, MemberSet, Message, Place, SetSink, View, ViewEndpoint, ViewPolicy, ViewProfile,
-    ViewSink, next_message,
+    Member, MemberSet, Message, SetSink, View, ViewEndpoint, ViewPolicy, ViewProfile, ViewSink,
 };
+use fx_wanted::{Place, next_message};
 use std::alloc::Global;
 use std::collections::VecDeque;
 use std::marker::Model;

@@ -4,5 +4,3 @@
 pub use tables::Tables;
 
 mod tables;
-#[cfg(test)]
-mod tests;

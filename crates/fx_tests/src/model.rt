@@ -2,10 +2,11 @@
 use fx_base::{Counter, Memory, NameKey, Seq, Text};
 use fx_model::{
     Endpoint, Item, ItemKey, Key, Policy, PolicyId, Profile, Resources, Tier, Update, View,
-    ViewEndpoint, applies, effective_labels, is_active, next_message, place_of, take_at, view_of,
+    ViewEndpoint,
 };
 use fx_names::{DigestFunction, DigestRule, Namer};
 use fx_selector::{Labels, Selector};
+use fx_wanted::{applies, effective_labels, is_active, next_message, place_of, take_at, view_of};
 use std::alloc::Global;
 use std::test::Fail;
 

@@ -1,7 +1,2 @@
 pub mod Brought
 pub mod Withouts
-pub mod LoggedLemmas
-pub mod ActiveChanges
-pub mod NotedLemmas
-pub mod NotedKept
-pub mod PairRuns

@@ -4,12 +4,12 @@ ghost use Rattle.std.specs.FinMap as map;
 ghost use Rattle.fx_members.specs.Members.{AreMembers};
 ghost use Rattle.fx_resolver.specs.Resolved.{IsResolved, HaveOwnInterfaces};
 ghost use Rattle.fx_sequencer.specs.Sides.{SameSentAndSets};
-ghost use Rattle.fx_told.specs.Kept.{SameButSets};
+ghost use Rattle.fx_parts.specs.Kept.{SameButSets};
 
-use crate::parts::{Beside, SetPart, ViewPart};
 use fx_base::{Memory, NameKey, Text};
 use fx_members::Members;
 use fx_model::{Item, ItemKey};
+use fx_parts::{Beside, SetPart, ViewPart};
 use fx_resolver::Resolver;
 use fx_sequencer::Sequencer;
 use std::alloc::Global;

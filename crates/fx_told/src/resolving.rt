@@ -3,10 +3,10 @@ ghost use Rattle.std.specs.Prelude.{◌≡◌, OnOk, IfOk};
 ghost use Rattle.fx_model.specs.Views.{policy_key};
 ghost use Rattle.fx_resolver.specs.Resolved.{IsResolved};
 ghost use Rattle.fx_told.specs.Knowing.{IsBehind, AreKnown};
-ghost use Rattle.fx_told.specs.PairRun.{IsPairRun};
+ghost use Rattle.fx_logged.specs.PairRun.{IsPairRun};
 
-use crate::active_log::{Logged, PolicyPairChange};
 use fx_base::{Memory, NameKey};
+use fx_logged::{Logged, PolicyPairChange};
 use fx_model::{Policy, PolicyId, PolicyMap, PolicyPairSet, ViewSink};
 use fx_names::{DigestFunction, DigestRule, Namer, Prefix};
 use fx_resolver::Resolver;

@@ -2,10 +2,10 @@
 ghost use Rattle.std.specs.Prelude.{◌≡◌, OnOk};
 ghost use Rattle.fx_scanner.specs.Apart.{IsApart};
 ghost use Rattle.fx_scanner.specs.Scanned.{IsScanned};
-ghost use Rattle.fx_told.specs.Touched.{IsTouched, IsWithout};
+ghost use Rattle.fx_logged.specs.Touched.{IsTouched, IsWithout};
 
-use crate::active_log::Logged;
 use fx_base::{Memory, TextMap};
+use fx_logged::Logged;
 use fx_model::{Policy, PolicyMap, Profile, UseSink};
 use fx_names::{DigestFunction, DigestRule, Namer};
 use fx_scanner::RuleScanner;

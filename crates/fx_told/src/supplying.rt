@@ -4,7 +4,7 @@ ghost use Rattle.fx_base.specs.Set as set;
 ghost use Rattle.fx_model.specs.Pairs.{put};
 ghost use Rattle.fx_joined.specs.Run.{IsRun};
 ghost use Rattle.fx_members.specs.Members.{AreMembers};
-ghost use Rattle.fx_told.specs.Noted.{AreNoted, AreFormed};
+ghost use Rattle.fx_parts.specs.Noted.{AreNoted, AreFormed};
 
 use fx_base::{Memory, SetMap};
 use fx_joined::PairChange;

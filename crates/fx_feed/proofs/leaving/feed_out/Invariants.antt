@@ -2,7 +2,7 @@ use Rattle.std.proofs.Common.{◌≡◌}
 use Rattle.std.specs.FinMap as map
 use Rattle.fx_joined.specs.Joining.{IsJoined}
 use Rattle.fx_members.specs.Members.{AreMembers}
-use Rattle.fx_told.specs.Kept.{SameButSets}
+use Rattle.fx_parts.specs.Kept.{SameButSets}
 use Rattle.fx_feed.specs.Fed.{lowered_by}
 use Rattle.fx_feed.proofs.Walked.{IsFalling}
 use Rattle.fx_feed.proofs.leaving.feed_out.Given as goal

@@ -1,6 +1,6 @@
 use Rattle.std.proofs.Common.{◌≡◌, List, ℕ, ◌++◌, map}
 use Rattle.std.specs.List.{filter}
-use Rattle.fx_model.specs.declared.place.Place.TheVariants as place
+use Rattle.fx_wanted.specs.declared.place.Place.TheVariants as place
 use Rattle.fx_model.specs.Messages.{is_changed}
 use Rattle.fx_sequencer.specs.Pending.{changed_places}
 use Rattle.fx_sequencer.proofs.pending.list_changed_texts.Given as goal

@@ -1,5 +1,5 @@
 use Rattle.std.proofs.Common.{sym, subst}
-use Rattle.fx_told.specs.Noted.{AreFormed}
+use Rattle.fx_parts.specs.Noted.{AreFormed}
 use Rattle.fx_told.proofs.bringing.scan_by.Goals as goal
 
 pub new-log-requires-clause-formed : goal.new-log-requires-clause-formed

@@ -1,6 +1,6 @@
 use Rattle.std.proofs.Common.{◌≡◌, drop}
 use Rattle.fx_resolver.specs.Resolved.{IsResolved}
-use Rattle.fx_told.specs.PairRun.{IsPairRun}
+use Rattle.fx_logged.specs.PairRun.{IsPairRun}
 use Rattle.fx_told.proofs.resolving.resolve_pairs.Given as goal
 
 abbrev pub invariant-loop-change : goal.invariant-loop-change

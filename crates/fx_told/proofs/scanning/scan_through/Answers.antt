@@ -1,6 +1,6 @@
 use Rattle.std.proofs.Common.{sym, ◌∙◌, subst}
 use Rattle.fx_scanner.proofs.ApartUses.{fewer}
-use Rattle.fx_told.specs.Touched.{IsTouched}
+use Rattle.fx_logged.specs.Touched.{IsTouched}
 use Rattle.fx_told.proofs.Withouts.{part_without, without_now}
 use Rattle.fx_told.proofs.scanning.scan_through.Goals as goal
 

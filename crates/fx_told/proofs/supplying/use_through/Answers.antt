@@ -4,7 +4,7 @@ use Rattle.std.specs.Cmp.Lexicographic.{nat_list_cmp_total}
 use Rattle.std.specs.FinMap as map
 use Rattle.fx_base.proofs.KeyCases.{bytes_exact}
 use Rattle.fx_told.proofs.Brought.{IsBrought, begun, head_touched, put, off, pass, ended}
-use Rattle.fx_told.proofs.NotedLemmas.{unnoted, noted_was}
+use Rattle.fx_parts.proofs.NotedLemmas.{unnoted, noted_was}
 use Rattle.fx_told.proofs.supplying.use_through.Goals as goal
 
 pub loop-name-init : goal.loop-name-init

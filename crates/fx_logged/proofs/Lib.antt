@@ -1,0 +1,3 @@
+pub mod LoggedLemmas
+pub mod ActiveChanges
+pub mod PairRuns

@@ -1,0 +1,3 @@
+pub mod Touched
+pub mod PairRun
+pub mod Logged

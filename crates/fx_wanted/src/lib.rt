@@ -1,0 +1,17 @@
+//! What the definitions make of the resources, computed whole: the labels of items, the active policies, the view that a node wants,
+//! and the next message from one view towards another.
+#![tactic(auto)]
+
+pub use labels::{applies, effective_labels, is_active};
+pub use next::next_message;
+pub use place::{Place, place_of, take_at};
+pub use policies::view_policy;
+pub use view::{view_of, view_profile};
+
+mod labels;
+mod next;
+mod place;
+mod policies;
+mod sets;
+mod view;
+mod view_rules;
