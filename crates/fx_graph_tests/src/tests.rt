@@ -36,8 +36,7 @@ fn run(rt: &impl Abort, alloc: Global, list: &str) -> Result<(), Fail> {
     let graph_node = node.clone()?;
     let mut store = Store::new(alloc, node);
     let mut graph: PlainGraph = Graph::new(alloc, graph_node, Namer::new(PlainRule));
-    follow(rt, alloc, list, &mut store, &mut graph)?;
-    Ok(())
+    follow(rt, alloc, list, &mut store, &mut graph)
 }
 
 #[test]

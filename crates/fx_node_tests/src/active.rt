@@ -9,6 +9,7 @@ use fx_model::{ItemKey, Policy, PolicyId, Profile};
 use fx_record::RecordActive;
 use fx_selector::{Labels, Selector};
 use std::alloc::Global;
+use std::process::Abort;
 use std::test::Fail;
 
 /// A policy with its selector's text, a profile, and an endpoint that lists it.
@@ -106,14 +107,27 @@ fn are_needed(sink: &RecordActive, example: &Example) -> (bool, bool) {
     )
 }
 
+/// What is needed while the endpoint is there, and when all is removed.
+fn come_and_go(
+    rt: &impl Abort,
+    node: &mut ActiveRules,
+    example: &Example,
+    sink: &mut RecordActive,
+) -> Result<(), Fail>
+    requires matched { node.old.matched ≡ set.empty }
+    requires active { IsActive node.old sink.old.policies sink.old.profiles sink.old.pairs }
+{
+    put_all(node, example, sink)?;
+    assert_eq!(rt; are_needed(sink, example), (true, true));
+    remove_all(node, example, sink)?;
+    assert_eq!(rt; are_needed(sink, example), (false, false));
+    Ok(())
+}
+
 #[test]
 fn what_an_endpoint_needs_is_active_while_it_is_there(rt: HostRuntime) -> Result<(), Fail> {
     let example = given(rt.alloc())?;
     let mut node = ActiveRules::new(rt.alloc());
     let mut sink = RecordActive::new(rt.alloc());
-    put_all(&mut node, &example, &mut sink)?;
-    assert_eq!(rt; are_needed(&sink, &example), (true, true));
-    remove_all(&mut node, &example, &mut sink)?;
-    assert_eq!(rt; are_needed(&sink, &example), (false, false));
-    Ok(())
+    come_and_go(&rt, &mut node, &example, &mut sink)
 }

@@ -8,6 +8,7 @@ use fx_model::ItemKey;
 use fx_record::RecordMatches;
 use fx_selector::{Labels, Selector};
 use std::alloc::Global;
+use std::process::Abort;
 use std::test::Fail;
 
 const SELECTOR: &[u8] = b"a == \"1\"";
@@ -72,18 +73,45 @@ fn stands(alloc: Global, sink: &RecordMatches, example: &Example) -> Result<bool
     Ok(sink.pairs.contains(&pair))
 }
 
+fn inherit_and_lose(
+    rt: &impl Abort,
+    alloc: Global,
+    index: &mut LabelIndex,
+    example: &Example,
+    sink: &mut RecordMatches,
+) -> Result<(), Fail>
+    requires { IsMatched index.old sink.old.pairs }
+{
+    let mut ticks = Counter::new();
+    put_all(alloc, index, example, sink, &mut ticks)?;
+    assert!(rt; stands(alloc, sink, example)?);
+    index.remove_parent(&example.parent, sink, &mut ticks)?;
+    assert!(rt; !stands(alloc, sink, example)?);
+    Ok(())
+}
+
+fn put_and_remove(
+    alloc: Global,
+    index: &mut LabelIndex,
+    example: &Example,
+    sink: &mut RecordMatches,
+) -> Result<(), Fail>
+    requires { IsMatched index.old sink.old.pairs }
+{
+    let mut ticks = Counter::new();
+    put_all(alloc, index, example, sink, &mut ticks)?;
+    index.remove_item(&example.key, sink, &mut ticks)?;
+    index.remove_selector(&Text::new(alloc, SELECTOR)?, sink, &mut ticks)?;
+    Ok(())
+}
+
 #[test]
 fn an_item_matches_while_its_parent_has_the_label(rt: HostRuntime) -> Result<(), Fail> {
     let alloc = rt.alloc();
     let example = given(alloc)?;
     let mut index = LabelIndex::new(alloc);
     let mut sink = RecordMatches::new(alloc);
-    let mut ticks = Counter::new();
-    put_all(alloc, &mut index, &example, &mut sink, &mut ticks)?;
-    assert!(rt; stands(alloc, &sink, &example)?);
-    index.remove_parent(&example.parent, &mut sink, &mut ticks)?;
-    assert!(rt; !stands(alloc, &sink, &example)?);
-    Ok(())
+    inherit_and_lose(&rt, alloc, &mut index, &example, &mut sink)
 }
 
 #[test]
@@ -92,9 +120,5 @@ fn what_was_put_is_removed(rt: HostRuntime) -> Result<(), Fail> {
     let example = given(alloc)?;
     let mut index = LabelIndex::new(alloc);
     let mut sink = RecordMatches::new(alloc);
-    let mut ticks = Counter::new();
-    put_all(alloc, &mut index, &example, &mut sink, &mut ticks)?;
-    index.remove_item(&example.key, &mut sink, &mut ticks)?;
-    index.remove_selector(&Text::new(alloc, SELECTOR)?, &mut sink, &mut ticks)?;
-    Ok(())
+    put_and_remove(alloc, &mut index, &example, &mut sink)
 }

@@ -1,6 +1,13 @@
 //! The recording sinks, each call once.
 #![tactic(auto, using(fx_base::proofs::AtKey::reads))]
 
+ghost use Rattle.std.specs.Prelude.{◌≡◌};
+ghost use Rattle.std.specs.FinMap as map;
+ghost use Rattle.fx_base.specs.Set as set;
+ghost use Rattle.fx_base.specs.SetName.{kind_of};
+ghost use Rattle.fx_selector.specs.Tree.{IsSelector};
+ghost use Rattle.fx_model.specs.Sets.{IsUse};
+
 use fx_base::{Ipv4, Memory, NameKey, Net, Seq, SetKind, SetName, Text};
 use fx_model::{
     ActiveSink, ItemKey, MatchSink, Member, Policy, PolicyId, Profile, SetSink, SetUse, UseSink,
@@ -9,6 +16,7 @@ use fx_model::{
 use fx_record::{RecordActive, RecordMatches, RecordSets, RecordUses, RecordView};
 use fx_selector::{Labels, Selector};
 use std::alloc::Global;
+use std::process::Abort;
 use std::test::Fail;
 
 fn item(alloc: Global) -> Result<ItemKey, Memory> {
@@ -18,6 +26,22 @@ fn item(alloc: Global) -> Result<ItemKey, Memory> {
     })
 }
 
+fn match_and_end(
+    rt: &impl Abort,
+    sink: &mut RecordMatches,
+    text: &Text,
+    key: &ItemKey,
+    pair: &(Text, ItemKey),
+) -> Result<(), Fail>
+    requires { sink.old.pairs ≡ set.empty }
+{
+    sink.matched(text, key)?;
+    assert!(rt; sink.pairs.contains(pair));
+    sink.unmatched(text, key)?;
+    assert!(rt; !sink.pairs.contains(pair));
+    Ok(())
+}
+
 #[test]
 fn pairs_that_match_are_recorded(rt: HostRuntime) -> Result<(), Fail> {
     let a = rt.alloc();
@@ -25,10 +49,19 @@ fn pairs_that_match_are_recorded(rt: HostRuntime) -> Result<(), Fail> {
     let key = item(a)?;
     let pair = (text.clone()?, key.clone()?);
     let mut sink = RecordMatches::new(a);
-    sink.matched(&text, &key)?;
-    assert!(rt; sink.pairs.contains(&pair));
-    sink.unmatched(&text, &key)?;
-    assert!(rt; !sink.pairs.contains(&pair));
+    match_and_end(&rt, &mut sink, &text, &key, &pair)
+}
+
+fn turn_on_and_off(
+    rt: &impl Abort,
+    sink: &mut RecordActive,
+    id: &PolicyId,
+    policy: &Policy,
+) -> Result<(), Fail> {
+    sink.policy_on(id, policy)?;
+    assert!(rt; sink.policies.get(id).is_some());
+    sink.policy_off(id)?;
+    assert!(rt; sink.policies.get(id).is_none());
     Ok(())
 }
 
@@ -48,11 +81,7 @@ fn active_policies_are_recorded(rt: HostRuntime) -> Result<(), Fail> {
         egress: Seq::new(a),
     };
     let mut sink = RecordActive::new(a);
-    sink.policy_on(&id, &policy)?;
-    assert!(rt; sink.policies.get(&id).is_some());
-    sink.policy_off(&id)?;
-    assert!(rt; sink.policies.get(&id).is_none());
-    Ok(())
+    turn_on_and_off(&rt, &mut sink, &id, &policy)
 }
 
 #[test]
@@ -99,10 +128,27 @@ fn endpoints_of_a_view_are_recorded(rt: HostRuntime) -> Result<(), Fail> {
     Ok(())
 }
 
+fn put_and_take(
+    rt: &impl Abort,
+    sink: &mut RecordView,
+    policy: ViewPolicy,
+    profile: ViewProfile,
+) -> Result<(), Fail> {
+    let key = NameKey::new(b"gnp/p");
+    sink.policy_put(key, policy)?;
+    sink.profile_put(NameKey::new(b"p"), profile)?;
+    assert_eq!(rt; sink.policies.len(), 1);
+    assert_eq!(rt; sink.profiles.len(), 1);
+    sink.policy_gone(key)?;
+    sink.profile_gone(NameKey::new(b"p"))?;
+    assert_eq!(rt; sink.policies.len(), 0);
+    assert_eq!(rt; sink.profiles.len(), 0);
+    Ok(())
+}
+
 #[test]
 fn policies_and_profiles_of_a_view_are_recorded(rt: HostRuntime) -> Result<(), Fail> {
     let a = rt.alloc();
-    let key = NameKey::new(b"gnp/p");
     let policy = ViewPolicy {
         id: PolicyId::Global {
             name: Text::new(a, b"p")?,
@@ -117,14 +163,22 @@ fn policies_and_profiles_of_a_view_are_recorded(rt: HostRuntime) -> Result<(), F
         egress: Seq::new(a),
     };
     let mut sink = RecordView::new(a);
-    sink.policy_put(key, policy)?;
-    sink.profile_put(NameKey::new(b"p"), profile)?;
-    assert_eq!(rt; sink.policies.len(), 1);
-    assert_eq!(rt; sink.profiles.len(), 1);
-    sink.policy_gone(key)?;
-    sink.profile_gone(NameKey::new(b"p"))?;
-    assert_eq!(rt; sink.policies.len(), 0);
-    assert_eq!(rt; sink.profiles.len(), 0);
+    put_and_take(&rt, &mut sink, policy, profile)
+}
+
+fn pair_and_part(
+    rt: &impl Abort,
+    sink: &mut RecordActive,
+    id: &PolicyId,
+    key: &ItemKey,
+    pair: &(PolicyId, ItemKey),
+) -> Result<(), Fail>
+    requires { sink.old.pairs ≡ set.empty }
+{
+    sink.pair_on(id, key)?;
+    assert!(rt; sink.pairs.contains(pair));
+    sink.pair_off(id, key)?;
+    assert!(rt; !sink.pairs.contains(pair));
     Ok(())
 }
 
@@ -137,10 +191,24 @@ fn pairs_of_policies_are_recorded(rt: HostRuntime) -> Result<(), Fail> {
     let key = item(a)?;
     let pair = (id.clone()?, key.clone()?);
     let mut sink = RecordActive::new(a);
-    sink.pair_on(&id, &key)?;
-    assert!(rt; sink.pairs.contains(&pair));
-    sink.pair_off(&id, &key)?;
-    assert!(rt; !sink.pairs.contains(&pair));
+    pair_and_part(&rt, &mut sink, &id, &key, &pair)
+}
+
+fn use_and_drop(
+    rt: &impl Abort,
+    sink: &mut RecordUses,
+    name: SetName,
+    set: &SetUse,
+) -> Result<(), Fail>
+    requires absent { sink.old.uses ≡ map.empty }
+    requires kind { kind_of name ≡ set.now.kind }
+    requires set { IsUse set.now }
+    requires selector { IsSelector set.now.selector }
+{
+    sink.use_on(name, set)?;
+    assert!(rt; sink.uses.contains_key(&name));
+    sink.use_off(name)?;
+    assert!(rt; !sink.uses.contains_key(&name));
     Ok(())
 }
 
@@ -150,11 +218,7 @@ fn used_sets_are_recorded(rt: HostRuntime) -> Result<(), Fail> {
     let name = SetName::new(SetKind::Nets, [b'A'; 23]);
     let set = SetUse::of_nets(a, &Selector::parse(a, b"all()")?)?;
     let mut sink = RecordUses::new(a);
-    sink.use_on(name, &set)?;
-    assert!(rt; sink.uses.contains_key(&name));
-    sink.use_off(name)?;
-    assert!(rt; !sink.uses.contains_key(&name));
-    Ok(())
+    use_and_drop(&rt, &mut sink, name, &set)
 }
 
 #[test]

@@ -15,6 +15,21 @@ fn answered(alloc: Global, answer: &Result<Update, ReadFault>) -> Result<String,
     }
 }
 
+// One place lets go of what was read.
+fn told(alloc: Global, answer: Result<Update, ReadFault>) -> Result<String, Fail> {
+    answered(alloc, &answer)
+}
+
+fn resource_text(alloc: Global, text: &str) -> Result<String, Fail> {
+    let value = Value::from_str(alloc, text)?;
+    told(alloc, read_resource(alloc, &value))
+}
+
+fn delete_text(alloc: Global, text: &str) -> Result<String, Fail> {
+    let value = Value::from_str(alloc, text)?;
+    told(alloc, read_delete(alloc, &value))
+}
+
 const PROFILE: &str =
     r#"{"apiVersion":"projectcalico.org/v3","kind":"Profile","metadata":{"name":"p"},"spec":{
 "ingress":[{"action":"Deny","protocol":"tcp","notProtocol":17,"source":{"nets":["10.1.2.3/8","::"],"ports":[80,"1:9","dns"]}}],
@@ -81,8 +96,7 @@ fn resources_are_read(rt: HostRuntime) -> Result<(), Fail> {
         (TIER, READ_TIER),
     ];
     for (text, want) in rows {
-        let value = Value::from_str(alloc, text)?;
-        let said = answered(alloc, &read_resource(alloc, &value))?;
+        let said = resource_text(alloc, text)?;
         assert_eq!(rt; said.as_str(), want);
     }
     Ok(())
@@ -106,8 +120,7 @@ fn deletes_are_read(rt: HostRuntime) -> Result<(), Fail> {
         ),
     ];
     for (text, want) in rows {
-        let value = Value::from_str(alloc, text)?;
-        let said = answered(alloc, &read_delete(alloc, &value))?;
+        let said = delete_text(alloc, text)?;
         assert_eq!(rt; said.as_str(), want);
     }
     Ok(())
@@ -160,20 +173,37 @@ old
 app
 projectcalico.org/namespace";
 
-// The first row that isn't so of the resource.
-fn wrong_label<'r>(alloc: Global, resource: &str, rows: &'r str) -> Result<Option<&'r str>, Fail> {
-    let value = Value::from_str(alloc, resource)?;
-    let Ok(update) = read_resource(alloc, &value) else {
-        return Ok(Some("refused"));
-    };
+fn has_label(update: &Update, key: &str, value: &str) -> bool {
+    match label(update, key) {
+        Some(found) => found == value.as_bytes(),
+        None => false,
+    }
+}
+
+fn is_so(update: &Update, row: &str) -> bool {
+    match row.split_once(" => ") {
+        Some((key, value)) => has_label(update, key, value),
+        None => label(update, row).is_none(),
+    }
+}
+
+// The first row that isn't so of what was put.
+fn wrong_row<'r>(update: &Update, rows: &'r str) -> Option<&'r str> {
     for row in rows.lines() {
-        let want = row.split_once(" => ");
-        let key = want.map_or(row, |(key, _)| key);
-        if label(&update, key) != want.map(|(_, value)| value.as_bytes()) {
-            return Ok(Some(row));
+        if !is_so(update, row) {
+            return Some(row);
         }
     }
-    Ok(None)
+    None
+}
+
+// The same of a resource.
+fn wrong_label<'r>(alloc: Global, resource: &str, rows: &'r str) -> Result<Option<&'r str>, Fail> {
+    let value = Value::from_str(alloc, resource)?;
+    match &read_resource(alloc, &value) {
+        Ok(update) => Ok(wrong_row(update, rows)),
+        Err(_) => Ok(Some("refused")),
+    }
 }
 
 #[test]
@@ -204,8 +234,7 @@ fn never(alloc: Global, members: &str) -> Result<bool, Fail> {
     let text = format!(in alloc;
         "{{\"apiVersion\":\"projectcalico.org/v3\",\"kind\":\"Profile\",\"metadata\":{{\"name\":\"p\"}},\"spec\":{{\"egress\":[{{\"action\":\"Deny\",{members}}}]}}}}"
     )?;
-    let value = Value::from_str(alloc, text.as_str())?;
-    Ok(answered(alloc, &read_resource(alloc, &value))?.contains("never: true"))
+    Ok(resource_text(alloc, text.as_str())?.contains("never: true"))
 }
 
 #[test]

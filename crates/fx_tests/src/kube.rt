@@ -127,12 +127,16 @@ const SELECTED: &str =
 {"podSelector":{"matchExpressions":[{"key":"c","operator":"NotIn","values":["z","y","z"]},{"key":"d","operator":"In","values":["x"]}],"matchLabels":{"a":""}}} => (a == "" && c not in {"y", "z"} && d in {"x"} && projectcalico.org/orchestrator == "k8s" && projectcalico.org/namespace == "n")
 {"podSelector":{"matchExpressions":[{"key":"c","operator":"Exists"},{"key":"d","operator":"DoesNotExist"}]}} => (has(c) && !has(d) && projectcalico.org/orchestrator == "k8s" && projectcalico.org/namespace == "n")"#;
 
-fn selected_text(alloc: Global, spec: &str) -> Result<Text, Fail> {
-    let update = policy_put(alloc, spec)?;
-    match policy_in(&update) {
+fn selector_text(alloc: Global, policy: Option<&Policy>) -> Result<Text, Fail> {
+    match policy {
         Some(policy) => canonical(alloc, Some(&policy.selector)),
         None => canonical(alloc, None),
     }
+}
+
+fn selected_text(alloc: Global, spec: &str) -> Result<Text, Fail> {
+    let update = policy_put(alloc, spec)?;
+    selector_text(alloc, policy_in(&update))
 }
 
 #[test]
@@ -154,8 +158,8 @@ const PEERS: &str =
 {"namespaceSelector":{"matchExpressions":[{"key":"b","operator":"NotIn","values":["2"]}]},"podSelector":{"matchLabels":{"a":"1"}}} => (a == "1" && projectcalico.org/orchestrator == "k8s" && pcns.b not in {"2"})
 {"ipBlock":{"cidr":"10.0.0.0/8"}} => -"#;
 
-fn first_source(alloc: Global, rules: &[Rule]) -> Result<Text, Fail> {
-    match rules.first() {
+fn first_source(alloc: Global, policy: Option<&Policy>) -> Result<Text, Fail> {
+    match policy.and_then(|policy| policy.ingress.as_slice().first()) {
         Some(rule) => canonical(alloc, rule.source.selector.as_ref()),
         None => canonical(alloc, None),
     }
@@ -164,10 +168,7 @@ fn first_source(alloc: Global, rules: &[Rule]) -> Result<Text, Fail> {
 fn source_text(alloc: Global, peer: &str) -> Result<Text, Fail> {
     let spec = format!(in alloc; "{{\"ingress\":[{{\"from\":[{peer}]}}]}}")?;
     let update = policy_put(alloc, spec.as_str())?;
-    match policy_in(&update) {
-        Some(policy) => first_source(alloc, policy.ingress.as_slice()),
-        None => canonical(alloc, None),
-    }
+    first_source(alloc, policy_in(&update))
 }
 
 #[test]
@@ -203,15 +204,19 @@ fn rules_text(alloc: Global, rules: &[Rule]) -> Result<String, Fail> {
     Ok(told)
 }
 
+fn ingress_text(alloc: Global, policy: Option<&Policy>) -> Result<String, Fail> {
+    match policy {
+        Some(policy) => rules_text(alloc, policy.ingress.as_slice()),
+        None => Ok(String::new(alloc)),
+    }
+}
+
 fn entries_text(alloc: Global, entries: &str) -> Result<String, Fail> {
     let spec = format!(in alloc;
         "{{\"ingress\":[{{\"from\":[{{\"podSelector\":{{}}}},{{\"ipBlock\":{{\"cidr\":\"10.0.0.0/8\"}}}}],\"ports\":{entries}}}]}}"
     )?;
     let update = policy_put(alloc, spec.as_str())?;
-    match policy_in(&update) {
-        Some(policy) => rules_text(alloc, policy.ingress.as_slice()),
-        None => Ok(String::new(alloc)),
-    }
+    ingress_text(alloc, policy_in(&update))
 }
 
 #[test]

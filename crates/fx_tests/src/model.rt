@@ -8,6 +8,7 @@ use fx_names::{DigestFunction, DigestRule, Namer};
 use fx_selector::{Labels, Selector};
 use fx_wanted::{applies, effective_labels, is_active, next_message, place_of, take_at, view_of};
 use std::alloc::Global;
+use std::process::Abort;
 use std::test::Fail;
 
 /// One digest for all texts.
@@ -107,19 +108,63 @@ fn the_first_profile_that_has_a_label_wins(rt: HostRuntime) -> Result<(), Fail> 
     Ok(())
 }
 
+/// Whether a policy applies to the packets to the endpoint and to those from it, and whether it is active.
+fn reach_of(
+    alloc: Global,
+    resources: &Resources,
+    policy: &Policy,
+    endpoint: &Endpoint,
+    ticks: &mut Counter,
+) -> Result<(bool, bool, bool), Fail> {
+    let to_it = applies(alloc, resources, policy, endpoint, true, ticks)?;
+    let from_it = applies(alloc, resources, policy, endpoint, false, ticks)?;
+    let active = is_active(alloc, resources, policy, ticks)?;
+    Ok((to_it, from_it, active))
+}
+
+fn reach(
+    alloc: Global,
+    resources: &Resources,
+    selector: &[u8],
+    endpoint: &Endpoint,
+    ticks: &mut Counter,
+) -> Result<(bool, bool, bool), Fail> {
+    let policy = policy(alloc, selector)?;
+    reach_of(alloc, resources, &policy, endpoint, ticks)
+}
+
+fn reach_so_far(
+    rt: &impl Abort,
+    alloc: Global,
+    resources: &Resources,
+    endpoint: &Endpoint,
+) -> Result<(), Fail> {
+    let mut ticks = Counter::new();
+    let one = reach(alloc, resources, b"a == '1'", endpoint, &mut ticks)?;
+    assert_eq!(rt; one, (true, false, true));
+    let two = reach(alloc, resources, b"a == '2'", endpoint, &mut ticks)?;
+    assert_eq!(rt; two, (false, false, false));
+    assert_eq!(rt; ticks.count(), 7);
+    Ok(())
+}
+
 #[test]
 fn a_policy_is_active_where_it_applies_to_a_served_endpoint(rt: HostRuntime) -> Result<(), Fail> {
-    let a = rt.alloc();
-    let resources = filled(a)?;
-    let endpoint = web(a)?;
-    let mut ticks = Counter::new();
-    let one = policy(a, b"a == '1'")?;
-    assert!(rt; applies(a, &resources, &one, &endpoint, true, &mut ticks)?);
-    assert!(rt; !applies(a, &resources, &one, &endpoint, false, &mut ticks)?);
-    assert!(rt; is_active(a, &resources, &one, &mut ticks)?);
-    let two = policy(a, b"a == '2'")?;
-    assert!(rt; !is_active(a, &resources, &two, &mut ticks)?);
-    assert_eq!(rt; ticks.count(), 5);
+    let resources = filled(rt.alloc())?;
+    let endpoint = web(rt.alloc())?;
+    reach_so_far(&rt, rt.alloc(), &resources, &endpoint)
+}
+
+/// Three messages lead from one view to the other.
+fn follow(rt: &impl Abort, sent: &mut View, wanted: &View) -> Result<(), Fail> {
+    for _ in 0..3 {
+        assert!(rt; *sent != *wanted);
+        if let Some(message) = next_message(sent, wanted) {
+            let place = place_of(&message)?;
+            take_at(sent, wanted, place)?;
+        }
+    }
+    assert!(rt; *sent == *wanted);
     Ok(())
 }
 
@@ -138,15 +183,7 @@ fn messages_lead_to_the_view(rt: HostRuntime) -> Result<(), Fail> {
     }
     assert!(rt; wanted.endpoints.contains_key(&Text::new(a, b"cali1")?));
     let mut sent = View::new(a);
-    for _ in 0..3 {
-        assert!(rt; sent != wanted);
-        if let Some(message) = next_message(&sent, &wanted) {
-            let place = place_of(&message)?;
-            take_at(&mut sent, &wanted, place)?;
-        }
-    }
-    assert!(rt; sent == wanted);
-    Ok(())
+    follow(&rt, &mut sent, &wanted)
 }
 
 // A tier and its order.

@@ -111,6 +111,26 @@ fn run(
     Ok(())
 }
 
+fn give_and_take(
+    rt: &impl Abort,
+    node: &mut Members,
+    example: &Example,
+    table: &[(&[Net], usize)],
+    sink: &mut RecordSets,
+) -> Result<(), Fail>
+    requires kind { kind_of example.now.name ≡ example.now.set.kind }
+    requires set { IsUse example.now.set }
+    requires selector { IsSelector example.now.set.selector }
+    requires matched { node.old.matched ≡ key_sets.empty }
+    requires members { AreMembers node.old sink.old.sets }
+{
+    start(node, example, sink)?;
+    run(rt, node, example, table, sink)?;
+    end(node, example, sink)?;
+    assert_eq!(rt; len(sink, example), None);
+    Ok(())
+}
+
 #[test]
 fn a_set_has_what_its_items_give_while_they_give_it(rt: HostRuntime) -> Result<(), Fail> {
     let all = Net {
@@ -132,9 +152,5 @@ fn a_set_has_what_its_items_give_while_they_give_it(rt: HostRuntime) -> Result<(
     let example = given(rt.alloc())?;
     let mut node = Members::new(rt.alloc());
     let mut sink = RecordSets::new(rt.alloc());
-    start(&mut node, &example, &mut sink)?;
-    run(&rt, &mut node, &example, &table, &mut sink)?;
-    end(&mut node, &example, &mut sink)?;
-    assert_eq!(rt; len(&sink, &example), None);
-    Ok(())
+    give_and_take(&rt, &mut node, &example, &table, &mut sink)
 }
