@@ -28,3 +28,5 @@ pub mod Spelled
 pub mod OneFault
 pub mod Literals
 pub mod FormedTrees
+pub mod Needing
+pub mod NeedExamples

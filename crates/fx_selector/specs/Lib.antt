@@ -16,3 +16,4 @@ pub mod Going
 pub mod SameTree
 pub mod Rewriting
 pub mod Parsing
+pub mod Needs

@@ -5,12 +5,14 @@ ghost use Rattle.std.specs.FinMap as map;
 ghost use Rattle.std.specs.Cmp.{on_per, and_per, on_equiv, and_equiv, partial_equiv_from_equiv};
 ghost use Rattle.std.specs.Cmp.Lexicographic.{pointwise, lists_per, lists_equiv, nat_list_eq_equiv};
 ghost use Rattle.fx_base.specs.Extended.{extended};
+ghost use Rattle.fx_base.specs.Keyed.{keyed};
 ghost use Rattle.fx_base.specs.Same.{same_bytes, same_finite};
 ghost use Rattle.fx_selector.specs.Prefixed.{prefixed};
 
 use fx_base::{Exact, Memory, Text};
 use std::alloc::{AllocError, Global};
 use std::collections::BTreeMap;
+use std::collections::btree_map::Iter;
 use std::marker::Model;
 
 /// Label values by their keys, both texts of any bytes.
@@ -78,6 +80,13 @@ impl Labels {
             labels.put(key.as_slice(), value.bytes())?;
         }
         Ok(labels)
+    }
+
+    /// The labels, by ascending keys.
+    pub fn iter(&self) -> Iter<'_, Vec<u8>, Text>
+        ensures { keyed (λ k. k.items) result ≡ map.entries self.now }
+    {
+        self.held.iter()
     }
 
     pub fn get(&self, key: &[u8]) -> Option<&[u8]>

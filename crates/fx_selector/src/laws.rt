@@ -1,7 +1,9 @@
 //! The laws of the language, each the contract of a function that does nothing.
-ghost use Rattle.std.specs.Prelude.{◌≡◌, ◌≢◌, ℕ, List};
+ghost use Rattle.std.specs.Prelude.{◌≡◌, ◌≢◌, ℕ, List, true};
 ghost use Rattle.fx_selector.specs.Tree.{Tree, IsTree};
 ghost use Rattle.fx_selector.specs.Canonical.{canonical_text};
+ghost use Rattle.fx_selector.specs.Truth.{LabelMap, holds};
+ghost use Rattle.fx_selector.specs.Needs.{needed, meets};
 ghost use Rattle.fx_selector.specs.Places.{Spells, IsSelectorFault};
 
 use crate::fault::SelectorFault;
@@ -20,4 +22,9 @@ pub fn one_fault()
 /// The canonical text of a tree spells it. So equal canonical texts mean equal trees.
 pub fn canonical_text_spells()
     ensures { (t : Tree) → IsTree t → Spells (canonical_text t) t }
+{}
+
+/// Labels on which a selector holds meet what it needs.
+pub fn holding_meets()
+    ensures { (t : Tree) (m : LabelMap) → holds t m ≡ true → meets (needed t) m ≡ true }
 {}

@@ -7,7 +7,8 @@
 pub use fault::SelectorFault;
 pub use forms::{is_selector_key, is_selector_string};
 pub use labels::Labels;
-pub use laws::{canonical_text_spells, one_fault, one_tree};
+pub use laws::{canonical_text_spells, holding_meets, one_fault, one_tree};
+pub use needs::Requirement;
 pub use selector::Selector;
 
 mod canonical;
@@ -18,6 +19,7 @@ mod forms;
 mod grammar;
 mod labels;
 mod laws;
+mod needs;
 mod node;
 mod rewriting;
 mod selector;

@@ -4,6 +4,7 @@ ghost use Rattle.fx_selector.specs.Tree.{Tree, IsSelector, AreTrees, many, IsKey
 ghost use Rattle.fx_selector.specs.Nodes.{tree};
 ghost use Rattle.fx_selector.specs.Truth.{holds};
 ghost use Rattle.fx_selector.specs.Canonical.{canonical_text};
+ghost use Rattle.fx_selector.specs.Needs.{needed, need_in};
 ghost use Rattle.fx_selector.specs.Rewriting.{namespace_tree, service_account_tree};
 ghost use Rattle.fx_selector.specs.Places.{Spells, Means, IsSelectorFault};
 ghost use Rattle.fx_selector.specs.SameTree.{same_tree, same_tree_equiv, one_tree};
@@ -12,8 +13,9 @@ ghost use Rattle.std.specs.Cmp.{partial_equiv_from_equiv};
 use crate::fault::SelectorFault;
 use crate::grammar::ascending;
 use crate::labels::Labels;
+use crate::needs::Requirement;
 use crate::node::{Node, Test, all_of};
-use crate::{canonical, copy, equality, rewriting, truth, whole};
+use crate::{canonical, copy, equality, needs, rewriting, truth, whole};
 use fx_base::{Exact, Memory, Text, Ticker};
 use std::alloc::{AllocError, Global};
 use std::marker::Model;
@@ -75,6 +77,13 @@ impl Selector {
     {
         ticks.tick();
         truth::matches(&self.node, labels)
+    }
+
+    /// What labels need to have for the selector to hold on them. Takes no memory.
+    pub fn requirement(&self) -> Option<Requirement<'_>>
+        ensures { need_in result ≡ needed self.now }
+    {
+        needs::requirement_of(&self.node)
     }
 
     /// The text by which selectors are told apart.

@@ -8,4 +8,6 @@ mod kube;
 #[cfg(test)]
 mod model;
 #[cfg(test)]
+mod needs;
+#[cfg(test)]
 mod selector;
