@@ -4,7 +4,7 @@ use Rattle.std.specs.Prelude.{codes}
 use Rattle.std.specs.Cmp.Lexicographic.{slice_cmp, nat_list_cmp_total}
 use Rattle.std.specs.Ordering.{nat_cmp, eq_by_cmp}
 use Rattle.std.specs.FinMap as map
-use Rattle.fx_selector.specs.Tree.{Tree, all, global, has, equal, unequal, within, outside, starts, negated, each, some, many}
+use Rattle.fx_selector.specs.Tree.{all, global, has, equal, unequal, within, outside, starts, negated, each, some, many}
 use Rattle.fx_selector.specs.Truth.{LabelMap}
 use Rattle.fx_selector.specs.Needs.{Need, needed, has_one, meets}
 

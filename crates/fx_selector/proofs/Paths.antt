@@ -1,6 +1,6 @@
 -- Which way a reader goes.
 use Rattle.std.proofs.Common.{◌≡◌, ◌≢◌, ℕ, zero, suc, ◌-◌, true, false, cond, eqb, List, [], ◌∷◌, length, refl, sym, ap, ◌∙◌, arith}
-use Rattle.fx_selector.specs.Reading.{unexpected, deep, Res, Got, Stop, bind, choose, mapped, mark, skip, word, led, begins_with}
+use Rattle.fx_selector.specs.Reading.{unexpected, Res, Got, Stop, bind, choose, mapped, mark, skip, word, led, begins_with}
 use Rattle.fx_selector.specs.Tree.{Tree, within, negated}
 use Rattle.fx_selector.specs.Reader.{in_set, equal_test, unequal_test, outside_test, contains_test, starts_test, ends_test, call, test, word_test, atom, or_of, not_of, at_end, from_start, parsed}
 

@@ -1,7 +1,6 @@
 use Rattle.std.proofs.Common.{map, ap, ◌∙◌}
 use Rattle.std.specs.Ordering.{nat_cmp}
 use Rattle.std.specs.Cmp.Lexicographic.{slice_cmp, nat_list_cmp_total}
-use Rattle.std.specs.FinMap as maps
 use Rattle.fx_base.specs.Extended.{extended, collected}
 use Rattle.fx_base.specs.Keyed.{keyed}
 use Rattle.fx_base.proofs.Entries.{walked}

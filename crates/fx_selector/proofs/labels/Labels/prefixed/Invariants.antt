@@ -1,5 +1,4 @@
 use Rattle.std.proofs.Common.{◌≡◌, map}
-use Rattle.std.specs.FinMap as maps
 use Rattle.fx_base.specs.Extended.{extended}
 use Rattle.fx_base.specs.Keyed.{keyed}
 use Rattle.fx_selector.specs.Prefixed.{prefixed_entry, prefixed}
