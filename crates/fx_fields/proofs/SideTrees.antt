@@ -1,13 +1,13 @@
--- The selectors of a side that is read are ones that some text spells, and so are the names of its service accounts.
-use Rattle.std.proofs.Common.{◌≡◌, ℕ, List, [], ◌∷◌, ◌++◌, Bool, true, false, Option, Some, None, IfOk, refl, arith, lit<}
+-- The selectors of a side that is read are ones that some text spells, and not too high; so are those of its service accounts.
+use Rattle.std.proofs.Common.{◌≡◌, ℕ, List, [], ◌∷◌, ◌++◌, ◌≤◌, Bool, true, false, Option, Some, None, IfOk, refl, arith, lit<}
 use Rattle.std.specs.Prelude.{codes, IfSome, option_map, option_to_list}
 use Rattle.std.specs.List.{list_all}
 use Rattle.serde_json.specs.Data.{Data}
 use Rattle.fx_base.specs.Given.{is_given}
-use Rattle.fx_selector.specs.Tree.{Tree, IsTree, AreTrees, IsKey, IsString, AreStrings, many, and_of}
+use Rattle.fx_selector.specs.Tree.{Tree, IsTree, AreTrees, IsKey, IsString, AreStrings, many, and_of, height, heights}
 use Rattle.fx_selector.specs.Rewriting.{service_account_tree}
 use Rattle.fx_selector.proofs.Literals.{literal_key}
-use Rattle.fx_selector.proofs.Rewritten.{namespace_selector, service_account_selector}
+use Rattle.fx_selector.proofs.Rewritten.{height-rewritten, namespace_selector, service_account_selector}
 use Rattle.fx_selector.proofs.Sound.{one_of_selector}
 use Rattle.fx_fields.specs.declared.rule_form.RuleForm.{RuleForm}
 use Rattle.fx_fields.specs.declared.rule_form.RuleForm.TheVariants.{OfPolicy, OfNamespace, OfProfile}
@@ -25,25 +25,45 @@ use Rattle.fx_fields.proofs.SelectorTexts.{IsPart, selector_at-part}
 
 -- ---- parts of a selector
 
+-- A text's tree has at most 131 levels, rewriting adds one, and so does asking for several together.
+abbrev IsPartTree : Tree → Type 0
+IsPartTree t = IsTree t × (height t ≤ 132)
+
+abbrev ArePartTrees : List Tree → Type 0
+ArePartTrees ts = AreTrees (many ts) × (heights (many ts) ≤ 132)
+
+abbrev IsPartOf : Option Tree → Type 0
+IsPartOf part = IfSome part IsPartTree
+
+-- a tree that some text spells, and that may be asked for together with another
+abbrev pub IsSideTree : Tree → Type 0
+IsSideTree t = IsTree t × (height t ≤ 139)
+
 abbrev pub IsTreeOf : Option Tree → Type 0
-IsTreeOf part = IfSome part IsTree
+IsTreeOf part = IfSome part IsSideTree
 
-trees-append : (ts us : List Tree) → AreTrees (many ts) → AreTrees (many us) → AreTrees (many (ts ++ us))
+trees-append : (ts us : List Tree) → ArePartTrees ts → ArePartTrees us → ArePartTrees (ts ++ us)
 trees-append [] us h g = g
-trees-append (t ∷ ts) us h g = (h.0, trees-append ts us h.1 g)
+trees-append (t ∷ ts) us h g =
+    let rest = trees-append ts us (h.0.1, omega (arith, h.1)) g in
+    ((h.0.0, rest.0), omega (arith, h.1, rest.1))
 
-trees-option : (part : Option Tree) → IsTreeOf part → AreTrees (many (option_to_list part))
-trees-option None h = tt
-trees-option (Some t) h = (h, tt)
+trees-option : (part : Option Tree) → IsPartOf part → ArePartTrees (option_to_list part)
+trees-option None h = (tt, omega arith)
+trees-option (Some t) h = ((h.0, tt), omega (arith, h.1))
 
-and-tree : (ts : List Tree) → AreTrees (many ts) → IsTree (and_of ts)
-and-tree [] h = tt
-and-tree (t ∷ []) h = h.0
-and-tree (t ∷ u ∷ us) h = (h, omega arith)
+and-tree : (ts : List Tree) → ArePartTrees ts → IsSideTree (and_of ts)
+and-tree [] h = (tt, omega arith)
+and-tree (t ∷ []) h = (h.0.0, omega (arith, h.1))
+and-tree (t ∷ u ∷ us) h = ((h.0, omega arith), omega (arith, h.1))
 
 part-tree : (part : Option Tree) → IsPart part → IsTreeOf part
 part-tree None h = tt
-part-tree (Some t) h = h.0
+part-tree (Some t) h = (h.0, omega (arith, h.1))
+
+own_part-tree : (part : Option Tree) → IsPart part → IsPartOf part
+own_part-tree None h = tt
+own_part-tree (Some t) h = (h.0, omega (arith, h.1))
 
 -- ---- service accounts
 
@@ -71,13 +91,14 @@ accounts_at-formed path d =
 account_key : IsKey (codes "projectcalico.org/serviceaccount")
 account_key = literal_key (codes "projectcalico.org/serviceaccount") refl (lit< tt)
 
-names-tree : (names : List (List ℕ)) → AreStrings names → IsTreeOf (of_names names)
+names-tree : (names : List (List ℕ)) → AreStrings names → IsPartOf (of_names names)
 names-tree [] h = tt
-names-tree (n ∷ ns) h = (one_of_selector (codes "projectcalico.org/serviceaccount") (n ∷ ns) false account_key h).tree
+names-tree (n ∷ ns) h = ((one_of_selector (codes "projectcalico.org/serviceaccount") (n ∷ ns) false account_key h).tree, omega arith)
 
-chosen-tree : (part : Option Tree) → IsPart part → IsTreeOf (option_map service_account_tree part)
+chosen-tree : (part : Option Tree) → IsPart part → IsPartOf (option_map service_account_tree part)
 chosen-tree None h = tt
-chosen-tree (Some t) h = (service_account_selector t h.0 (omega (arith, h.1))).tree
+chosen-tree (Some t) h =
+    ((service_account_selector t h.0 (omega (arith, h.1))).tree, omega (arith, h.1, height-rewritten (codes "pcsa.") (codes "projectcalico.org/serviceaccount") t))
 
 -- ---- namespaces
 
@@ -87,26 +108,27 @@ IsForm OfPolicy = Unit {0}
 IsForm (OfNamespace ns) = IsString ns
 IsForm OfProfile = Unit {0}
 
-own-tree : (form : RuleForm) → IsForm form → IsTreeOf (own_namespace form)
+own-tree : (form : RuleForm) → IsForm form → IsPartOf (own_namespace form)
 own-tree OfPolicy h = tt
-own-tree (OfNamespace ns) h = (literal_key (codes "projectcalico.org/namespace") refl (lit< tt), h)
+own-tree (OfNamespace ns) h = ((literal_key (codes "projectcalico.org/namespace") refl (lit< tt), h), omega arith)
 own-tree OfProfile h = tt
 
-namespace-tree : (form : RuleForm) → IsForm form → (asked : Bool) (part : Option Tree) → IsPart part → IsTreeOf (namespace_part form asked part)
-namespace-tree form stands asked (Some t) h = (namespace_selector t h.0 (omega (arith, h.1))).tree
+namespace-tree : (form : RuleForm) → IsForm form → (asked : Bool) (part : Option Tree) → IsPart part → IsPartOf (namespace_part form asked part)
+namespace-tree form stands asked (Some t) h =
+    ((namespace_selector t h.0 (omega (arith, h.1))).tree, omega (arith, h.1, height-rewritten (codes "pcns.") (codes "projectcalico.org/namespace") t))
 namespace-tree form stands true None h = own-tree form stands
 namespace-tree form stands false None h = tt
 
 -- ---- all together
 
-earlier-trees : (own : Option Tree) (accounts : Accounts) → IsPart own → AreAccounts accounts → AreTrees (many (earlier_parts own accounts))
+earlier-trees : (own : Option Tree) (accounts : Accounts) → IsPart own → AreAccounts accounts → ArePartTrees (earlier_parts own accounts)
 earlier-trees own accounts o a =
-    trees-append (option_to_list own) (option_to_list (of_names accounts.names) ++ option_to_list (option_map service_account_tree accounts.chosen)) (trees-option own (part-tree own o))
+    trees-append (option_to_list own) (option_to_list (of_names accounts.names) ++ option_to_list (option_map service_account_tree accounts.chosen)) (trees-option own (own_part-tree own o))
     (trees-append (option_to_list (of_names accounts.names)) (option_to_list (option_map service_account_tree accounts.chosen))
     (trees-option (of_names accounts.names) (names-tree accounts.names a.0))
     (trees-option (option_map service_account_tree accounts.chosen) (chosen-tree accounts.chosen a.1)))
 
-asked-tree : (parts : List Tree) → AreTrees (many parts) → IsTreeOf (asked_by parts)
+asked-tree : (parts : List Tree) → ArePartTrees parts → IsTreeOf (asked_by parts)
 asked-tree [] h = tt
 asked-tree (t ∷ ts) h = and-tree (t ∷ ts) h
 

@@ -1,13 +1,15 @@
 -- Each side that is read is formed: it lists ports beside a protocol that has them alone, the names of its ports have no
 -- comma, and its selectors are ones that some text spells.
-use Rattle.std.proofs.Common.{◌≡◌, ℕ, List, Bool, true, ◌&&◌, ◌||◌, Option, Some, None, Result, Ok, Err, IfOk, refl}
+use Rattle.std.proofs.Common.{◌≡◌, ℕ, List, nat_le, Bool, true, ◌&&◌, ◌||◌, Option, Some, None, Result, Ok, Err, IfOk, refl}
 use Rattle.std.specs.Prelude.{codes, option_map}
 use Rattle.std.specs.List.{list_all}
 use Rattle.serde_json.specs.Data.{Data, null, boolean, number, string, array, object, Items, no_items, item as cons_item}
 use Rattle.fx_base.specs.declared.net.Proto.{Proto}
 use Rattle.fx_base.specs.Given.{is_given}
 use Rattle.fx_base.specs.TextValues.{ports_of as port_ends}
-use Rattle.fx_selector.specs.Tree.{Tree}
+use Rattle.std.proofs.lemmas.Bool.{le-leb}
+use Rattle.fx_selector.specs.Formed.{is_tree}
+use Rattle.fx_selector.specs.Tree.{Tree, height}
 use Rattle.fx_selector.proofs.FormedTrees.{tree_tested}
 use Rattle.fx_model.specs.declared.rules.PortSpec.{PortSpec}
 use Rattle.fx_model.specs.declared.rules.PortSpec.TheVariants.{Number, Named}
@@ -94,7 +96,7 @@ ports_of-formed proto path d =
 
 part-tested : (part : Option Tree) → IsTreeOf part → is_formed_selector part ≡ true
 part-tested None h = refl
-part-tested (Some t) h = tree_tested t h
+part-tested (Some t) h = both (is_tree t) (nat_le (height t) 139) (tree_tested t h.0) (le-leb (height t) 139 h.1)
 
 abbrev AreSelectors : SideSelectors → Type 0
 AreSelectors s = (is_formed_selector s.selector && is_formed_selector s.not_selector) ≡ true

@@ -1,8 +1,9 @@
 -- Each policy that is made of one of Kubernetes is formed: its rules list ports beside a protocol that has them, and their selectors
--- are ones that some text spells.
+-- are ones that some text spells, and not too high.
 use Rattle.std.proofs.Common.{◌≡◌, ◌≤◌, ℕ, List, [], ◌∷◌, ◌++◌, map, length, nat_le, Bool, true, false, Option, Some, None, refl, arith, lit<}
 use Rattle.std.specs.Prelude.{◌&&◌, if◌then◌else◌, codes}
 use Rattle.std.specs.List.{list_all, list_any, flat_map}
+use Rattle.std.proofs.lemmas.Bool.{le-leb}
 use Rattle.fx_selector.specs.Formed.{is_key_text, is_tree}
 use Rattle.fx_selector.specs.Tree.{Tree, IsTree, AreTrees, IsKey, IsString, many, and_of, height}
 use Rattle.fx_selector.specs.Rewriting.{namespace_tree}
@@ -39,6 +40,7 @@ use Rattle.fx_k8s.specs.declared.policies.NetworkPolicy.{NetworkPolicy}
 use Rattle.fx_k8s.specs.declared.policy_rules.PolicyRule.{PolicyRule}
 use Rattle.fx_k8s.specs.LabelSelectors.{is_label_key}
 use Rattle.fx_k8s.specs.Conversion.{pair_tree, expression_tree, selector_trees, given_trees, orchestrated, some_namespace, namespace_trees, peer_tree, open_side, asked_side, with_ports, allow_rule, is_of, ports_from, ports_of, proto_of, protocol_rules, peer_rules, rules_of_peers, converted_rule, converted_rules, converted_policy}
+use Rattle.fx_k8s.proofs.LowTrees.{low_peer}
 use Rattle.fx_k8s.proofs.ReadForms.{is_formed_pair, is_formed_expression, is_formed_selector, is_formed_part, is_formed_peer, is_formed_spec, is_formed_entry, is_formed_rule, IsFormedPolicy}
 
 -- ---- trees of label selectors
@@ -129,11 +131,13 @@ module _ (ns : List ℕ) (string : IsString ns) where
   and-tree (t ∷ []) h = h.0
   and-tree (t ∷ u ∷ us) h = (h, omega arith)
 
-  peer-tree : (p : PodPeer) → is_formed_peer (Pods p) ≡ true → is_tree (peer_tree ns p) ≡ true
+  peer-tree : (p : PodPeer) → is_formed_peer (Pods p) ≡ true → formed.is_formed_selector (Some (peer_tree ns p)) ≡ true
   peer-tree p e =
-      tree_tested (peer_tree ns p) (and-tree (given_trees p.pods ++ orchestrated ∷ namespace_trees ns p.namespaces)
+      both (is_tree (peer_tree ns p)) (nat_le (height (peer_tree ns p)) 139)
+      (tree_tested (peer_tree ns p) (and-tree (given_trees p.pods ++ orchestrated ∷ namespace_trees ns p.namespaces)
       (trees-append (given_trees p.pods) (orchestrated ∷ namespace_trees ns p.namespaces) (given-trees p.pods (first_of (is_formed_part p.pods) (is_formed_part p.namespaces) e))
-      (orchestrated-tree, namespaces-trees p.namespaces (second_of (is_formed_part p.pods) (is_formed_part p.namespaces) e))))
+      (orchestrated-tree, namespaces-trees p.namespaces (second_of (is_formed_part p.pods) (is_formed_part p.namespaces) e)))))
+      (le-leb (height (peer_tree ns p)) 139 (low_peer ns p))
 
   -- ---- ports
 
@@ -177,7 +181,7 @@ module _ (ns : List ℕ) (string : IsString ns) where
   asked-formed : (o : Option Peer) → IsGivenPeer o → (formed.is_formed_selector (asked_side ns o).side.selector && formed.is_formed_selector (asked_side ns o).side.not_selector) ≡ true
   asked-formed None h = refl
   asked-formed (Some (Block b)) h = refl
-  asked-formed (Some (Pods p)) h = both (is_tree (peer_tree ns p)) true (peer-tree p h) refl
+  asked-formed (Some (Pods p)) h = both (formed.is_formed_selector (Some (peer_tree ns p))) true (peer-tree p h) refl
 
   -- and it lists no ports
   asked_ports : (o : Option Peer) → (list_all formed.is_formed_port (asked_side ns o).side.ports && list_all formed.is_formed_port (asked_side ns o).side.not_ports) ≡ true

@@ -1,5 +1,5 @@
 -- The sets that formed rules use: each is made of a tree and perhaps a port, and where no claims clash, no two have one name.
-use Rattle.std.proofs.Common.{◌≡◌, ℕ, Bool, true, false, not, ◌&&◌, ◌||◌, List, [], ◌∷◌, ◌++◌, Option, Some, None, refl, sym, ap, ◌∙◌}
+use Rattle.std.proofs.Common.{◌≡◌, ℕ, nat_le, Bool, true, false, not, ◌&&◌, ◌||◌, List, [], ◌∷◌, ◌++◌, Option, Some, None, refl, sym, ap, ◌∙◌}
 use Rattle.std.proofs.lemmas.Bool.{not-false, or_left, or_right}
 use Rattle.std.specs.List.{AllByRecursion, list_all, flat_map}
 use Rattle.std.specs.Str.{bytes_eq}
@@ -8,7 +8,8 @@ use Rattle.fx_base.specs.Given.{is_given}
 use Rattle.fx_base.specs.Same.{same_bytes, both_pass}
 use Rattle.fx_base.specs.declared.kernel_name.KernelName.TheVariants.{Set}
 use Rattle.fx_base.specs.declared.net.Proto.{Proto}
-use Rattle.fx_selector.specs.Tree.{Tree, IsTree}
+use Rattle.fx_selector.specs.Formed.{is_tree}
+use Rattle.fx_selector.specs.Tree.{Tree, IsTree, height}
 use Rattle.fx_selector.proofs.FormedTrees.{tested_tree}
 use Rattle.fx_names.specs.Digests.{Digest}
 use Rattle.fx_names.specs.Claims.{same_name, clashes}
@@ -68,11 +69,11 @@ has_its_ports (Some p) h = h
 
 tree_given : (t : Option Tree) → is_formed_selector t ≡ true → IsTree (selector_or_all t)
 tree_given None h = tt
-tree_given (Some t) h = tested_tree t h
+tree_given (Some t) h = tested_tree t (both_pass (is_tree t) (nat_le (height t) 139) h).0
 
 made_selector : (t : Option Tree) → is_formed_selector t ≡ true → AllByRecursion Made (selector_uses t)
 made_selector None h = tt
-made_selector (Some t) h = (OfNets t (tested_tree t h) refl, tt)
+made_selector (Some t) h = (OfNets t (tree_given (Some t) h) refl, tt)
 
 made_ports : (p : Option Proto) (t : Option Tree) → is_formed_selector t ≡ true → (ps : List PortSpec) → list_all is_formed_port ps ≡ true → HasPortsIfGiven p ps → AllByRecursion Made (flat_map (port_uses p t) ps)
 made_ports p t h [] all has = tt

@@ -15,7 +15,7 @@ use Rattle.fx_model.specs.declared.rules.Rule.{Rule}
 use Rattle.fx_model.specs.declared.rules.Side.{Side}
 use Rattle.fx_model.specs.declared.rules.PortSpec.{PortSpec}
 use Rattle.fx_model.specs.declared.rules.PortSpec.TheVariants.{Number, Named}
-use Rattle.fx_selector.specs.Tree.{Tree}
+use Rattle.fx_selector.specs.Tree.{Tree, height}
 use Rattle.fx_selector.specs.Formed.{is_tree}
 use Rattle.fx_model.specs.declared.ids.ItemKey.{ItemKey}
 use Rattle.fx_model.specs.declared.ids.ItemKey.TheVariants as item_key
@@ -55,7 +55,7 @@ abbrev pub lists_ports : Rule → Bool
 lists_ports r =
     (is_given r.source.ports || is_given r.source.not_ports) || (is_given r.destination.ports || is_given r.destination.not_ports)
 
--- a port's name has no comma, and a selector is one that some text spells
+-- a port's name has no comma, and a selector is one that some text spells, with a level to spare below the highest that there are
 abbrev pub is_formed_port_name : List ℕ → Bool
 is_formed_port_name name = list_all (λ b. not (b == 44)) name
 
@@ -65,7 +65,7 @@ is_formed_port (Named name) = is_formed_port_name name
 
 abbrev pub is_formed_selector : Option Tree → Bool
 is_formed_selector None = true
-is_formed_selector (Some t) = is_tree t
+is_formed_selector (Some t) = is_tree t && nat_le (height t) 139
 
 abbrev pub is_formed_side : Side → Bool
 is_formed_side s =
