@@ -9,8 +9,8 @@ use Rattle.fx_selector.specs.Rewriting.{service_account_tree}
 use Rattle.fx_selector.proofs.Literals.{literal_key}
 use Rattle.fx_selector.proofs.Rewritten.{height-rewritten, namespace_selector, service_account_selector}
 use Rattle.fx_selector.proofs.Sound.{one_of_selector}
-use Rattle.fx_fields.specs.declared.rule_form.RuleForm.{RuleForm}
-use Rattle.fx_fields.specs.declared.rule_form.RuleForm.TheVariants.{OfPolicy, OfNamespace, OfProfile}
+use Rattle.fx_fields.specs.declared.rule_form.RulePlace.{RulePlace}
+use Rattle.fx_fields.specs.declared.rule_form.RulePlace.TheVariants.{OfPolicy, OfNamespace, OfProfile}
 use Rattle.fx_fields.specs.declared.side_selectors.Accounts.{Accounts}
 use Rattle.fx_fields.specs.declared.side_selectors.SideSelectors.{SideSelectors}
 use Rattle.fx_fields.specs.declared.texts.TextForm.TheVariants.{Name}
@@ -103,21 +103,21 @@ chosen-tree (Some t) h =
 -- ---- namespaces
 
 -- a policy's own namespace may stand in a selector
-abbrev pub IsForm : RuleForm → Type 0
-IsForm OfPolicy = Unit {0}
-IsForm (OfNamespace ns) = IsString ns
-IsForm OfProfile = Unit {0}
+abbrev pub IsPlace : RulePlace → Type 0
+IsPlace OfPolicy = Unit {0}
+IsPlace (OfNamespace ns) = IsString ns
+IsPlace OfProfile = Unit {0}
 
-own-tree : (form : RuleForm) → IsForm form → IsPartOf (own_namespace form)
+own-tree : (place : RulePlace) → IsPlace place → IsPartOf (own_namespace place)
 own-tree OfPolicy h = tt
 own-tree (OfNamespace ns) h = ((literal_key (codes "projectcalico.org/namespace") refl (lit< tt), h), omega arith)
 own-tree OfProfile h = tt
 
-namespace-tree : (form : RuleForm) → IsForm form → (asked : Bool) (part : Option Tree) → IsPart part → IsPartOf (namespace_part form asked part)
-namespace-tree form stands asked (Some t) h =
+namespace-tree : (place : RulePlace) → IsPlace place → (asked : Bool) (part : Option Tree) → IsPart part → IsPartOf (namespace_part place asked part)
+namespace-tree place stands asked (Some t) h =
     ((namespace_selector t h.0 (omega (arith, h.1))).tree, omega (arith, h.1, height-rewritten (codes "pcns.") (codes "projectcalico.org/namespace") t))
-namespace-tree form stands true None h = own-tree form stands
-namespace-tree form stands false None h = tt
+namespace-tree place stands true None h = own-tree place stands
+namespace-tree place stands false None h = tt
 
 -- ---- all together
 
@@ -132,25 +132,25 @@ asked-tree : (parts : List Tree) → ArePartTrees parts → IsTreeOf (asked_by p
 asked-tree [] h = tt
 asked-tree (t ∷ ts) h = and-tree (t ∷ ts) h
 
-positive-tree : (form : RuleForm) (own : Option Tree) (accounts : Accounts) (namespaces : Option Tree) → IsForm form → IsPart own → AreAccounts accounts → IsPart namespaces → IsTreeOf (positive_selector form own accounts namespaces)
-positive-tree form own accounts namespaces stands o a n =
+positive-tree : (place : RulePlace) (own : Option Tree) (accounts : Accounts) (namespaces : Option Tree) → IsPlace place → IsPart own → AreAccounts accounts → IsPart namespaces → IsTreeOf (positive_selector place own accounts namespaces)
+positive-tree place own accounts namespaces stands o a n =
     let parts = earlier_parts own accounts in
-    asked-tree (with_namespaces form namespaces parts)
-    (trees-append parts (option_to_list (namespace_part form (is_given parts) namespaces)) (earlier-trees own accounts o a)
-    (trees-option (namespace_part form (is_given parts) namespaces) (namespace-tree form stands (is_given parts) namespaces n)))
+    asked-tree (with_namespaces place namespaces parts)
+    (trees-append parts (option_to_list (namespace_part place (is_given parts) namespaces)) (earlier-trees own accounts o a)
+    (trees-option (namespace_part place (is_given parts) namespaces) (namespace-tree place stands (is_given parts) namespaces n)))
 
 -- both selectors of a side
 abbrev pub AreTreesOf : SideSelectors → Type 0
 AreTreesOf s = IsTreeOf s.selector × IsTreeOf s.not_selector
 
-pub side_selectors-trees : (form : RuleForm) → IsForm form → (path : List ℕ) (d : Data) → IfOk (side_selectors form path d) AreTreesOf
+pub side_selectors-trees : (place : RulePlace) → IsPlace place → (path : List ℕ) (d : Data) → IfOk (side_selectors place path d) AreTreesOf
 unfolding side_selectors
-side_selectors-trees form stands path d =
+side_selectors-trees place stands path d =
     then-if AreTreesOf (selector_at path (codes "selector") d) _ (λ own own_read.
     then-if AreTreesOf (selector_at path (codes "notSelector") d) _ (λ not_own not_own_read.
     then-if AreTreesOf (selector_at path (codes "namespaceSelector") d) _ (λ namespaces namespaces_read.
     then-if AreTreesOf (accounts_at path d) _ (λ accounts accounts_read. (
-      positive-tree form own accounts namespaces stands
+      positive-tree place own accounts namespaces stands
           (read-if IsPart (selector_at path (codes "selector") d) own (selector_at-part path (codes "selector") d) own_read)
           (read-if AreAccounts (accounts_at path d) accounts (accounts_at-formed path d) accounts_read)
           (read-if IsPart (selector_at path (codes "namespaceSelector") d) namespaces (selector_at-part path (codes "namespaceSelector") d) namespaces_read),

@@ -6,8 +6,8 @@ use Rattle.std.specs.Prelude.{ℕ, List, ◌++◌, Bool, if◌then◌else◌, Op
 use Rattle.fx_selector.specs.Tree.{Tree, within, set_of, and_of}
 use Rattle.fx_selector.specs.Rewriting.{namespace_tree, service_account_tree}
 use Rattle.fx_base.specs.Given.{is_given}
-use Rattle.fx_fields.specs.declared.rule_form.RuleForm.{RuleForm}
-use Rattle.fx_fields.specs.declared.rule_form.RuleForm.TheVariants.{OfPolicy, OfNamespace, OfProfile}
+use Rattle.fx_fields.specs.declared.rule_form.RulePlace.{RulePlace}
+use Rattle.fx_fields.specs.declared.rule_form.RulePlace.TheVariants.{OfPolicy, OfNamespace, OfProfile}
 use Rattle.fx_fields.specs.declared.side_selectors.Accounts.{Accounts}
 use Rattle.fx_fields.specs.declared.side_selectors.SideSelectors.{SideSelectors}
 use Rattle.fx_fields.specs.declared.texts.TextForm.TheVariants.{Name}
@@ -41,18 +41,18 @@ of_names names = if is_given names then Some (of_accounts names) else None
 -- ---- namespaces
 
 -- the policy's own namespace
-abbrev pub own_namespace : RuleForm → Option Tree
+abbrev pub own_namespace : RulePlace → Option Tree
 own_namespace OfPolicy = None
 own_namespace (OfNamespace ns) = Some (of_namespace ns)
 own_namespace OfProfile = None
 
-abbrev pub unnamed_namespace : RuleForm → Bool → Option Tree
-unnamed_namespace form asked = if asked then own_namespace form else None
+abbrev pub unnamed_namespace : RulePlace → Bool → Option Tree
+unnamed_namespace place asked = if asked then own_namespace place else None
 
 -- the namespaces that a side names, or where it asks for something and names none, the policy's own
-abbrev pub namespace_part : RuleForm → Bool → Option Tree → Option Tree
-namespace_part form asked (Some namespaces) = Some (namespace_tree namespaces)
-namespace_part form asked None = unnamed_namespace form asked
+abbrev pub namespace_part : RulePlace → Bool → Option Tree → Option Tree
+namespace_part place asked (Some namespaces) = Some (namespace_tree namespaces)
+namespace_part place asked None = unnamed_namespace place asked
 
 -- ---- all together
 
@@ -61,21 +61,21 @@ abbrev pub earlier_parts : Option Tree → Accounts → List Tree
 earlier_parts own accounts =
     option_to_list own ++ (option_to_list (of_names accounts.names) ++ option_to_list (option_map service_account_tree accounts.chosen))
 
-abbrev pub with_namespaces : RuleForm → Option Tree → List Tree → List Tree
-with_namespaces form namespaces parts = parts ++ option_to_list (namespace_part form (is_given parts) namespaces)
+abbrev pub with_namespaces : RulePlace → Option Tree → List Tree → List Tree
+with_namespaces place namespaces parts = parts ++ option_to_list (namespace_part place (is_given parts) namespaces)
 
 -- what these parts ask for together; without parts nothing is asked
 abbrev pub asked_by : List Tree → Option Tree
 asked_by parts = if is_given parts then Some (and_of parts) else None
 
-abbrev pub positive_selector : RuleForm → Option Tree → Accounts → Option Tree → Option Tree
-positive_selector form own accounts namespaces = asked_by (with_namespaces form namespaces (earlier_parts own accounts))
+abbrev pub positive_selector : RulePlace → Option Tree → Accounts → Option Tree → Option Tree
+positive_selector place own accounts namespaces = asked_by (with_namespaces place namespaces (earlier_parts own accounts))
 
 -- The selectors of a side. `notSelector` stands as it is written.
-unfoldable pub side_selectors : RuleForm → Reader SideSelectors
-side_selectors form path side = do
+unfoldable pub side_selectors : RulePlace → Reader SideSelectors
+side_selectors place path side = do
   own ← selector_at path (codes "selector") side
   not_own ← selector_at path (codes "notSelector") side
   namespaces ← selector_at path (codes "namespaceSelector") side
   accounts ← accounts_at path side
-  Ok (record { selector = positive_selector form own accounts namespaces; not_selector = not_own })
+  Ok (record { selector = positive_selector place own accounts namespaces; not_selector = not_own })

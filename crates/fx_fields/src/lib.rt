@@ -19,7 +19,7 @@ pub use policy_fields::{
     read_flags, read_place,
 };
 pub use refusal::Refusal;
-pub use rule_form::{OwnNamespace, RuleForm};
+pub use rule_form::{OwnNamespace, RuleForm, RulePlace, Services};
 pub use selectors::{global_selector, namespaced_selector, of_namespace, push_given};
 pub use side_selectors::{SideSelectors, read_selectors};
 pub use texts::{TextForm, is_label_value, is_name, is_port_name};

@@ -1,4 +1,4 @@
-//! What a rule stands in.
+//! What a rule stands in, and what is done with services that it names.
 ghost use Rattle.std.specs.Prelude.{◌≡◌, IfOk};
 ghost use Rattle.fx_selector.specs.Tree.{IsString};
 
@@ -6,22 +6,37 @@ use fx_base::{Memory, Text};
 use std::alloc::Global;
 use std::marker::Model;
 
+/// How a rule is read: by what it stands in, and by what is done with services.
+#[derive(Drop)]
+pub struct RuleForm {
+    pub place: RulePlace,
+    pub services: Services,
+}
+
+/// What is done with the services that a side of a rule names.
+#[derive(Clone, Copy, Debug, PartialEq, Eq)]
+pub enum Services {
+    Refused,
+    /// Another reader reads them.
+    PassedOver,
+}
+
 /// What a rule stands in: a policy of all namespaces or of one, or a profile.
 #[derive(Drop)]
-pub enum RuleForm {
+pub enum RulePlace {
     OfPolicy,
     OfNamespace(OwnNamespace),
     OfProfile,
 }
 
-impl RuleForm {
+impl RulePlace {
     /// That of a policy of this namespace.
-    pub fn of_namespace(alloc: Global, namespace: &Text) -> Result<RuleForm, Memory>
+    pub fn of_namespace(alloc: Global, namespace: &Text) -> Result<RulePlace, Memory>
         requires { IsString namespace.now }
-        ensures { IfOk result (λ form. form ≡ RuleForm.OfNamespace namespace.now) }
+        ensures { IfOk result (λ place. place ≡ RulePlace.OfNamespace namespace.now) }
     {
         let namespace = OwnNamespace::new(alloc, namespace)?;
-        Ok(RuleForm::OfNamespace(namespace))
+        Ok(RulePlace::OfNamespace(namespace))
     }
 }
 

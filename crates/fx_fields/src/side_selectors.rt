@@ -9,7 +9,7 @@ ghost use Rattle.fx_fields.specs.SideSelectors.{accounts_in, accounts_at, of_acc
 use crate::fault::ReadFault;
 use crate::fields::{is_given, items, section};
 use crate::path::Path;
-use crate::rule_form::RuleForm;
+use crate::rule_form::RulePlace;
 use crate::selectors::{of_namespace, of_service_accounts, push_given, selector_at};
 use crate::texts::TextForm;
 use fx_base::{Memory, Seq, Text};
@@ -24,21 +24,21 @@ pub struct SideSelectors {
     pub not_selector: Option<Selector>,
 }
 
-/// The selectors of a side of a rule that stands in this form.
+/// The selectors of a side of a rule that stands in this place.
 #[tactic(auto, unfolding(crate::specs::SideSelectors::side_selectors))]
 pub fn read_selectors(
     alloc: Global,
-    form: &RuleForm,
+    place: &RulePlace,
     path: &Path<'_>,
     side: &Value,
 ) -> Result<SideSelectors, ReadFault>
-    ensures { IsAnswerOf (side_selectors form.now (text_of path.now) (view side.now)) result }
+    ensures { IsAnswerOf (side_selectors place.now (text_of path.now) (view side.now)) result }
 {
     let own = selector_at(alloc, path, "selector", side)?;
     let not_selector = selector_at(alloc, path, "notSelector", side)?;
     let namespaces = selector_at(alloc, path, "namespaceSelector", side)?;
     let accounts = accounts_at(alloc, path, side)?;
-    let selector = positive_selector(alloc, form, own, accounts, namespaces)?;
+    let selector = positive_selector(alloc, place, own, accounts, namespaces)?;
     Ok(SideSelectors {
         selector,
         not_selector,
@@ -107,42 +107,42 @@ fn of_accounts(alloc: Global, names: &[Text]) -> Result<Selector, Memory>
 // The namespaces that a side names, or where it asks for something and names none, its policy's own.
 fn namespace_part(
     alloc: Global,
-    form: &RuleForm,
+    place: &RulePlace,
     asked: bool,
     namespaces: Option<Selector>,
 ) -> Result<Option<Selector>, Memory>
     requires { IfSome namespaces (λ t. height t ≤ 131) }
-    ensures tree { IfOk result (λ part. part ≡ namespace_part form.now asked namespaces) }
+    ensures tree { IfOk result (λ part. part ≡ namespace_part place.now asked namespaces) }
     ensures shallow { IfOk result (λ part. IfSome part (λ t. height t ≤ 139)) }
 {
     match namespaces {
         Some(part) => Ok(Some(part.rewrite_namespace(alloc)?)),
-        None => unnamed_namespace(alloc, form, asked),
+        None => unnamed_namespace(alloc, place, asked),
     }
 }
 
 fn unnamed_namespace(
     alloc: Global,
-    form: &RuleForm,
+    place: &RulePlace,
     asked: bool,
 ) -> Result<Option<Selector>, Memory>
-    ensures tree { IfOk result (λ part. part ≡ unnamed_namespace form.now asked) }
+    ensures tree { IfOk result (λ part. part ≡ unnamed_namespace place.now asked) }
     ensures shallow { IfOk result (λ part. IfSome part (λ t. height t ≤ 139)) }
 {
     if asked {
-        own_namespace(alloc, form)
+        own_namespace(alloc, place)
     } else {
         Ok(None)
     }
 }
 
-fn own_namespace(alloc: Global, form: &RuleForm) -> Result<Option<Selector>, Memory>
-    ensures tree { IfOk result (λ part. part ≡ own_namespace form.now) }
+fn own_namespace(alloc: Global, place: &RulePlace) -> Result<Option<Selector>, Memory>
+    ensures tree { IfOk result (λ part. part ≡ own_namespace place.now) }
     ensures shallow { IfOk result (λ part. IfSome part (λ t. height t ≤ 139)) }
 {
-    match form {
-        RuleForm::OfNamespace(namespace) => Ok(Some(of_namespace(alloc, namespace.name())?)),
-        RuleForm::OfPolicy | RuleForm::OfProfile => Ok(None),
+    match place {
+        RulePlace::OfNamespace(namespace) => Ok(Some(of_namespace(alloc, namespace.name())?)),
+        RulePlace::OfPolicy | RulePlace::OfProfile => Ok(None),
     }
 }
 
@@ -150,7 +150,7 @@ fn own_namespace(alloc: Global, form: &RuleForm) -> Result<Option<Selector>, Mem
 
 fn positive_selector(
     alloc: Global,
-    form: &RuleForm,
+    place: &RulePlace,
     own: Option<Selector>,
     accounts: Accounts,
     namespaces: Option<Selector>,
@@ -159,11 +159,11 @@ fn positive_selector(
     requires names { AreStrings accounts.names }
     requires chosen { IfSome accounts.chosen (λ t. height t ≤ 131) }
     requires namespaces { IfSome namespaces (λ t. height t ≤ 131) }
-    ensures { IfOk result (λ selector. selector ≡ positive_selector form.now own accounts namespaces) }
+    ensures { IfOk result (λ selector. selector ≡ positive_selector place.now own accounts namespaces) }
 {
     let mut parts = earlier_parts(alloc, own, accounts)?;
     let asked = is_given(parts.as_slice());
-    let namespaces = namespace_part(alloc, form, asked, namespaces)?;
+    let namespaces = namespace_part(alloc, place, asked, namespaces)?;
     push_given(&mut parts, namespaces)?;
     asked_by(alloc, parts)
 }

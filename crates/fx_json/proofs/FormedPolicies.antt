@@ -11,16 +11,17 @@ use Rattle.fx_base.specs.Given.{is_given}
 use Rattle.fx_model.specs.Formed.{is_formed_rule, is_formed_policy, is_formed_namespace, is_formed, puts_workload_interface}
 use Rattle.fx_fields.specs.Fields.{items, section}
 use Rattle.fx_fields.specs.declared.rule_form.RuleForm.{RuleForm}
-use Rattle.fx_fields.specs.declared.rule_form.RuleForm.TheVariants.{OfPolicy, OfNamespace}
+use Rattle.fx_fields.specs.declared.rule_form.RulePlace.TheVariants.{OfPolicy, OfNamespace}
+use Rattle.fx_fields.specs.declared.rule_form.Services.{Services}
 use Rattle.fx_json.specs.declared.policies.PolicyRules.{PolicyRules}
 use Rattle.fx_fields.specs.Names.{name_in, namespaced_name_in}
 use Rattle.fx_fields.specs.Selectors.{global_selector, namespaced_selector}
 use Rattle.fx_fields.specs.PolicyFields.{place_of, policy_type, directions_of, flags}
-use Rattle.fx_json.specs.Rules.{rule}
+use Rattle.fx_json.specs.Rules.{form_in, rule}
 use Rattle.fx_json.specs.Policies.{kept, rules_of, global_policy, namespaced_policy, tier_in, tier_put, global_policy_in, global_policy_put, namespaced_policy_in, namespaced_policy_put}
 use Rattle.fx_fields.proofs.Readings.{then-if, read-if, both, items-each}
 use Rattle.fx_fields.proofs.NameTexts.{named_in_string}
-use Rattle.fx_fields.proofs.SideTrees.{IsForm}
+use Rattle.fx_fields.proofs.SideTrees.{IsPlace}
 use Rattle.fx_json.proofs.FormedNames.{named_in-formed}
 use Rattle.fx_json.proofs.FormedRules.{policy_rule-formed}
 
@@ -37,7 +38,7 @@ kept-formed false rules e = refl
 abbrev AreFormed : PolicyRules → Type 0
 AreFormed r = (list_all is_formed_rule r.ingress ≡ true) × (list_all is_formed_rule r.egress ≡ true)
 
-rules_of-formed : (form : RuleForm) → IsForm form → (path : List ℕ) (d : Data) → IfOk (rules_of form path d) AreFormed
+rules_of-formed : (form : RuleForm) → IsPlace form.place → (path : List ℕ) (d : Data) → IfOk (rules_of form path d) AreFormed
 unfolding rules_of
 rules_of-formed form stands path d =
     then-if AreFormed (items policy_type path (codes "types") d) _ (λ types _.
@@ -57,23 +58,23 @@ rules_of-formed form stands path d =
 abbrev IsFormedPolicy : Policy → Type 0
 IsFormedPolicy p = is_formed_policy p ≡ true
 
-global_policy-formed : (path : List ℕ) (d : Data) → IfOk (global_policy path d) IsFormedPolicy
+global_policy-formed : (services : Services) (path : List ℕ) (d : Data) → IfOk (global_policy services path d) IsFormedPolicy
 unfolding global_policy
-global_policy-formed path d =
+global_policy-formed services path d =
     then-if IsFormedPolicy (place_of path d) _ (λ place _.
     then-if IsFormedPolicy (global_selector path d) _ (λ selector _.
-    then-if IsFormedPolicy (rules_of OfPolicy path d) _ (λ rules rules_read.
+    then-if IsFormedPolicy (rules_of (form_in OfPolicy services) path d) _ (λ rules rules_read.
     then-if IsFormedPolicy (flags path d) _ (λ unset _.
-    let formed : AreFormed rules = read-if AreFormed (rules_of OfPolicy path d) rules (rules_of-formed OfPolicy tt path d) rules_read in
+    let formed : AreFormed rules = read-if AreFormed (rules_of (form_in OfPolicy services) path d) rules (rules_of-formed (form_in OfPolicy services) tt path d) rules_read in
     both (list_all is_formed_rule rules.ingress) (list_all is_formed_rule rules.egress) formed.0 formed.1))))
 
-namespaced_policy-formed : (ns : List ℕ) → IsString ns → (path : List ℕ) (d : Data) → IfOk (namespaced_policy ns path d) IsFormedPolicy
+namespaced_policy-formed : (services : Services) (ns : List ℕ) → IsString ns → (path : List ℕ) (d : Data) → IfOk (namespaced_policy services ns path d) IsFormedPolicy
 unfolding namespaced_policy
-namespaced_policy-formed ns string path d =
+namespaced_policy-formed services ns string path d =
     then-if IsFormedPolicy (place_of path d) _ (λ place _.
     then-if IsFormedPolicy (namespaced_selector ns path d) _ (λ selector _.
-    then-if IsFormedPolicy (rules_of (OfNamespace ns) path d) _ (λ rules rules_read.
-    let formed : AreFormed rules = read-if AreFormed (rules_of (OfNamespace ns) path d) rules (rules_of-formed (OfNamespace ns) string path d) rules_read in
+    then-if IsFormedPolicy (rules_of (form_in (OfNamespace ns) services) path d) _ (λ rules rules_read.
+    let formed : AreFormed rules = read-if AreFormed (rules_of (form_in (OfNamespace ns) services) path d) rules (rules_of-formed (form_in (OfNamespace ns) services) string path d) rules_read in
     both (list_all is_formed_rule rules.ingress) (list_all is_formed_rule rules.egress) formed.0 formed.1)))
 
 -- ---- puts
@@ -84,30 +85,30 @@ tier_put-formed d =
     then-if IsTakable (name_in d) _ (λ name _.
     then-if IsTakable (tier_in d) _ (λ tier _. (refl, λ node. refl)))
 
-global_policy_in-formed : (d : Data) → IfOk (global_policy_in d) IsFormedPolicy
+global_policy_in-formed : (services : Services) (d : Data) → IfOk (global_policy_in services d) IsFormedPolicy
 unfolding global_policy_in
-global_policy_in-formed d =
-    then-if IsFormedPolicy (section (codes "spec") (codes "spec") d) _ (λ spec _. global_policy-formed (codes "spec") spec)
+global_policy_in-formed services d =
+    then-if IsFormedPolicy (section (codes "spec") (codes "spec") d) _ (λ spec _. global_policy-formed services (codes "spec") spec)
 
-pub global_policy_put-formed : (d : Data) → IfOk (global_policy_put d) IsTakable
+pub global_policy_put-formed : (services : Services) (d : Data) → IfOk (global_policy_put services d) IsTakable
 unfolding global_policy_put
-global_policy_put-formed d =
+global_policy_put-formed services d =
     then-if IsTakable (name_in d) _ (λ name _.
-    then-if IsTakable (global_policy_in d) _ (λ policy policy_read.
-    (read-if IsFormedPolicy (global_policy_in d) policy (global_policy_in-formed d) policy_read, λ node. refl)))
+    then-if IsTakable (global_policy_in services d) _ (λ policy policy_read.
+    (read-if IsFormedPolicy (global_policy_in services d) policy (global_policy_in-formed services d) policy_read, λ node. refl)))
 
-namespaced_policy_in-formed : (ns : List ℕ) → IsString ns → (d : Data) → IfOk (namespaced_policy_in ns d) IsFormedPolicy
+namespaced_policy_in-formed : (services : Services) (ns : List ℕ) → IsString ns → (d : Data) → IfOk (namespaced_policy_in services ns d) IsFormedPolicy
 unfolding namespaced_policy_in
-namespaced_policy_in-formed ns string d =
-    then-if IsFormedPolicy (section (codes "spec") (codes "spec") d) _ (λ spec _. namespaced_policy-formed ns string (codes "spec") spec)
+namespaced_policy_in-formed services ns string d =
+    then-if IsFormedPolicy (section (codes "spec") (codes "spec") d) _ (λ spec _. namespaced_policy-formed services ns string (codes "spec") spec)
 
-pub namespaced_policy_put-formed : (d : Data) → IfOk (namespaced_policy_put d) IsTakable
+pub namespaced_policy_put-formed : (services : Services) (d : Data) → IfOk (namespaced_policy_put services d) IsTakable
 unfolding namespaced_policy_put
-namespaced_policy_put-formed d =
+namespaced_policy_put-formed services d =
     then-if IsTakable (namespaced_name_in d) _ (λ named named_read.
-    then-if IsTakable (namespaced_policy_in named.ns d) _ (λ policy policy_read. (
+    then-if IsTakable (namespaced_policy_in services named.ns d) _ (λ policy policy_read. (
       both (is_formed_namespace named.ns) (is_formed_policy policy)
           (named_in-formed d named named_read)
-          (read-if IsFormedPolicy (namespaced_policy_in named.ns d) policy (namespaced_policy_in-formed named.ns (named_in_string d named named_read) d) policy_read),
+          (read-if IsFormedPolicy (namespaced_policy_in services named.ns d) policy (namespaced_policy_in-formed services named.ns (named_in_string d named named_read) d) policy_read),
       λ node. refl,
     )))

@@ -15,13 +15,14 @@ use Rattle.fx_fields.specs.declared.kinds.Kind.{Kind}
 use Rattle.fx_fields.specs.declared.kinds.Kind.TheVariants.{Profile as AProfile, WorkloadEndpoint, Tier as ATier, GlobalNetworkPolicy, NetworkPolicy, NetworkSet, GlobalNetworkSet}
 use Rattle.fx_fields.specs.declared.kinds.KubernetesKind.{KubernetesKind}
 use Rattle.fx_fields.specs.declared.kinds.KubernetesKind.TheVariants as kubernetes
-use Rattle.fx_fields.specs.declared.rule_form.RuleForm.TheVariants.{OfProfile}
+use Rattle.fx_fields.specs.declared.rule_form.RulePlace.TheVariants.{OfProfile}
+use Rattle.fx_fields.specs.declared.rule_form.Services.{Services}
 use Rattle.fx_fields.specs.Fields.{items, section}
 use Rattle.fx_fields.specs.Labels.{labels_at}
-use Rattle.fx_json.specs.Rules.{rule}
+use Rattle.fx_json.specs.Rules.{form_in, rule}
 use Rattle.fx_fields.specs.Names.{name_at, namespaced_name, name_in}
 use Rattle.fx_fields.specs.Kinds.{kind_of, kubernetes_kind}
-use Rattle.fx_json.specs.Resources.{profile_of, profile_put, put_of, resource_of, key_of, calico_delete, kubernetes_delete, delete_of, key_in, profile_in}
+use Rattle.fx_json.specs.Resources.{profile_of, profile_put, put_of, resource_with, key_of, calico_delete, kubernetes_delete, delete_of, key_in, profile_in}
 use Rattle.fx_json.specs.Kubernetes.{kubernetes_key_of, kubernetes_key_in}
 use Rattle.fx_fields.proofs.Readings.{then-if, read-if, both, items-each}
 use Rattle.fx_json.proofs.FormedNames.{named-formed}
@@ -31,15 +32,15 @@ use Rattle.fx_json.proofs.FormedItems.{endpoint_put-formed, net_set_put-formed, 
 
 -- ---- profiles
 
-profile_of-formed : (path : List ℕ) (d : Data) → IfOk (profile_of path d) (λ p. is_formed_profile p ≡ true)
+profile_of-formed : (services : Services) (path : List ℕ) (d : Data) → IfOk (profile_of services path d) (λ p. is_formed_profile p ≡ true)
 unfolding profile_of
-profile_of-formed path d =
-    then-if P (items (rule OfProfile) path (codes "ingress") d) _ (λ ingress ingress_read.
-    then-if P (items (rule OfProfile) path (codes "egress") d) _ (λ egress egress_read.
+profile_of-formed services path d =
+    then-if P (items (rule (form_in OfProfile services)) path (codes "ingress") d) _ (λ ingress ingress_read.
+    then-if P (items (rule (form_in OfProfile services)) path (codes "egress") d) _ (λ egress egress_read.
     then-if P (labels_at path (codes "labelsToApply") d) _ (λ inherited _.
     both (list_all is_formed_profile_rule ingress) (list_all is_formed_profile_rule egress)
-    (read-if Q (items (rule OfProfile) path (codes "ingress") d) ingress (items-each is_formed_profile_rule (rule OfProfile) profile_rule-formed path (codes "ingress") d) ingress_read)
-    (read-if Q (items (rule OfProfile) path (codes "egress") d) egress (items-each is_formed_profile_rule (rule OfProfile) profile_rule-formed path (codes "egress") d) egress_read))))
+    (read-if Q (items (rule (form_in OfProfile services)) path (codes "ingress") d) ingress (items-each is_formed_profile_rule (rule (form_in OfProfile services)) (profile_rule-formed services) path (codes "ingress") d) ingress_read)
+    (read-if Q (items (rule (form_in OfProfile services)) path (codes "egress") d) egress (items-each is_formed_profile_rule (rule (form_in OfProfile services)) (profile_rule-formed services) path (codes "egress") d) egress_read))))
   where
     P : Profile → Type 0
     P p = is_formed_profile p ≡ true
@@ -49,16 +50,16 @@ profile_of-formed path d =
 
 -- ---- puts of profiles
 
-profile_in-formed : (d : Data) → IfOk (profile_in d) (λ p. is_formed_profile p ≡ true)
+profile_in-formed : (services : Services) (d : Data) → IfOk (profile_in services d) (λ p. is_formed_profile p ≡ true)
 unfolding profile_in
-profile_in-formed d = then-if (λ p. is_formed_profile p ≡ true) (section (codes "spec") (codes "spec") d) _ (λ spec _. profile_of-formed (codes "spec") spec)
+profile_in-formed services d = then-if (λ p. is_formed_profile p ≡ true) (section (codes "spec") (codes "spec") d) _ (λ spec _. profile_of-formed services (codes "spec") spec)
 
-profile_put-formed : (d : Data) → IfOk (profile_put d) IsTakable
+profile_put-formed : (services : Services) (d : Data) → IfOk (profile_put services d) IsTakable
 unfolding profile_put
-profile_put-formed d =
+profile_put-formed services d =
     then-if IsTakable (name_in d) _ (λ name _.
-    then-if IsTakable (profile_in d) _ (λ profile profile_read.
-    (read-if (λ (p : Profile). is_formed_profile p ≡ true) (profile_in d) profile (profile_in-formed d) profile_read, λ node. refl)))
+    then-if IsTakable (profile_in services d) _ (λ profile profile_read.
+    (read-if (λ (p : Profile). is_formed_profile p ≡ true) (profile_in services d) profile (profile_in-formed services d) profile_read, λ node. refl)))
 
 -- ---- keys
 
@@ -90,18 +91,18 @@ kubernetes_key_in-formed kind d =
 
 -- ---- puts and deletes
 
-put_of-formed : (kind : Kind) (d : Data) → IfOk (put_of kind d) IsTakable
-put_of-formed AProfile d = profile_put-formed d
-put_of-formed WorkloadEndpoint d = endpoint_put-formed d
-put_of-formed ATier d = tier_put-formed d
-put_of-formed GlobalNetworkPolicy d = global_policy_put-formed d
-put_of-formed NetworkPolicy d = namespaced_policy_put-formed d
-put_of-formed NetworkSet d = net_set_put-formed d
-put_of-formed GlobalNetworkSet d = global_set_put-formed d
+put_of-formed : (services : Services) (kind : Kind) (d : Data) → IfOk (put_of services kind d) IsTakable
+put_of-formed services AProfile d = profile_put-formed services d
+put_of-formed services WorkloadEndpoint d = endpoint_put-formed d
+put_of-formed services ATier d = tier_put-formed d
+put_of-formed services GlobalNetworkPolicy d = global_policy_put-formed services d
+put_of-formed services NetworkPolicy d = namespaced_policy_put-formed services d
+put_of-formed services NetworkSet d = net_set_put-formed d
+put_of-formed services GlobalNetworkSet d = global_set_put-formed d
 
-pub resource_of-takable : (d : Data) → IfOk (resource_of d) IsTakable
-unfolding resource_of
-resource_of-takable d = then-if IsTakable (kind_of d) _ (λ kind _. put_of-formed kind d)
+pub resource_with-takable : (services : Services) (d : Data) → IfOk (resource_with services d) IsTakable
+unfolding resource_with
+resource_with-takable services d = then-if IsTakable (kind_of d) _ (λ kind _. put_of-formed services kind d)
 
 calico_delete-takable : (d : Data) → IfOk (calico_delete d) IsTakable
 unfolding calico_delete
@@ -133,11 +134,11 @@ second-if node (Ok u) is = is.1 node
 second-if node (Err fault) is = tt
 
 -- a put that is read is formed, and is for an interface of workloads
-pub resource_of-formed : (d : Data) → IfOk (resource_of d) (λ u. is_formed u ≡ true)
-resource_of-formed d = first-if (resource_of d) (resource_of-takable d)
+pub resource_with-formed : (services : Services) (d : Data) → IfOk (resource_with services d) (λ u. is_formed u ≡ true)
+resource_with-formed services d = first-if (resource_with services d) (resource_with-takable services d)
 
-pub resource_of-workload : (node : List ℕ) (d : Data) → IfOk (resource_of d) (λ u. puts_workload_interface node u ≡ true)
-resource_of-workload node d = second-if node (resource_of d) (resource_of-takable d)
+pub resource_with-workload : (services : Services) (node : List ℕ) (d : Data) → IfOk (resource_with services d) (λ u. puts_workload_interface node u ≡ true)
+resource_with-workload services node d = second-if node (resource_with services d) (resource_with-takable services d)
 
 -- so is a delete
 pub delete_of-formed : (d : Data) → IfOk (delete_of d) (λ u. is_formed u ≡ true)

@@ -11,14 +11,15 @@ use Rattle.fx_model.specs.declared.rules.Rule.{Rule}
 use Rattle.fx_model.specs.Formed.{implies, has_port_protocol, has_icmp_protocol, passes, is_formed_side, is_formed_rule, is_formed_profile_rule}
 use Rattle.fx_fields.specs.declared.fault.ReadFault.TheVariants.{IcmpWithoutProtocol, PassInProfile}
 use Rattle.fx_fields.specs.declared.rule_form.RuleForm.{RuleForm}
-use Rattle.fx_fields.specs.declared.rule_form.RuleForm.TheVariants.{OfProfile}
+use Rattle.fx_fields.specs.declared.rule_form.RulePlace.TheVariants.{OfProfile}
+use Rattle.fx_fields.specs.declared.rule_form.Services.{Services}
 use Rattle.fx_json.specs.declared.rules.ReadProtocols.{ReadProtocols}
 use Rattle.fx_fields.specs.Paths.{member_path}
 use Rattle.fx_fields.specs.Fields.{◌>>=◌, is_absent, formed, required, defaulted, optional, unread, object_at, section}
 use Rattle.fx_fields.specs.Values.{version, protocol}
-use Rattle.fx_json.specs.Rules.{action_named, may_pass, allowed, action, has_messages, with_messages, message, asked_message, icmp_at, of_ipv4, protocols, side_at, rule_fields, rule}
+use Rattle.fx_json.specs.Rules.{form_in, action_named, may_pass, allowed, action, has_messages, with_messages, message, asked_message, icmp_at, of_ipv4, protocols, side_at, rule_fields, rule}
 use Rattle.fx_fields.proofs.Readings.{then-if, read-if, required-if, choice-if, weaker-if, both}
-use Rattle.fx_fields.proofs.SideTrees.{IsForm}
+use Rattle.fx_fields.proofs.SideTrees.{IsPlace}
 use Rattle.fx_json.proofs.Implied.{implies_either}
 use Rattle.fx_json.proofs.FormedSides.{lists, IsSideOf, side-formed}
 
@@ -91,22 +92,22 @@ protocols-formed path d =
 
 -- ---- a rule
 
-side_at-formed : (form : RuleForm) → IsForm form → (proto : Option Proto) (path key : List ℕ) (d : Data) → IfOk (side_at form proto path key d) (IsSideOf proto)
+side_at-formed : (form : RuleForm) → IsPlace form.place → (proto : Option Proto) (path key : List ℕ) (d : Data) → IfOk (side_at form proto path key d) (IsSideOf proto)
 unfolding side_at
 side_at-formed form stands proto path key d =
     then-if (IsSideOf proto) (section (member_path path key) key d) _ (λ v is. side-formed form stands proto (member_path path key) v)
 
 -- a rule that stands where it may
 abbrev pub IsRuleOf : RuleForm → Rule → Type 0
-IsRuleOf form r = (is_formed_rule r ≡ true) × IsAllowed (may_pass form) r.action
+IsRuleOf form r = (is_formed_rule r ≡ true) × IsAllowed (may_pass form.place) r.action
 
 abbrev AreAsked : ReadProtocols → Type 0
 AreAsked a = implies (is_some a.icmp || is_some a.not_icmp) (has_icmp_protocol a.protocol) ≡ true
 
-rule_fields-formed : (form : RuleForm) → IsForm form → (path : List ℕ) (o : Data) → IfOk (rule_fields form path o) (IsRuleOf form)
+rule_fields-formed : (form : RuleForm) → IsPlace form.place → (path : List ℕ) (o : Data) → IfOk (rule_fields form path o) (IsRuleOf form)
 unfolding rule_fields
 rule_fields-formed form stands path o =
-    then-if P (required (action (may_pass form)) path (codes "action") o) _ (λ a a_read.
+    then-if P (required (action (may_pass form.place)) path (codes "action") o) _ (λ a a_read.
     then-if P (protocols path o) _ (λ asked asked_read.
     then-if P (side_at form asked.protocol path (codes "source") o) _ (λ source source_read.
     then-if P (side_at form asked.protocol path (codes "destination") o) _ (λ destination destination_read.
@@ -118,23 +119,23 @@ rule_fields-formed form stands path o =
       both (implies (lists source || lists destination) (has_port_protocol asked.protocol) && implies (is_some asked.icmp || is_some asked.not_icmp) (has_icmp_protocol asked.protocol)) (is_formed_side source.side && is_formed_side destination.side)
           (both (implies (lists source || lists destination) (has_port_protocol asked.protocol)) (implies (is_some asked.icmp || is_some asked.not_icmp) (has_icmp_protocol asked.protocol)) listed messages)
           (both (is_formed_side source.side) (is_formed_side destination.side) from.1 to.1),
-      read-if (IsAllowed (may_pass form)) (required (action (may_pass form)) path (codes "action") o) a (required-if (IsAllowed (may_pass form)) (action (may_pass form)) (action-formed (may_pass form)) path (codes "action") o) a_read,
+      read-if (IsAllowed (may_pass form.place)) (required (action (may_pass form.place)) path (codes "action") o) a (required-if (IsAllowed (may_pass form.place)) (action (may_pass form.place)) (action-formed (may_pass form.place)) path (codes "action") o) a_read,
     ))))))
   where
     P : Rule → Type 0
     P = IsRuleOf form
 
-rule-formed : (form : RuleForm) → IsForm form → (path : List ℕ) (d : Data) → IfOk (rule form path d) (IsRuleOf form)
+rule-formed : (form : RuleForm) → IsPlace form.place → (path : List ℕ) (d : Data) → IfOk (rule form path d) (IsRuleOf form)
 unfolding rule
 rule-formed form stands path d = then-if (IsRuleOf form) (object_at path d) (rule_fields form path) (λ o _. rule_fields-formed form stands path o)
 
-pub policy_rule-formed : (form : RuleForm) → IsForm form → (path : List ℕ) (d : Data) → IfOk (rule form path d) (λ r. is_formed_rule r ≡ true)
+pub policy_rule-formed : (form : RuleForm) → IsPlace form.place → (path : List ℕ) (d : Data) → IfOk (rule form path d) (λ r. is_formed_rule r ≡ true)
 policy_rule-formed form stands path d =
     weaker-if (IsRuleOf form) (λ r. is_formed_rule r ≡ true) (rule form path d) (λ r is. is.0) (rule-formed form stands path d)
 
-pub profile_rule-formed : (path : List ℕ) (d : Data) → IfOk (rule OfProfile path d) (λ r. is_formed_profile_rule r ≡ true)
-profile_rule-formed path d =
-    weaker-if (IsRuleOf OfProfile) (λ r. is_formed_profile_rule r ≡ true) (rule OfProfile path d) (λ r is. both (is_formed_rule r) (not (passes r.action)) is.0 (is_not (passes r.action) is.1)) (rule-formed OfProfile tt path d)
+pub profile_rule-formed : (services : Services) (path : List ℕ) (d : Data) → IfOk (rule (form_in OfProfile services) path d) (λ r. is_formed_profile_rule r ≡ true)
+profile_rule-formed services path d =
+    weaker-if (IsRuleOf (form_in OfProfile services)) (λ r. is_formed_profile_rule r ≡ true) (rule (form_in OfProfile services) path d) (λ r is. both (is_formed_rule r) (not (passes r.action)) is.0 (is_not (passes r.action) is.1)) (rule-formed (form_in OfProfile services) tt path d)
   where
     is_not : (p : Bool) → implies p false ≡ true → not p ≡ true
     is_not true e = e

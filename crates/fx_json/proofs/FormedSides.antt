@@ -17,19 +17,20 @@ use Rattle.fx_model.specs.Formed.{implies, has_port_protocol, is_formed_port, is
 use Rattle.fx_fields.specs.declared.fault.ReadFault.{ReadFault}
 use Rattle.fx_fields.specs.declared.fault.ReadFault.TheVariants.{BadField, PortsWithoutProtocol}
 use Rattle.fx_fields.specs.declared.rule_form.RuleForm.{RuleForm}
+use Rattle.fx_fields.specs.declared.rule_form.RulePlace.{RulePlace}
 use Rattle.fx_fields.specs.declared.side_selectors.SideSelectors.{SideSelectors}
 use Rattle.fx_fields.specs.Forms.{is_port_name}
 use Rattle.fx_fields.specs.Paths.{member_path}
-use Rattle.fx_fields.specs.Fields.{formed, optional, unread, items_from, list_at}
+use Rattle.fx_fields.specs.Fields.{formed, items_from, list_at}
 use Rattle.fx_fields.specs.Values.{whole_in, range}
 use Rattle.fx_fields.specs.Nets.{nets_of}
 use Rattle.fx_fields.specs.SideSelectors.{side_selectors}
 use Rattle.fx_fields.proofs.Readings.{then-if, read-if, choice-if, both, items_from-each, weaker-if}
-use Rattle.fx_fields.proofs.SideTrees.{IsTreeOf, IsForm, AreTreesOf, side_selectors-trees}
+use Rattle.fx_fields.proofs.SideTrees.{IsTreeOf, IsPlace, AreTreesOf, side_selectors-trees}
 use Rattle.fx_json.specs.declared.sides.ReadSide.{ReadSide}
 use Rattle.fx_json.specs.declared.sides.ReadPorts.{ReadPorts}
 use Rattle.fx_json.specs.Ports.{port_of_text, port}
-use Rattle.fx_json.specs.Sides.{with_ports, ports_in, ports_at, ports_of, side}
+use Rattle.fx_json.specs.Sides.{with_ports, ports_in, ports_at, ports_of, services_at, side}
 use Rattle.fx_json.proofs.Implied.{implied, implies_either}
 use Rattle.fx_json.proofs.FormedNames.{port_name-formed}
 
@@ -101,9 +102,9 @@ part-tested (Some t) h = both (is_tree t) (nat_le (height t) 139) (tree_tested t
 abbrev AreSelectors : SideSelectors → Type 0
 AreSelectors s = (is_formed_selector s.selector && is_formed_selector s.not_selector) ≡ true
 
-side_selectors-formed : (form : RuleForm) → IsForm form → (path : List ℕ) (d : Data) → IfOk (side_selectors form path d) AreSelectors
-side_selectors-formed form stands path d =
-    weaker-if AreTreesOf AreSelectors (side_selectors form path d) (λ s is. both (is_formed_selector s.selector) (is_formed_selector s.not_selector) (part-tested s.selector is.0) (part-tested s.not_selector is.1)) (side_selectors-trees form stands path d)
+side_selectors-formed : (place : RulePlace) → IsPlace place → (path : List ℕ) (d : Data) → IfOk (side_selectors place path d) AreSelectors
+side_selectors-formed place stands path d =
+    weaker-if AreTreesOf AreSelectors (side_selectors place path d) (λ s is. both (is_formed_selector s.selector) (is_formed_selector s.not_selector) (part-tested s.selector is.0) (part-tested s.not_selector is.1)) (side_selectors-trees place stands path d)
 
 -- ---- sides
 
@@ -113,13 +114,13 @@ lists s = is_given s.side.ports || is_given s.side.not_ports
 abbrev pub IsSideOf : Option Proto → ReadSide → Type 0
 IsSideOf proto s = (implies (lists s) (has_port_protocol proto) ≡ true) × (is_formed_side s.side ≡ true)
 
-pub side-formed : (form : RuleForm) → IsForm form → (proto : Option Proto) (path : List ℕ) (d : Data) → IfOk (side form proto path d) (IsSideOf proto)
+pub side-formed : (form : RuleForm) → IsPlace form.place → (proto : Option Proto) (path : List ℕ) (d : Data) → IfOk (side form proto path d) (IsSideOf proto)
 unfolding side
 side-formed form stands proto path d =
     then-if (IsSideOf proto) (nets_of path d) _ (λ nets _.
-    then-if (IsSideOf proto) (side_selectors form path d) _ (λ chosen chosen_read.
+    then-if (IsSideOf proto) (side_selectors form.place path d) _ (λ chosen chosen_read.
     then-if (IsSideOf proto) (ports_of proto path d) _ (λ ports ports_read.
-    then-if (IsSideOf proto) (optional unread path (codes "services") d) _ (λ absent _.
+    then-if (IsSideOf proto) (services_at form.services path d) _ (λ passed _.
     let p : ArePortsOf proto ports = read-if (ArePortsOf proto) (ports_of proto path d) ports (ports_of-formed proto path d) ports_read in
-    let s : AreSelectors chosen = read-if AreSelectors (side_selectors form path d) chosen (side_selectors-formed form stands path d) chosen_read in
+    let s : AreSelectors chosen = read-if AreSelectors (side_selectors form.place path d) chosen (side_selectors-formed form.place stands path d) chosen_read in
     (p.0, both (is_formed_selector chosen.selector && is_formed_selector chosen.not_selector) (list_all is_formed_port ports.ports && list_all is_formed_port ports.not_ports) s p.1)))))

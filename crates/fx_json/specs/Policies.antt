@@ -15,7 +15,8 @@ use Rattle.fx_model.specs.declared.resources.Update.TheVariants as update
 use Rattle.fx_base.specs.Given.{is_given}
 use Rattle.fx_fields.specs.declared.fault.ReadFault.{ReadFault}
 use Rattle.fx_fields.specs.declared.rule_form.RuleForm.{RuleForm}
-use Rattle.fx_fields.specs.declared.rule_form.RuleForm.TheVariants.{OfPolicy, OfNamespace}
+use Rattle.fx_fields.specs.declared.rule_form.RulePlace.TheVariants.{OfPolicy, OfNamespace}
+use Rattle.fx_fields.specs.declared.rule_form.Services.{Services}
 use Rattle.fx_fields.specs.declared.policy_fields.Directions.{Directions}
 use Rattle.fx_fields.specs.declared.policy_fields.TierPlace.{TierPlace}
 use Rattle.fx_fields.specs.declared.names.NamespacedName.{NamespacedName}
@@ -24,7 +25,7 @@ use Rattle.fx_fields.specs.Names.{name_in, namespaced_name_in}
 use Rattle.fx_fields.specs.PolicyFields.{order, default_action, place_of, flags, policy_type, directions_of}
 use Rattle.fx_fields.specs.Selectors.{global_selector, namespaced_selector}
 use Rattle.fx_json.specs.declared.policies.PolicyRules.{PolicyRules}
-use Rattle.fx_json.specs.Rules.{rule}
+use Rattle.fx_json.specs.Rules.{form_in, rule}
 
 -- ---- tiers
 
@@ -71,20 +72,20 @@ policy_of place selector rules = record {
 }
 
 -- the GlobalNetworkPolicy that `spec` holds
-unfoldable pub global_policy : Reader Policy
-global_policy path spec = do
+unfoldable pub global_policy : Services → Reader Policy
+global_policy services path spec = do
   place ← place_of path spec
   selector ← global_selector path spec
-  rules ← rules_of OfPolicy path spec
+  rules ← rules_of (form_in OfPolicy services) path spec
   _ ← flags path spec
   Ok (policy_of place selector rules)
 
 -- the NetworkPolicy of this namespace that `spec` holds
-unfoldable pub namespaced_policy : List ℕ → Reader Policy
-namespaced_policy namespace path spec = do
+unfoldable pub namespaced_policy : Services → List ℕ → Reader Policy
+namespaced_policy services namespace path spec = do
   place ← place_of path spec
   selector ← namespaced_selector namespace path spec
-  rules ← rules_of (OfNamespace namespace) path spec
+  rules ← rules_of (form_in (OfNamespace namespace) services) path spec
   Ok (policy_of place selector rules)
 
 -- ---- puts
@@ -103,27 +104,27 @@ tier_put d = do
 abbrev pub global_key : List ℕ → Key
 global_key name = key.Policy (policy_id.Global name)
 
-unfoldable pub global_policy_in : Data → Result Policy ReadFault
-global_policy_in d = do
+unfoldable pub global_policy_in : Services → Data → Result Policy ReadFault
+global_policy_in services d = do
   spec ← section (codes "spec") (codes "spec") d
-  global_policy (codes "spec") spec
+  global_policy services (codes "spec") spec
 
-unfoldable pub global_policy_put : Data → Result Update ReadFault
-global_policy_put d = do
+unfoldable pub global_policy_put : Services → Data → Result Update ReadFault
+global_policy_put services d = do
   name ← name_in d
-  policy ← global_policy_in d
+  policy ← global_policy_in services d
   Ok (update.Put (global_key name) (item.Policy policy))
 
 abbrev pub namespaced_key : NamespacedName → Key
 namespaced_key named = key.Policy (policy_id.Namespaced named.ns named.name)
 
-unfoldable pub namespaced_policy_in : List ℕ → Data → Result Policy ReadFault
-namespaced_policy_in namespace d = do
+unfoldable pub namespaced_policy_in : Services → List ℕ → Data → Result Policy ReadFault
+namespaced_policy_in services namespace d = do
   spec ← section (codes "spec") (codes "spec") d
-  namespaced_policy namespace (codes "spec") spec
+  namespaced_policy services namespace (codes "spec") spec
 
-unfoldable pub namespaced_policy_put : Data → Result Update ReadFault
-namespaced_policy_put d = do
+unfoldable pub namespaced_policy_put : Services → Data → Result Update ReadFault
+namespaced_policy_put services d = do
   named ← namespaced_name_in d
-  policy ← namespaced_policy_in named.ns d
+  policy ← namespaced_policy_in services named.ns d
   Ok (update.Put (namespaced_key named) (item.Policy policy))

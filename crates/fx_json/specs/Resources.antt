@@ -11,13 +11,15 @@ use Rattle.fx_model.specs.declared.resources.Update.TheVariants as update
 use Rattle.fx_fields.specs.declared.fault.ReadFault.{ReadFault}
 use Rattle.fx_fields.specs.declared.kinds.Kind.{Kind}
 use Rattle.fx_fields.specs.declared.kinds.Kind.TheVariants.{Profile as AProfile, WorkloadEndpoint, Tier as ATier, GlobalNetworkPolicy, NetworkPolicy, NetworkSet, GlobalNetworkSet}
-use Rattle.fx_fields.specs.declared.rule_form.RuleForm.TheVariants.{OfProfile}
+use Rattle.fx_fields.specs.declared.rule_form.RulePlace.TheVariants.{OfProfile}
+use Rattle.fx_fields.specs.declared.rule_form.Services.{Services}
+use Rattle.fx_fields.specs.declared.rule_form.Services.TheVariants.{Refused}
 use Rattle.fx_fields.specs.Fields.{◌>>=◌, Reader, section, items}
 use Rattle.fx_fields.specs.declared.kinds.KubernetesKind.{KubernetesKind}
 use Rattle.fx_fields.specs.Kinds.{kind_of, kubernetes_kind}
 use Rattle.fx_fields.specs.Names.{name_at, namespaced_name, name_in}
 use Rattle.fx_fields.specs.Labels.{labels_at}
-use Rattle.fx_json.specs.Rules.{rule}
+use Rattle.fx_json.specs.Rules.{form_in, rule}
 use Rattle.fx_json.specs.Policies.{tier_put, global_key, global_policy_put, namespaced_key, namespaced_policy_put}
 use Rattle.fx_json.specs.Endpoints.{endpoint_key, endpoint_put}
 use Rattle.fx_json.specs.Kubernetes.{kubernetes_key_in}
@@ -26,41 +28,45 @@ use Rattle.fx_json.specs.NetSets.{global_set_key, global_set_put, net_set_key, n
 -- ---- profiles
 
 -- the profile that `spec` holds
-unfoldable pub profile_of : Reader Profile
-profile_of path spec = do
-  ingress ← items (rule OfProfile) path (codes "ingress") spec
-  egress ← items (rule OfProfile) path (codes "egress") spec
+unfoldable pub profile_of : Services → Reader Profile
+profile_of services path spec = do
+  ingress ← items (rule (form_in OfProfile services)) path (codes "ingress") spec
+  egress ← items (rule (form_in OfProfile services)) path (codes "egress") spec
   inherited ← labels_at path (codes "labelsToApply") spec
   Ok (record { labels = inherited; ingress = ingress; egress = egress })
 
-unfoldable pub profile_in : Data → Result Profile ReadFault
-profile_in d = do
+unfoldable pub profile_in : Services → Data → Result Profile ReadFault
+profile_in services d = do
   spec ← section (codes "spec") (codes "spec") d
-  profile_of (codes "spec") spec
+  profile_of services (codes "spec") spec
 
-unfoldable pub profile_put : Data → Result Update ReadFault
-profile_put d = do
+unfoldable pub profile_put : Services → Data → Result Update ReadFault
+profile_put services d = do
   name ← name_in d
-  profile ← profile_in d
+  profile ← profile_in services d
   Ok (update.Put (key.Profile name) (item.Profile profile))
 
 -- ---- puts and deletes
 
 -- a resource of this kind that is put
-abbrev pub put_of : Kind → Data → Result Update ReadFault
-put_of AProfile d = profile_put d
-put_of WorkloadEndpoint d = endpoint_put d
-put_of ATier d = tier_put d
-put_of GlobalNetworkPolicy d = global_policy_put d
-put_of NetworkPolicy d = namespaced_policy_put d
-put_of NetworkSet d = net_set_put d
-put_of GlobalNetworkSet d = global_set_put d
+abbrev pub put_of : Services → Kind → Data → Result Update ReadFault
+put_of services AProfile d = profile_put services d
+put_of services WorkloadEndpoint d = endpoint_put d
+put_of services ATier d = tier_put d
+put_of services GlobalNetworkPolicy d = global_policy_put services d
+put_of services NetworkPolicy d = namespaced_policy_put services d
+put_of services NetworkSet d = net_set_put d
+put_of services GlobalNetworkSet d = global_set_put d
 
--- what a put of a resource of Calico is read as
-unfoldable pub resource_of : Data → Result Update ReadFault
-resource_of d = do
+-- what a put of a resource of Calico is read as, by what is done with services
+unfoldable pub resource_with : Services → Data → Result Update ReadFault
+resource_with services d = do
   kind ← kind_of d
-  put_of kind d
+  put_of services kind d
+
+-- where services are refused
+abbrev pub resource_of : Data → Result Update ReadFault
+resource_of d = resource_with Refused d
 
 -- the key of a resource of this kind
 abbrev pub key_of : Kind → Reader Key

@@ -13,7 +13,9 @@ use Rattle.fx_model.specs.Formed.{passes}
 use Rattle.fx_fields.specs.declared.fault.ReadFault.{ReadFault}
 use Rattle.fx_fields.specs.declared.fault.ReadFault.TheVariants.{IcmpWithoutProtocol, PassInProfile}
 use Rattle.fx_fields.specs.declared.rule_form.RuleForm.{RuleForm}
-use Rattle.fx_fields.specs.declared.rule_form.RuleForm.TheVariants.{OfPolicy, OfNamespace, OfProfile}
+use Rattle.fx_fields.specs.declared.rule_form.RulePlace.{RulePlace}
+use Rattle.fx_fields.specs.declared.rule_form.Services.{Services}
+use Rattle.fx_fields.specs.declared.rule_form.RulePlace.TheVariants.{OfPolicy, OfNamespace, OfProfile}
 use Rattle.fx_json.specs.declared.rules.ReadProtocols.{ReadProtocols}
 use Rattle.fx_json.specs.declared.sides.ReadSide.{ReadSide}
 use Rattle.fx_fields.specs.Paths.{member_path}
@@ -31,7 +33,7 @@ action_named s =
     else (if bytes_eq s (codes "Pass") then Some Pass else None)))
 
 -- behind a profile there is no tier to pass to
-abbrev pub may_pass : RuleForm → Bool
+abbrev pub may_pass : RulePlace → Bool
 may_pass OfPolicy = true
 may_pass (OfNamespace ns) = true
 may_pass OfProfile = false
@@ -74,6 +76,10 @@ icmp_at protocol path key d = section (member_path path key) key d >>= asked_mes
 
 -- ---- a rule
 
+-- how a rule is read that stands here
+abbrev pub form_in : RulePlace → Services → RuleForm
+form_in place services = record { place = place; services = services }
+
 -- messages of ICMPv6 are dropped
 unfoldable pub of_ipv4 : Option Proto → Option Icmp → Option Icmp
 of_ipv4 protocol m = if is_icmpv6 protocol then None else m
@@ -107,7 +113,7 @@ is_never asked source destination = asked.never || (source.never || destination.
 
 unfoldable pub rule_fields : RuleForm → Reader Rule
 rule_fields form path d = do
-  a ← required (action (may_pass form)) path (codes "action") d
+  a ← required (action (may_pass form.place)) path (codes "action") d
   asked ← protocols path d
   source ← side_at form asked.protocol path (codes "source") d
   destination ← side_at form asked.protocol path (codes "destination") d

@@ -8,6 +8,8 @@ use Rattle.fx_model.specs.Formed.{has_port_protocol}
 use Rattle.fx_fields.specs.declared.fault.ReadFault.{ReadFault}
 use Rattle.fx_fields.specs.declared.fault.ReadFault.TheVariants.{PortsWithoutProtocol}
 use Rattle.fx_fields.specs.declared.rule_form.RuleForm.{RuleForm}
+use Rattle.fx_fields.specs.declared.rule_form.Services.{Services}
+use Rattle.fx_fields.specs.declared.rule_form.Services.TheVariants.{Refused, PassedOver}
 use Rattle.fx_json.specs.declared.sides.ReadSide.{ReadSide}
 use Rattle.fx_json.specs.declared.sides.ReadPorts.{ReadPorts}
 use Rattle.fx_fields.specs.Paths.{member_path}
@@ -41,13 +43,25 @@ ports_of protocol path d = do
   not_ports ← ports_at protocol path (codes "notPorts") d
   Ok (record { ports = ports; not_ports = not_ports })
 
--- A side of a rule of this protocol, by what the rule stands in, and whether no packet of IPv4 meets it.
+-- ---- services
+
+unfoldable pub no_services : Reader (Unit {0})
+no_services path d = do
+  _ ← optional unread path (codes "services") d
+  Ok tt
+
+-- they are refused, or another reader reads them
+abbrev pub services_at : Services → Reader (Unit {0})
+services_at Refused path d = no_services path d
+services_at PassedOver path d = Ok tt
+
+-- A side of a rule of this protocol, by how the rule is read, and whether no packet of IPv4 meets it.
 unfoldable pub side : RuleForm → Option Proto → Reader ReadSide
 side form protocol path d = do
   nets ← nets_of path d
-  chosen ← side_selectors form path d
+  chosen ← side_selectors form.place path d
   ports ← ports_of protocol path d
-  _ ← optional unread path (codes "services") d
+  _ ← services_at form.services path d
   Ok (record {
     side = record {
       nets = nets.nets;

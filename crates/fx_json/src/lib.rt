@@ -3,7 +3,7 @@
 
 pub use kubernetes::{account_key, kubernetes_policy_key, namespace_key};
 pub use packets::read_packet;
-pub use resources::{read_delete, read_resource};
+pub use resources::{read_delete, read_resource, read_resource_with};
 
 mod endpoints;
 mod kubernetes;

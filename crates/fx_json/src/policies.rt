@@ -10,7 +10,7 @@ use crate::rules::RuleReader;
 use fx_base::{Seq, Text};
 use fx_fields::{
     DefaultActionForm, Directions, NamespacedName, OrderForm, Path, PolicyTypeForm, ReadFault,
-    RuleForm, TierPlace, directions_of, global_selector, is_given, items, name_in,
+    RuleForm, RulePlace, Services, TierPlace, directions_of, global_selector, is_given, items, name_in,
     namespaced_name_in, namespaced_selector, optional, read_flags, read_place, section,
 };
 use fx_model::{Item, Key, Policy, PolicyId, Rule, Tier, Update};
@@ -54,11 +54,15 @@ fn read_tier(alloc: Global, path: &Path<'_>, spec: &Value) -> Result<Tier, ReadF
 // ---- global policies
 
 #[tactic(auto, unfolding(crate::specs::Policies::global_policy_put))]
-pub fn global_policy_put(alloc: Global, resource: &Value) -> Result<Update, ReadFault>
-    ensures { IsAnswerOf (global_policy_put (view resource.now)) result }
+pub fn global_policy_put(
+    alloc: Global,
+    services: Services,
+    resource: &Value,
+) -> Result<Update, ReadFault>
+    ensures { IsAnswerOf (global_policy_put services (view resource.now)) result }
 {
     let name = name_in(alloc, resource)?;
-    let policy = global_policy_in(alloc, resource)?;
+    let policy = global_policy_in(alloc, services, resource)?;
     Ok(Update::Put {
         key: Key::Policy(PolicyId::Global { name }),
         item: Item::Policy(policy),
@@ -66,22 +70,34 @@ pub fn global_policy_put(alloc: Global, resource: &Value) -> Result<Update, Read
 }
 
 #[tactic(auto, unfolding(crate::specs::Policies::global_policy_in))]
-fn global_policy_in(alloc: Global, resource: &Value) -> Result<Policy, ReadFault>
-    ensures { IsAnswerOf (global_policy_in (view resource.now)) result }
+fn global_policy_in(
+    alloc: Global,
+    services: Services,
+    resource: &Value,
+) -> Result<Policy, ReadFault>
+    ensures { IsAnswerOf (global_policy_in services (view resource.now)) result }
 {
     let nothing = Value::Null;
     let path = Path::top("spec");
     let spec = section(alloc, &path, "spec", resource, &nothing)?;
-    read_global_policy(alloc, &path, spec)
+    read_global_policy(alloc, services, &path, spec)
 }
 
 #[tactic(auto, unfolding(crate::specs::Policies::global_policy))]
-fn read_global_policy(alloc: Global, path: &Path<'_>, spec: &Value) -> Result<Policy, ReadFault>
-    ensures { IsAnswerOf (global_policy (text_of path.now) (view spec.now)) result }
+fn read_global_policy(
+    alloc: Global,
+    services: Services,
+    path: &Path<'_>,
+    spec: &Value,
+) -> Result<Policy, ReadFault>
+    ensures { IsAnswerOf (global_policy services (text_of path.now) (view spec.now)) result }
 {
     let place = read_place(alloc, path, spec)?;
     let selector = global_selector(alloc, path, spec)?;
-    let form = RuleForm::OfPolicy;
+    let form = RuleForm {
+        place: RulePlace::OfPolicy,
+        services,
+    };
     let rules = read_rules(alloc, &form, path, spec)?;
     read_flags(alloc, path, spec)?;
     Ok(policy_of(place, selector, rules))
@@ -90,11 +106,15 @@ fn read_global_policy(alloc: Global, path: &Path<'_>, spec: &Value) -> Result<Po
 // ---- policies of a namespace
 
 #[tactic(auto, unfolding(crate::specs::Policies::namespaced_policy_put))]
-pub fn namespaced_policy_put(alloc: Global, resource: &Value) -> Result<Update, ReadFault>
-    ensures { IsAnswerOf (namespaced_policy_put (view resource.now)) result }
+pub fn namespaced_policy_put(
+    alloc: Global,
+    services: Services,
+    resource: &Value,
+) -> Result<Update, ReadFault>
+    ensures { IsAnswerOf (namespaced_policy_put services (view resource.now)) result }
 {
     let named = namespaced_name_in(alloc, resource)?;
-    let policy = namespaced_policy_in(alloc, &named.ns, resource)?;
+    let policy = namespaced_policy_in(alloc, services, &named.ns, resource)?;
     Ok(Update::Put {
         key: namespaced_key(named),
         item: Item::Policy(policy),
@@ -113,31 +133,36 @@ pub fn namespaced_key(named: NamespacedName) -> Key
 #[tactic(auto, unfolding(crate::specs::Policies::namespaced_policy_in))]
 fn namespaced_policy_in(
     alloc: Global,
+    services: Services,
     namespace: &Text,
     resource: &Value,
 ) -> Result<Policy, ReadFault>
     requires { IsString namespace.now }
-    ensures { IsAnswerOf (namespaced_policy_in namespace.now (view resource.now)) result }
+    ensures { IsAnswerOf (namespaced_policy_in services namespace.now (view resource.now)) result }
 {
     let nothing = Value::Null;
     let path = Path::top("spec");
     let spec = section(alloc, &path, "spec", resource, &nothing)?;
-    read_namespaced_policy(alloc, namespace, &path, spec)
+    read_namespaced_policy(alloc, services, namespace, &path, spec)
 }
 
 #[tactic(auto, unfolding(crate::specs::Policies::namespaced_policy))]
 fn read_namespaced_policy(
     alloc: Global,
+    services: Services,
     namespace: &Text,
     path: &Path<'_>,
     spec: &Value,
 ) -> Result<Policy, ReadFault>
     requires { IsString namespace.now }
-    ensures { IsAnswerOf (namespaced_policy namespace.now (text_of path.now) (view spec.now)) result }
+    ensures { IsAnswerOf (namespaced_policy services namespace.now (text_of path.now) (view spec.now)) result }
 {
     let place = read_place(alloc, path, spec)?;
     let selector = namespaced_selector(alloc, namespace, path, spec)?;
-    let form = RuleForm::of_namespace(alloc, namespace)?;
+    let form = RuleForm {
+        place: RulePlace::of_namespace(alloc, namespace)?,
+        services,
+    };
     let rules = read_rules(alloc, &form, path, spec)?;
     Ok(policy_of(place, selector, rules))
 }

@@ -4,7 +4,7 @@ ghost use Rattle.serde_json.specs.View.{view};
 ghost use Rattle.fx_model.specs.Formed.{is_formed, puts_workload_interface};
 ghost use Rattle.fx_fields.specs.Faults.{IsAnswerOf};
 ghost use Rattle.fx_fields.specs.Paths.{text_of};
-ghost use Rattle.fx_json.specs.Resources.{profile_of, profile_put, put_of, resource_of, key_of, calico_delete, kubernetes_delete, delete_of, key_in, profile_in};
+ghost use Rattle.fx_json.specs.Resources.{profile_of, profile_put, put_of, resource_with, resource_of, key_of, calico_delete, kubernetes_delete, delete_of, key_in, profile_in};
 
 use crate::endpoints::{endpoint_key, endpoint_put};
 use crate::kubernetes::kubernetes_key_in;
@@ -12,7 +12,7 @@ use crate::net_sets::{global_set_key, global_set_put, net_set_key, net_set_put};
 use crate::policies::{global_policy_put, namespaced_key, namespaced_policy_put, tier_put};
 use crate::rules::RuleReader;
 use fx_fields::{
-    Kind, KubernetesKind, Path, ReadFault, RuleForm, items, kind_of, kubernetes_kind, labels_at,
+    Kind, KubernetesKind, Path, ReadFault, RuleForm, RulePlace, Services, items, kind_of, kubernetes_kind, labels_at,
     name_at, name_in, namespaced_name, section,
 };
 use fx_model::{Item, Key, PolicyId, Profile, Update};
@@ -25,19 +25,32 @@ pub fn read_resource(alloc: Global, value: &Value) -> Result<Update, ReadFault>
     ensures formed { IfOk result (λ update. is_formed update ≡ true) }
     ensures interface { IfOk result (λ update. (node : List ℕ) → puts_workload_interface node update ≡ true) }
 {
-    put_of(alloc, value)
+    read_resource_with(alloc, Services::Refused, value)
 }
 
-#[tactic(auto, unfolding(crate::specs::Resources::resource_of))]
-fn put_of(alloc: Global, value: &Value) -> Result<Update, ReadFault>
-    ensures { IsAnswerOf (resource_of (view value.now)) result }
+/// The same, by what is done with services.
+pub fn read_resource_with(
+    alloc: Global,
+    services: Services,
+    value: &Value,
+) -> Result<Update, ReadFault>
+    ensures answer { IsAnswerOf (resource_with services (view value.now)) result }
+    ensures formed { IfOk result (λ update. is_formed update ≡ true) }
+    ensures interface { IfOk result (λ update. (node : List ℕ) → puts_workload_interface node update ≡ true) }
+{
+    put_of(alloc, services, value)
+}
+
+#[tactic(auto, unfolding(crate::specs::Resources::resource_with))]
+fn put_of(alloc: Global, services: Services, value: &Value) -> Result<Update, ReadFault>
+    ensures { IsAnswerOf (resource_with services (view value.now)) result }
 {
     match kind_of(value)? {
-        Kind::Profile => profile_put(alloc, value),
+        Kind::Profile => profile_put(alloc, services, value),
         Kind::WorkloadEndpoint => endpoint_put(alloc, value),
         Kind::Tier => tier_put(alloc, value),
-        Kind::GlobalNetworkPolicy => global_policy_put(alloc, value),
-        Kind::NetworkPolicy => namespaced_policy_put(alloc, value),
+        Kind::GlobalNetworkPolicy => global_policy_put(alloc, services, value),
+        Kind::NetworkPolicy => namespaced_policy_put(alloc, services, value),
         Kind::NetworkSet => net_set_put(alloc, value),
         Kind::GlobalNetworkSet => global_set_put(alloc, value),
     }
@@ -116,11 +129,15 @@ fn key_of(alloc: Global, kind: Kind, path: &Path<'_>, metadata: &Value) -> Resul
 // ---- profiles
 
 #[tactic(auto, unfolding(crate::specs::Resources::profile_put))]
-fn profile_put(alloc: Global, resource: &Value) -> Result<Update, ReadFault>
-    ensures { IsAnswerOf (profile_put (view resource.now)) result }
+fn profile_put(
+    alloc: Global,
+    services: Services,
+    resource: &Value,
+) -> Result<Update, ReadFault>
+    ensures { IsAnswerOf (profile_put services (view resource.now)) result }
 {
     let name = name_in(alloc, resource)?;
-    let profile = profile_in(alloc, resource)?;
+    let profile = profile_in(alloc, services, resource)?;
     Ok(Update::Put {
         key: Key::Profile { name },
         item: Item::Profile(profile),
@@ -128,20 +145,32 @@ fn profile_put(alloc: Global, resource: &Value) -> Result<Update, ReadFault>
 }
 
 #[tactic(auto, unfolding(crate::specs::Resources::profile_in))]
-fn profile_in(alloc: Global, resource: &Value) -> Result<Profile, ReadFault>
-    ensures { IsAnswerOf (profile_in (view resource.now)) result }
+fn profile_in(
+    alloc: Global,
+    services: Services,
+    resource: &Value,
+) -> Result<Profile, ReadFault>
+    ensures { IsAnswerOf (profile_in services (view resource.now)) result }
 {
     let nothing = Value::Null;
     let path = Path::top("spec");
     let spec = section(alloc, &path, "spec", resource, &nothing)?;
-    read_profile(alloc, &path, spec)
+    read_profile(alloc, services, &path, spec)
 }
 
 #[tactic(auto, unfolding(crate::specs::Resources::profile_of))]
-fn read_profile(alloc: Global, path: &Path<'_>, spec: &Value) -> Result<Profile, ReadFault>
-    ensures { IsAnswerOf (profile_of (text_of path.now) (view spec.now)) result }
+fn read_profile(
+    alloc: Global,
+    services: Services,
+    path: &Path<'_>,
+    spec: &Value,
+) -> Result<Profile, ReadFault>
+    ensures { IsAnswerOf (profile_of services (text_of path.now) (view spec.now)) result }
 {
-    let form = RuleForm::OfProfile;
+    let form = RuleForm {
+        place: RulePlace::OfProfile,
+        services,
+    };
     let reader = RuleReader { form: &form };
     let ingress = items(alloc, &reader, path, "ingress", spec)?;
     let egress = items(alloc, &reader, path, "egress", spec)?;

@@ -10,14 +10,14 @@ ghost use Rattle.fx_json.specs.Rules.{action_named, may_pass, allowed, action, i
 use crate::sides::{ReadSide, read_side};
 use fx_base::Proto;
 use fx_fields::{
-    ByteForm, Form, Path, ProtocolForm, ReadFault, RuleForm, UnreadForm, VersionForm, defaulted,
+    ByteForm, Form, Path, ProtocolForm, ReadFault, RuleForm, RulePlace, UnreadForm, VersionForm, defaulted,
     formed, is_absent, object, optional, required, section,
 };
 use fx_model::{Action, Icmp, Rule};
 use serde_json::Value;
 use std::alloc::Global;
 
-/// How a rule is read that stands in a policy or a profile of this form.
+/// How a rule is read.
 #[derive(Drop)]
 pub struct RuleReader<'f> {
     pub form: &'f RuleForm,
@@ -43,7 +43,7 @@ fn read_rule(
 ) -> Result<Rule, ReadFault>
     ensures { IsAnswerOf (rule_fields form.now (text_of path.now) (view rule.now)) result }
 {
-    let may_pass = may_pass(form);
+    let may_pass = may_pass(&form.place);
     let action = required(alloc, &ActionForm { may_pass }, path, "action", rule)?;
     let asked = read_protocols(alloc, path, rule)?;
     let source = side_at(alloc, form, asked.protocol, path, "source", rule)?;
@@ -151,12 +151,12 @@ fn allowed(
 }
 
 // Behind a profile there is no tier to pass to.
-fn may_pass(form: &RuleForm) -> bool
-    ensures { result ≡ may_pass form.now }
+fn may_pass(place: &RulePlace) -> bool
+    ensures { result ≡ may_pass place.now }
 {
-    match form {
-        RuleForm::OfPolicy | RuleForm::OfNamespace(_) => true,
-        RuleForm::OfProfile => false,
+    match place {
+        RulePlace::OfPolicy | RulePlace::OfNamespace(_) => true,
+        RulePlace::OfProfile => false,
     }
 }
 

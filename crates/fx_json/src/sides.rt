@@ -4,12 +4,13 @@ ghost use Rattle.serde_json.specs.View.{view, items_view};
 ghost use Rattle.fx_model.specs.Formed.{has_port_protocol};
 ghost use Rattle.fx_fields.specs.Faults.{IsAnswerOf};
 ghost use Rattle.fx_fields.specs.Paths.{text_of};
-ghost use Rattle.fx_json.specs.Sides.{with_ports, may_list, ports_in, ports_at, ports_of, side};
+ghost use Rattle.fx_json.specs.Sides.{with_ports, may_list, ports_in, ports_at, ports_of, no_services, services_at, side};
 
 use crate::ports::PortForm;
 use fx_base::{Proto, Seq};
 use fx_fields::{
-    Path, ReadFault, RuleForm, UnreadForm, list_at, optional, read_items, read_nets, read_selectors,
+    Path, ReadFault, RuleForm, Services, UnreadForm, list_at, optional, read_items, read_nets,
+    read_selectors,
 };
 use fx_model::{PortSpec, Side, has_ports};
 use serde_json::Value;
@@ -33,9 +34,9 @@ pub fn read_side(
     ensures { IsAnswerOf (side form.now protocol (text_of path.now) (view value.now)) result }
 {
     let nets = read_nets(alloc, path, value)?;
-    let chosen = read_selectors(alloc, form, path, value)?;
+    let chosen = read_selectors(alloc, &form.place, path, value)?;
     let ports = read_ports(alloc, protocol, path, value)?;
-    optional(alloc, &UnreadForm, path, "services", value)?;
+    pass_services(alloc, form.services, path, value)?;
     Ok(ReadSide {
         side: Side {
             nets: nets.nets,
@@ -48,6 +49,33 @@ pub fn read_side(
         never: nets.never,
     })
 }
+
+// ---- services
+
+// They are refused, or another reader reads them.
+fn pass_services(
+    alloc: Global,
+    services: Services,
+    path: &Path<'_>,
+    side: &Value,
+) -> Result<(), ReadFault>
+    ensures { IsAnswerOf (services_at services (text_of path.now) (view side.now)) result }
+{
+    match services {
+        Services::Refused => no_services(alloc, path, side),
+        Services::PassedOver => Ok(()),
+    }
+}
+
+#[tactic(auto, unfolding(crate::specs::Sides::no_services))]
+fn no_services(alloc: Global, path: &Path<'_>, side: &Value) -> Result<(), ReadFault>
+    ensures { IsAnswerOf (no_services (text_of path.now) (view side.now)) result }
+{
+    optional(alloc, &UnreadForm, path, "services", side)?;
+    Ok(())
+}
+
+// ---- ports
 
 /// The ports of a side.
 #[derive(Drop)]
@@ -69,8 +97,6 @@ fn read_ports(
     let not_ports = ports_at(alloc, protocol, path, "notPorts", value)?;
     Ok(ReadPorts { ports, not_ports })
 }
-
-// ---- ports
 
 #[tactic(auto, unfolding(crate::specs::Sides::ports_at))]
 fn ports_at(

@@ -12,14 +12,15 @@ use Rattle.fx_fields.specs.Metadata.{metadata_in, global_metadata_in}
 use Rattle.fx_fields.specs.Names.{namespaced_name_in}
 use Rattle.fx_fields.proofs.NameTexts.{named_in_string}
 use Rattle.fx_fields.proofs.Readings.{then-if, read-if, both}
-use Rattle.fx_json.specs.Resources.{resource_of}
+use Rattle.fx_fields.specs.declared.rule_form.Services.{Services}
+use Rattle.fx_json.specs.Resources.{resource_with}
 use Rattle.fx_json.proofs.FormedNames.{named_in-formed}
 use Rattle.fx_json.proofs.FormedPolicies.{IsTakable}
-use Rattle.fx_json.proofs.FormedResources.{resource_of-takable}
+use Rattle.fx_json.proofs.FormedResources.{resource_with-takable}
 use Rattle.fx_k8s.specs.Conversion.{converted_policy}
 use Rattle.fx_k8s.specs.Policies.{policy_in, policy_put}
 use Rattle.fx_k8s.specs.Profiles.{namespace_put, account_put}
-use Rattle.fx_k8s.specs.Puts.{kubernetes_put, put_of}
+use Rattle.fx_k8s.specs.Puts.{kubernetes_put, put_with}
 use Rattle.fx_k8s.proofs.ReadForms.{IsFormedPolicy, policy_in-formed}
 use Rattle.fx_k8s.proofs.FormedConversion.{policy-formed}
 
@@ -46,12 +47,12 @@ kubernetes_put-takable Namespace d = namespace_put-takable d
 kubernetes_put-takable ServiceAccount d = account_put-takable d
 kubernetes_put-takable NetworkPolicy d = policy_put-takable d
 
-put_of-takable : (d : Data) → IfOk (put_of d) IsTakable
-unfolding put_of
-put_of-takable d =
-    elim (kubernetes_kind d) as (λ o. IfOk (elim o [ Some kind ↦ kubernetes_put kind d | None ↦ resource_of d ]) IsTakable) [
+put_with-takable : (services : Services) (d : Data) → IfOk (put_with services d) IsTakable
+unfolding put_with
+put_with-takable services d =
+    elim (kubernetes_kind d) as (λ o. IfOk (elim o [ Some kind ↦ kubernetes_put kind d | None ↦ resource_with services d ]) IsTakable) [
       | Some kind ↦ kubernetes_put-takable kind d
-      | None ↦ resource_of-takable d
+      | None ↦ resource_with-takable services d
     ]
 
 first-if : (answer : Result Update ReadFault) → IfOk answer IsTakable → IfOk answer (λ u. is_formed u ≡ true)
@@ -62,8 +63,8 @@ second-if : (node : List ℕ) (answer : Result Update ReadFault) → IfOk answer
 second-if node (Ok u) is = is.1 node
 second-if node (Err fault) is = tt
 
-pub put_of-formed : (d : Data) → IfOk (put_of d) (λ u. is_formed u ≡ true)
-put_of-formed d = first-if (put_of d) (put_of-takable d)
+pub put_with-formed : (services : Services) (d : Data) → IfOk (put_with services d) (λ u. is_formed u ≡ true)
+put_with-formed services d = first-if (put_with services d) (put_with-takable services d)
 
-pub put_of-workload : (node : List ℕ) (d : Data) → IfOk (put_of d) (λ u. puts_workload_interface node u ≡ true)
-put_of-workload node d = second-if node (put_of d) (put_of-takable d)
+pub put_with-workload : (services : Services) (node : List ℕ) (d : Data) → IfOk (put_with services d) (λ u. puts_workload_interface node u ≡ true)
+put_with-workload services node d = second-if node (put_with services d) (put_with-takable services d)

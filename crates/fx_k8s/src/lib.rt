@@ -3,7 +3,7 @@
 
 pub use policies::convert_policy;
 pub use profiles::{convert_namespace, convert_service_account};
-pub use puts::read_put;
+pub use puts::{read_put, read_put_with};
 
 mod conversion;
 mod entries;

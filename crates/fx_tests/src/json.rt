@@ -1,6 +1,6 @@
 use fx_base::Text;
-use fx_fields::ReadFault;
-use fx_json::{read_delete, read_packet, read_resource};
+use fx_fields::{ReadFault, Services};
+use fx_json::{read_delete, read_packet, read_resource, read_resource_with};
 use fx_model::{Item, Policy, Side, Update};
 use fx_selector::Selector;
 use serde_json::Value;
@@ -242,6 +242,56 @@ fn rules_of_ipv6_are_never_met(rt: HostRuntime) -> Result<(), Fail> {
     for row in NEVER.lines() {
         let (members, want) = row.split_once(" => ").unwrap_or((row, ""));
         assert_eq!(rt; never(rt.alloc(), members)?, want == "true", "{members}");
+    }
+    Ok(())
+}
+
+// ---- services
+
+// A resource of this kind with a rule that has this side, and in the side these members beside another.
+fn with_side(alloc: Global, kind: &str, side: &str, members: &str) -> Result<String, Fail> {
+    Ok(format!(in alloc;
+        "{{\"apiVersion\":\"projectcalico.org/v3\",\"kind\":\"{kind}\",\"metadata\":{{\"name\":\"p\",\"namespace\":\"n\"}},\
+\"spec\":{{\"ingress\":[{{\"action\":\"Deny\",\"{side}\":{{\"notSelector\":\"has(a)\"{members}}}}}]}}}}"
+    )?)
+}
+
+// Whether services are refused at this path.
+fn is_refused_at(alloc: Global, text: &str, want: &str) -> Result<bool, Fail> {
+    let value = Value::from_str(alloc, text)?;
+    match &read_resource(alloc, &value) {
+        Err(ReadFault::Unsupported { path }) => Ok(path.bytes() == want.as_bytes()),
+        _ => Ok(false),
+    }
+}
+
+fn passed_over(alloc: Global, text: &str) -> Result<String, Fail> {
+    let value = Value::from_str(alloc, text)?;
+    told(
+        alloc,
+        read_resource_with(alloc, Services::PassedOver, &value),
+    )
+}
+
+#[test]
+fn services_are_refused_or_passed_over(rt: HostRuntime) -> Result<(), Fail> {
+    let alloc = rt.alloc();
+    for (kind, side, path) in [
+        ("Profile", "source", "spec.ingress[0].source.services"),
+        (
+            "GlobalNetworkPolicy",
+            "destination",
+            "spec.ingress[0].destination.services",
+        ),
+        ("NetworkPolicy", "source", "spec.ingress[0].source.services"),
+    ] {
+        let named = with_side(alloc, kind, side, ",\"services\":{\"name\":\"s\"}")?;
+        let plain = with_side(alloc, kind, side, "")?;
+        assert!(rt; is_refused_at(alloc, named.as_str(), path)?, "{kind}");
+        let said = passed_over(alloc, named.as_str())?;
+        let want = resource_text(alloc, plain.as_str())?;
+        assert_eq!(rt; said.as_str(), want.as_str());
+        assert!(rt; said.contains("action: Deny"));
     }
     Ok(())
 }

@@ -15,14 +15,14 @@ use Rattle.fx_json.specs.Rules.{may_pass, action, protocols, side_at, rule_field
 use Rattle.fx_json.proofs.rules.read_rule.Goals as goal
 
 -- where all before `http` is read, its fault is the rule's
-refused_http : (form : RuleForm) (path : List ℕ) (d : Data) (a : Action) (asked : ReadProtocols) (source destination : ReadSide) (told : ReadFault) → required (action (may_pass form)) path (codes "action") d ≡ Ok a → protocols path d ≡ Ok asked → side_at form asked.protocol path (codes "source") d ≡ Ok source → side_at form asked.protocol path (codes "destination") d ≡ Ok destination → IsReadFault (optional unread path (codes "http") d) told → IsReadFault (rule_fields form path d) told
+refused_http : (form : RuleForm) (path : List ℕ) (d : Data) (a : Action) (asked : ReadProtocols) (source destination : ReadSide) (told : ReadFault) → required (action (may_pass form.place)) path (codes "action") d ≡ Ok a → protocols path d ≡ Ok asked → side_at form asked.protocol path (codes "source") d ≡ Ok source → side_at form asked.protocol path (codes "destination") d ≡ Ok destination → IsReadFault (optional unread path (codes "http") d) told → IsReadFault (rule_fields form path d) told
 unfolding rule_fields
 refused_http form path d a asked source destination told acts asks from to (inl memory) = inl memory
 refused_http form path d a asked source destination told acts asks from to (inr fault) = inr (rw (acts, asks, from, to, fault) refl)
 
 pub returns-in_err-optional : goal.returns-in_err-optional
 returns-in_err-optional c =
-    let acts : required (action (may_pass c.args.form.now)) (text_of c.args.path.now) (codes "action") (view c.args.rule.now) ≡ Ok c.in_ok-action.action = rw (sym c.may_pass-may_pass.ensures) c.in_ok-action.ensures in
+    let acts : required (action (may_pass c.args.form.now.place)) (text_of c.args.path.now) (codes "action") (view c.args.rule.now) ≡ Ok c.in_ok-action.action = rw (sym c.may_pass-may_pass.ensures) c.in_ok-action.ensures in
     let told = err_from_is_err_and c.from_residual-in_err-optional.result c.from_residual-in_err-optional.ensures.1 in
     rw (told.1, told.2)
     (refused_http c.args.form.now (text_of c.args.path.now) (view c.args.rule.now) c.in_ok-action.action c.in_ok-asked.asked c.in_ok-source.source c.in_ok-destination.destination _ acts c.in_ok-asked.ensures c.in_ok-source.ensures c.in_ok-destination.ensures c.in_err-optional.ensures)
