@@ -3,6 +3,8 @@ pub mod SendingLemmas
 pub mod Writings
 pub mod LineByLine
 pub mod ClosingLemmas
+pub mod Flushing
+pub mod KnownFlushes
 pub mod Served
 pub mod Policing
 pub mod Asked

@@ -3,14 +3,12 @@ use Rattle.std.proofs.Common.{◌≡◌, ◌⊎◌, inl, inr, ◌<◌, ◌≤◌
 use Rattle.std.proofs.lemmas.List.{append-nil}
 use Rattle.std.specs.Io.KnownBytes.{Appends}
 use Rattle.fx_base.specs.Streams.{SinkState, AppendsPrefix}
-use Rattle.fx_base.proofs.Compose.{AppendsPrefix-none}
 use Rattle.fx_model.specs.Messages.{Change}
 use Rattle.fx_model.specs.MessageTexts.{message_line}
-use Rattle.fx_agent.specs.declared.faults.PullFault.{PullFault}
 use Rattle.fx_agent.specs.declared.faults.PullFault.TheVariants as pull
 use Rattle.fx_agent.specs.Answers.{IsPullCause, OutLeaves}
 use Rattle.felix_replay.specs.Output.{first_text}
-use Rattle.felix_replay.specs.RunFaults.{pull_fault_of}
+use Rattle.felix_replay.specs.declared.run_fault.RunFault.TheVariants as fault
 use Rattle.felix_replay.proofs.Writings.{Writes-none}
 use Rattle.felix_replay.specs.Writing.{HasTorn, HasWritten, Writes}
 
@@ -48,31 +46,31 @@ module _ (before now : SinkState) (o : Option Change) where
     abbrev Torn : Change → Type 0
     Torn c = HasTorn before now (message_line c) × Name
 
-    -- a pull that failed
-    pub fault-writes : (failed : Bool) (e : PullFault) → (Same → now ≡ before) → IsPullCause failed before.faults now.faults e → OutLeaves o Handed Torn Same e
-        → Writes {T = Bool} before now (first_text o) (Err (pull_fault_of e))
-    fault-writes failed pull.Write same cause left = record {
+    -- a pull whose message could not be written
+    pub write-fault : (failed : Bool) → IsPullCause failed before.faults now.faults pull.Write → OutLeaves o Handed Torn Same pull.Write
+        → Writes {T = Bool} before now (first_text o) (Err fault.WriteFault)
+    write-fault failed cause left = record {
       whole = tt;
       prefix = torn-prefix left.0 left.1.0 left.1.1.0;
       later = left.1.1.0.later;
       cause = cause.1;
     }
-    fault-writes failed pull.Memory same cause (c, (is, inl (wrote, name))) = record { whole = tt; prefix = written-prefix c is wrote; later = wrote.later; cause = tt }
-    fault-writes failed pull.Memory same cause (c, (is, inr (wrote, name))) = record { whole = tt; prefix = torn-prefix c is wrote; later = wrote.later; cause = tt }
-    fault-writes failed pull.NeedsResync same cause left =
-        let stays = same left in
-        record {
-          whole = tt;
-          prefix = subst (λ (s : SinkState). AppendsPrefix before.held s.held (first_text o)) (sym stays) (AppendsPrefix-none before.held (first_text o));
-          later = omega (arith, ap (λ (s : SinkState). s.faults) stays);
-          cause = tt;
-        }
 
-    pub fault-name : (e : PullFault) → (Same → Name) → OutLeaves o Handed Torn Same e → Name
-    fault-name pull.Write same left = left.1.1.1
-    fault-name pull.Memory same (c, (is, inl (wrote, name))) = name
-    fault-name pull.Memory same (c, (is, inr (wrote, name))) = name
-    fault-name pull.NeedsResync same left = same left
+    pub write-name : OutLeaves o Handed Torn Same pull.Write → Name
+    write-name left = left.1.1.1
+
+    -- one for which there was no memory
+    pub memory-fault : OutLeaves o Handed Torn Same pull.Memory → Writes {T = Bool} before now (first_text o) (Err fault.Memory)
+    memory-fault (c, (is, inl (wrote, name))) = record { whole = tt; prefix = written-prefix c is wrote; later = wrote.later; cause = tt }
+    memory-fault (c, (is, inr (wrote, name))) = record { whole = tt; prefix = torn-prefix c is wrote; later = wrote.later; cause = tt }
+
+    pub memory-name : OutLeaves o Handed Torn Same pull.Memory → Name
+    memory-name (c, (is, inl (wrote, name))) = name
+    memory-name (c, (is, inr (wrote, name))) = name
+
+-- an agent whose memory never ran out
+pub no_resync : {A : Type 0} (failed : Bool) → failed ≡ false → failed ≡ true → A
+no_resync failed still was = cc
 
 -- nothing was written
 pub quiet-writes : (before now : SinkState) (o : Option Change) → o ≡ None → now ≡ before → Writes {T = Bool} before now (first_text o) (Ok false)

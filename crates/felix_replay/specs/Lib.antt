@@ -7,6 +7,7 @@ pub mod Writing
 pub mod Standing
 pub mod Top
 pub mod Closing
+pub mod Flushing
 pub mod Policed
 pub mod KubernetesLines
 pub mod Soak

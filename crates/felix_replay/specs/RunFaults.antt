@@ -1,6 +1,4 @@
 -- Why a run ends early.
-use Rattle.fx_agent.specs.declared.faults.PullFault.{PullFault}
-use Rattle.fx_agent.specs.declared.faults.PullFault.TheVariants as pull
 use Rattle.fx_lines.specs.declared.lines.LineFault.{LineFault}
 use Rattle.fx_lines.specs.declared.lines.LineFault.TheVariants as fault
 use Rattle.felix_replay.specs.declared.run_fault.RunFault.{RunFault}
@@ -10,8 +8,3 @@ abbrev pub run_fault_of : LineFault → RunFault
 run_fault_of fault.ReadFault = ReadFault
 run_fault_of fault.InputTooLong = InputTooLong
 run_fault_of fault.Memory = Memory
-
-abbrev pub pull_fault_of : PullFault → RunFault
-pull_fault_of pull.Write = WriteFault
-pull_fault_of pull.Memory = Memory
-pull_fault_of pull.NeedsResync = Memory

@@ -47,7 +47,8 @@ impl<R: DigestRule, F: DigestFunction<R> + Drop> Replay<R, F> {
         ensures ready { IfOk result (λ r. IsReady R.digest_of r.agent.store r.agent.graph.state r.agent.driver r.agent.failed) }
         ensures tally { IfOk result (λ r. r.tally ≡ no_flushes) }
     {
-        let agent = Agent::new(alloc, node, namer)?;
+        let own_node = node.clone()?;
+        let agent = Agent::new(alloc, own_node, namer)?;
         Ok(Replay {
             alloc,
             agent,
@@ -88,7 +89,7 @@ impl<R: DigestRule, F: DigestFunction<R> + Drop> Replay<R, F> {
         // A sink that counts never fails, so that only memory can be wanting.
         match self.answer(line, &mut CountSink::new()) {
             Ok(()) => Ok(()),
-            Err(_) => Err(Memory),
+            Err(fault) => Err(fault.want_of_memory()),
         }
     }
 
@@ -139,8 +140,8 @@ impl<R: DigestRule, F: DigestFunction<R> + Drop> Replay<R, F> {
                 self.refuse(&Refusal::Taken { name, holder }, sink)
             }
             Err(UpdateFault::Memory) => Err(RunFault::Memory),
-            // The run ends with the first want of memory, so it never comes to this.
-            Err(UpdateFault::NeedsResync) => Err(RunFault::Memory),
+            // That comes only where memory ran out before, and then the run has ended.
+            Err(UpdateFault::NeedsResync) => unreachable!(),
         }
     }
 
@@ -226,7 +227,7 @@ impl<R: DigestRule, F: DigestFunction<R> + Drop> Replay<R, F> {
     {
         match self.flush(&mut CountSink::new()) {
             Ok(()) => Ok(()),
-            Err(_) => Err(Memory),
+            Err(fault) => Err(fault.want_of_memory()),
         }
     }
 }

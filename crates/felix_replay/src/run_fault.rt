@@ -1,9 +1,8 @@
 //! Why a run ends early.
 ghost use Rattle.std.specs.Prelude.{◌≡◌};
-ghost use Rattle.felix_replay.specs.RunFaults.{run_fault_of, pull_fault_of};
+ghost use Rattle.felix_replay.specs.RunFaults.{run_fault_of};
 ghost use Rattle.felix_replay.specs.declared.run_fault.RunFault.TheVariants.{Memory, WriteFault};
 
-use fx_agent::PullFault;
 use fx_base::{Failed, Memory};
 use fx_lines::LineFault;
 use std::alloc::AllocError;
@@ -14,6 +13,18 @@ pub enum RunFault {
     WriteFault,
     Memory,
     InputTooLong,
+}
+
+impl RunFault {
+    /// Want of memory, as the fault of a call that has no other.
+    pub fn want_of_memory(self) -> Memory
+        requires { self ≡ RunFault.Memory }
+    {
+        match self {
+            RunFault::Memory => Memory,
+            RunFault::ReadFault | RunFault::WriteFault | RunFault::InputTooLong => unreachable!(),
+        }
+    }
 }
 
 impl From<AllocError> for RunFault {
@@ -48,19 +59,6 @@ impl From<LineFault> for RunFault {
             LineFault::ReadFault => RunFault::ReadFault,
             LineFault::InputTooLong => RunFault::InputTooLong,
             LineFault::Memory => RunFault::Memory,
-        }
-    }
-}
-
-// The run ends with the first want of memory, so the agent is never asked again.
-impl From<PullFault> for RunFault {
-    ghost from_gives = { λ fault e. e ≡ pull_fault_of fault };
-
-    fn from(fault: PullFault) -> Self {
-        match fault {
-            PullFault::Write => RunFault::WriteFault,
-            PullFault::Memory => RunFault::Memory,
-            PullFault::NeedsResync => RunFault::Memory,
         }
     }
 }

@@ -8,7 +8,7 @@ ghost use Rattle.felix_replay.specs.Standing.{IsReady};
 ghost use Rattle.felix_replay.specs.Writing.{Writes, HasWritten, HasTorn};
 
 use crate::run_fault::RunFault;
-use fx_agent::{Agent, MessageOut, OutFault, Pulled};
+use fx_agent::{Agent, MessageOut, OutFault, PullFault, Pulled};
 use fx_base::{Sink, Text};
 use fx_model::Message;
 use fx_names::{DigestFunction, DigestRule};
@@ -76,9 +76,13 @@ fn pull_one<K: Sink, R: DigestRule, F: DigestFunction<R> + Drop>(
     ensures writes { Writes (K.state out.old.sink.now) (K.state out.new.sink.now)
         (first_text (next_message (sides_of agent.old.graph.state).sent (sides_of agent.old.graph.state).now)) result }
 {
-    match agent.pull(out)? {
-        Pulled::Sent => Ok(true),
-        Pulled::Nothing => Ok(false),
+    match agent.pull(out) {
+        Ok(Pulled::Sent) => Ok(true),
+        Ok(Pulled::Nothing) => Ok(false),
+        Err(PullFault::Write) => Err(RunFault::WriteFault),
+        Err(PullFault::Memory) => Err(RunFault::Memory),
+        // That comes only where memory ran out before, and then the run has ended.
+        Err(PullFault::NeedsResync) => unreachable!(),
     }
 }
 

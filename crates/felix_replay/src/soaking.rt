@@ -53,7 +53,9 @@ fn sum_up<R: DigestRule, F: DigestFunction<R> + Drop>(
     ensures { IfOk result (λ summary. SumsUp R.digest_of node.now run summary.line summary.refused) }
 {
     let mut replay = Replay::new(alloc, node, namer)?;
-    sum_up_over(alloc, node, run, &mut replay)
+    let summary = sum_up_over(alloc, node, run, &mut replay);
+    drop(replay);
+    summary
 }
 
 fn sum_up_over<R: DigestRule, F: DigestFunction<R> + Drop>(

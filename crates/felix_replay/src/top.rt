@@ -11,6 +11,7 @@ ghost use Rattle.fx_lines.specs.Reading.{HasFailedRead, IsTooLong};
 ghost use Rattle.felix_replay.specs.Standing.{IsReady, state_of};
 ghost use Rattle.felix_replay.specs.Output.{start};
 ghost use Rattle.felix_replay.specs.Closing.{IsWhole, views_along};
+ghost use Rattle.felix_replay.specs.Flushing.{FlushesSendAll};
 ghost use Rattle.felix_replay.specs.Policed.{KeepsPolicy, PathsAreRuns};
 ghost use Rattle.felix_replay.specs.KubernetesLines.{KeepsKubernetes};
 
@@ -41,7 +42,7 @@ pub enum Status {
 ///
 /// A line is a JSON object with one member; each output line is written with its newline by one put. Names in the kernel that are
 /// too long are made by the namer's digest rule.
-#[tactic(auto, using(fx_base::proofs::AtKey::reads, crate::proofs::ClosingLemmas::run_stays_whole, crate::proofs::Policing::keeps_policy, crate::proofs::Policing::paths_are_runs, crate::proofs::KubernetesKept::keeps_kubernetes))]
+#[tactic(auto, using(fx_base::proofs::AtKey::reads, crate::proofs::ClosingLemmas::run_stays_whole, crate::proofs::Flushing::flushes_send_all, crate::proofs::Policing::keeps_policy, crate::proofs::Policing::paths_are_runs, crate::proofs::KubernetesKept::keeps_kubernetes))]
 pub fn felix_replay<S: Source, K: Sink, R: DigestRule, F: DigestFunction<R> + Drop>(
     alloc: Global,
     words: &[Text],
@@ -52,7 +53,11 @@ pub fn felix_replay<S: Source, K: Sink, R: DigestRule, F: DigestFunction<R> + Dr
     requires fresh { (S.state source.old).given ≡ 0 }
     requires unended { (S.state source.old).ended ≡ false }
 
-    // The input was read to its end, or each drawn line was answered, and the output is the definition's.
+    // Where the source tells what is left and the sink what it holds, the output and the status of an input are the definition's.
+    ensures as_defined { HasRun result → AsksReplay (asked_of words.now)
+        → IsAsDefined R.digest_of (node_name words.now) (S.state source.old) (K.state sink.old) (K.state sink.new) result }
+
+    // Whether or not they tell: the input was read to its end, or each drawn line was answered, and the output is the definition's.
     ensures named { HasRun result → IsSome (asked_of words.now) }
     ensures done { result ≡ Status.Done
         → RanFor R.digest_of (asked_of words.now) (S.state source.old) (S.state source.new)
@@ -61,24 +66,24 @@ pub fn felix_replay<S: Source, K: Sink, R: DigestRule, F: DigestFunction<R> + Dr
         → RanFor R.digest_of (asked_of words.now) (S.state source.old) (S.state source.new)
         (K.state sink.old) (K.state sink.new) true }
 
-    // The same of an input, where the source tells what is left and the sink what it holds.
-    ensures as_defined { HasRun result → AsksReplay (asked_of words.now)
-        → IsAsDefined R.digest_of (node_name words.now) (S.state source.old) (K.state sink.old) (K.state sink.new) result }
-
+    // Of the definition of the output:
     // After each single message nothing that is named is missing, in the sent view and in its tables.
     ensures closed { (lines : List (List ℕ))
         → AllByRecursion IsWhole (views_along (start R.digest_of (node_name words.now)) lines) }
 
+    // After a flush, and no accepted update behind it, the sent view is that of the resources.
+    ensures flushed { FlushesSendAll R.digest_of (node_name words.now) }
+
     // A packet's line tells the path, the reasons and the verdict of the machine's run over the tables of what was sent.
     ensures path { PathsAreRuns R.digest_of (node_name words.now) }
 
-    // A line with a first packet is answered as the policy reference says, where each accepted update was flushed.
+    // A line with a first packet is answered as the policy reference says, where the sent view is that of the resources.
     ensures policy { KeepsPolicy R.digest_of (node_name words.now) }
 
-    // Its verdict is Kubernetes' where the resources are those of a cluster.
+    // Its verdict is Kubernetes' where moreover the resources are those of a cluster.
     ensures kubernetes { KeepsKubernetes R.digest_of (node_name words.now) }
 
-    // Without a fault it is never anything else but want of memory.
+    // Of the run again: without a fault it is never anything else but want of memory.
     ensures complete { IsSome (asked_of words.now)
         → ¬ SourceFailed (S.state source.old) (S.state source.new) → ¬ SinkFailed (K.state sink.old) (K.state sink.new)
         → (S.state source.new).given < 2 ^ 32 → HasRunOrMemory result }
@@ -192,7 +197,9 @@ fn replay<S: Source, K: Sink, R: DigestRule, F: DigestFunction<R> + Drop>(
     ensures limited { (S.state source.new).given ≤ 2 ^ 32 }
 {
     let mut replay = Replay::new(alloc, node, namer)?;
-    answer_lines(alloc, &mut replay, source, sink)
+    let ended = answer_lines(alloc, &mut replay, source, sink);
+    drop(replay);
+    ended
 }
 
 // Answers each line, and tells whether one was refused.

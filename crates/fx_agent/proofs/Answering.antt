@@ -52,3 +52,6 @@ pending-tells o failed ready none = (
 
 pub failed-tells : {Differ : Type 0} (failed : Bool) → failed ≡ true → (false ≡ true) ↔ ((failed ≡ false) × Differ)
 failed-tells failed was = (λ e. no_some (sym e), λ both. no_some (sym was ∙ both.0))
+
+pub failed-still : {A : Type 0} (failed : Bool) → failed ≡ true → failed ≡ false → A
+failed-still failed was ready = no_some (sym was ∙ ready)

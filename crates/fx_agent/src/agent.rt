@@ -13,7 +13,7 @@ ghost use Rattle.fx_model.specs.Machine.{Decides};
 ghost use Rattle.fx_model.specs.Policy.{packet_verdict};
 ghost use Rattle.fx_model.specs.Resources.{after, empty_resources};
 ghost use Rattle.fx_model.specs.ViewTables.{tables_of};
-ghost use Rattle.fx_model.specs.Views.{empty_view};
+ghost use Rattle.fx_model.specs.Views.{empty_view, view_of};
 ghost use Rattle.fx_model.specs.declared.packet.State.TheVariants as state;
 ghost use Rattle.fx_store.specs.Checking.{Tells};
 ghost use Rattle.fx_graph.specs.Graphs.{sides_of};
@@ -43,16 +43,15 @@ pub struct Agent<R: DigestRule, F: DigestFunction<R> + Drop> {
 
 impl<R: DigestRule, F: DigestFunction<R> + Drop> Agent<R, F> {
     /// The agent of a node without resources, to which nothing was sent yet.
-    pub fn new(alloc: Global, node: &Text, namer: Namer<R, F>) -> Result<Self, Memory>
+    pub fn new(alloc: Global, node: Text, namer: Namer<R, F>) -> Result<Self, Memory>
         ensures agent { IfOk result (λ a. IsAgent R.digest_of a.store a.graph.state a.driver a.failed) }
-        ensures resources { IfOk result (λ a. a.store.resources ≡ empty_resources node.now) }
+        ensures resources { IfOk result (λ a. a.store.resources ≡ empty_resources node) }
         ensures sent { IfOk result (λ a. (sides_of a.graph.state).sent ≡ empty_view) }
         ensures ready { IfOk result (λ a. a.failed ≡ false) }
     {
         let driver = Driver::new(alloc)?;
-        let own_node = node.clone()?;
         let graph_node = node.clone()?;
-        let store = Store::new(alloc, own_node);
+        let store = Store::new(alloc, node);
         let graph = Graph::new(alloc, graph_node, namer);
         Ok(Agent {
             store,
@@ -110,8 +109,15 @@ impl<R: DigestRule, F: DigestFunction<R> + Drop> Agent<R, F> {
 
     /// Whether a message is pending: memory never ran out, and the sent view isn't the wanted one. It takes no memory.
     pub fn pending(&self) -> bool
-        ensures { (result ≡ true) ↔ ((self.now.failed ≡ false)
+        ensures told { (result ≡ true) ↔ ((self.now.failed ≡ false)
             × (¬ ((sides_of self.now.graph.state).sent ≡ (sides_of self.now.graph.state).now))) }
+
+        // If none is, and memory never ran out, all was sent: the sent view is the wanted one, which is that of the resources.
+        ensures all_sent { result ≡ false → self.now.failed ≡ false
+            → (sides_of self.now.graph.state).sent ≡ (sides_of self.now.graph.state).now }
+        ensures view { IsAgent R.digest_of self.now.store self.now.graph.state self.now.driver self.now.failed
+            → result ≡ false → self.now.failed ≡ false
+            → (sides_of self.now.graph.state).sent ≡ view_of R.digest_of self.now.store.resources }
     {
         if self.failed {
             return false;

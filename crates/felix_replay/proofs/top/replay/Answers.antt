@@ -15,17 +15,17 @@ returns-in_err-replay-clause-stopped g c =
     OnErr-always c.from_residual.result
     (stopped_between g.R.DigestRule.digest_of c.args.node.now source source source [] source.ended [] [] sink sink (HasRead-none source source.ended) (Gives-none source) (λ end. (refl, end)) (Appends-none sink.held))
 
-pub answer_lines-requires-clause-state : goal.answer_lines-requires-clause-state
-answer_lines-requires-clause-state g c =
+pub answer_lines-ended-requires-clause-state : goal.answer_lines-ended-requires-clause-state
+answer_lines-ended-requires-clause-state g c =
     let is = c.in_ok-replay.ensures.state in
     is ∙ ap (λ (s : State). start g.R.DigestRule.digest_of s.resources.node) (sym is)
 
 pub returns-clause-ran : goal.returns-clause-ran
 returns-clause-ran g c =
-    subst (λ (s : State). IfOk c.answer_lines.result (Ran g.R.DigestRule.digest_of s.resources.node (g.S.Source.state c.args.source.now) (g.S.Source.state c.answer_lines.new.source) (g.K.Sink.state c.args.sink.now) (g.K.Sink.state c.answer_lines.new.sink)))
-    c.in_ok-replay.ensures.state c.answer_lines.ensures.ran
+    subst (λ (s : State). IfOk c.answer_lines-ended.result (Ran g.R.DigestRule.digest_of s.resources.node (g.S.Source.state c.args.source.now) (g.S.Source.state c.answer_lines-ended.new.source) (g.K.Sink.state c.args.sink.now) (g.K.Sink.state c.answer_lines-ended.new.sink)))
+    c.in_ok-replay.ensures.state c.answer_lines-ended.ensures.ran
 
 pub returns-clause-stopped : goal.returns-clause-stopped
 returns-clause-stopped g c =
-    subst (λ (s : State). OnErr c.answer_lines.result (Stopped g.R.DigestRule.digest_of s.resources.node (g.S.Source.state c.args.source.now) (g.S.Source.state c.answer_lines.new.source) (g.K.Sink.state c.args.sink.now) (g.K.Sink.state c.answer_lines.new.sink)))
-    c.in_ok-replay.ensures.state c.answer_lines.ensures.stopped
+    subst (λ (s : State). OnErr c.answer_lines-ended.result (Stopped g.R.DigestRule.digest_of s.resources.node (g.S.Source.state c.args.source.now) (g.S.Source.state c.answer_lines-ended.new.source) (g.K.Sink.state c.args.sink.now) (g.K.Sink.state c.answer_lines-ended.new.sink)))
+    c.in_ok-replay.ensures.state c.answer_lines-ended.ensures.stopped

@@ -1,4 +1,5 @@
-use Rattle.std.proofs.Common.{◌≡◌}
+use Rattle.std.proofs.Common.{◌≡◌, ◌∙◌, ap}
+use Rattle.fx_model.specs.Resources.{empty_resources}
 use Rattle.felix_replay.specs.Output.{start}
 use Rattle.felix_replay.proofs.Ready.{agent-ready}
 use Rattle.felix_replay.proofs.replay.Replay.new.Goals as goal
@@ -8,6 +9,6 @@ returns-clause-ready g c = agent-ready c.in_ok-agent.ensures.agent c.in_ok-agent
 
 pub returns-clause-state : goal.returns-clause-state
 returns-clause-state g c = λ j. record (start g.R.DigestRule.digest_of c.args.node.now) {
-  resources = c.in_ok-agent.ensures.resources j;
+  resources = (c.in_ok-agent.ensures.resources ∙ ap empty_resources c.in_ok-own_node.ensures.cases) j;
   sent = c.in_ok-agent.ensures.sent j;
 }

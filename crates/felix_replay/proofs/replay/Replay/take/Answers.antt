@@ -2,6 +2,7 @@ use Rattle.std.proofs.Common.{◌≡◌, List, ℕ, true, false, refl, sym, ◌�
 use Rattle.felix_replay.specs.Output.{State, settled, update_answer}
 use Rattle.felix_replay.specs.Standing.{state_of, IsReady}
 use Rattle.felix_replay.specs.Writing.{Writes}
+use Rattle.felix_replay.proofs.Pulling.{no_resync}
 use Rattle.felix_replay.proofs.Ready.{agent-ready, ready-agent}
 use Rattle.felix_replay.proofs.SendingLemmas.{on_ok_subst}
 use Rattle.felix_replay.proofs.Taking.{free-settled, free-text, taken-settled, taken-text}
@@ -64,5 +65,7 @@ returns-in-Err-Taken-clause-writes g c =
 pub returns-in-Err-Memory-clause-writes : goal.returns-in-Err-Memory-clause-writes
 returns-in-Err-Memory-clause-writes g c = Writes-nothing _ _
 
-pub returns-in-Err-NeedsResync-clause-writes : goal.returns-in-Err-NeedsResync-clause-writes
-returns-in-Err-NeedsResync-clause-writes g c = Writes-nothing _ _
+pub unreachable-requires : goal.unreachable-requires
+unreachable-requires g c =
+    let cause = rw c.in-Err-NeedsResync.field-0-is at c.in-Err-NeedsResync.ensures.cause in
+    no_resync _ c.requires.ready.still cause

@@ -12,9 +12,8 @@ use Rattle.fx_agent.proofs.agent.Agent.new.Goals as goal
 pub returns-clause-agent : goal.returns-clause-agent
 returns-clause-agent g c =
     let dg = g.R.DigestRule.digest_of in
-    let node = c.args.node.now in
-    let is = c.new-store.ensures.resources ∙ ap empty_resources c.in_ok-own_node.ensures.cases in
-    let servable = subst (IsServable dg) (sym is) (none-servable dg node) in
+    let is = c.new-store.ensures.resources in
+    let servable = subst (IsServable dg) (sym is) (none-servable dg c.args.node) in
     let graph = subst (λ (S : Resources). IsGraphOf dg S c.new-graph.result.state) (ap empty_resources c.in_ok-graph_node.ensures.cases ∙ sym is) c.new-graph.ensures.resources in
     let driven = driven-anew dg c.new-store.result.resources servable.formed (record { sent = empty_view; now = empty_view }) c.new-graph.result.state.nodes.sequencer c.in_ok-driver.driver
     (record { drives = c.in_ok-driver.ensures; from = empty_view-drivable; to = empty_view-drivable }) c.new-graph.ensures.sent graph.now in
@@ -22,7 +21,7 @@ returns-clause-agent g c =
     (record { servable = servable; claims = c.new-store.ensures.claims dg; graph = graph; driven = driven })
 
 pub returns-clause-resources : goal.returns-clause-resources
-returns-clause-resources g c = c.new-store.ensures.resources ∙ ap empty_resources c.in_ok-own_node.ensures.cases
+returns-clause-resources g c = c.new-store.ensures.resources
 
 pub returns-clause-sent : goal.returns-clause-sent
 returns-clause-sent g c = c.new-graph.ensures.sent
