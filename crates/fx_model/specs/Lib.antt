@@ -1,6 +1,7 @@
 pub mod SameIds
 pub mod SameMember
 pub mod SameRules
+pub mod SameChainRules
 pub mod SameViews
 pub mod SamePlaces
 pub mod Directions

@@ -45,7 +45,7 @@ same_action Log Log e = λ i. Log
 same_action Pass Pass e = λ i. Pass
 same_action _ _ e = cc
 
-same_proto : (x y : Proto) → proto.eq-value.it x y ≡ true → x ≡ y
+pub same_proto : (x y : Proto) → proto.eq-value.it x y ≡ true → x ≡ y
 same_proto x y e = λ i. record { 0 = same_numbers x.0 y.0 e i }
 
 pub same_icmp : (x y : Icmp) → icmp.eq-value.it x y ≡ true → x ≡ y
@@ -53,12 +53,12 @@ same_icmp x y e =
     let p = both_pass _ _ e in
     λ i. record { kind = same_numbers x.kind y.kind p.0 i; code = same_option nat_eq same_numbers x.code y.code p.1 i }
 
-same_cidr : (x y : Net) → net.eq-value.it x y ≡ true → x ≡ y
+pub same_cidr : (x y : Net) → net.eq-value.it x y ≡ true → x ≡ y
 same_cidr x y e =
     let p = both_pass _ _ e in
     same_net x y (λ i. record { 0 = same_numbers x.addr.0 y.addr.0 p.0 i }) (same_numbers x.len y.len p.1)
 
-same_range : (x y : PortRange) → ports.eq-value.it x y ≡ true → x ≡ y
+pub same_range : (x y : PortRange) → ports.eq-value.it x y ≡ true → x ≡ y
 same_range x y e =
     let p = both_pass _ _ e in
     same_ports x y (same_numbers x.low y.low p.0) (same_numbers x.high y.high p.1)
