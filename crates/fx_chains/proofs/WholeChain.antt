@@ -7,8 +7,8 @@ use Rattle.fx_model.specs.declared.chain.Target.TheVariants as target
 use Rattle.fx_model.specs.declared.chain.Reason.TheVariants as reason
 use Rattle.fx_model.specs.declared.chain.ChainRule.{ChainRule}
 use Rattle.fx_model.specs.Directions.{Direction}
-use Rattle.fx_model.specs.Rendering.{plain, tagged, clear_mark, is_clear, pass_mark}
-use Rattle.fx_model.specs.Tables.{tier_rules, profile_jumps, endpoint_rules, tiers_side, policy_jumps}
+use Rattle.fx_model.specs.Rendering.{plain, tagged, clear_mark, is_clear, accept_mark, pass_mark}
+use Rattle.fx_model.specs.Tables.{tier_rules, profile_jumps, endpoint_rules_with, tiers_side, policy_jumps}
 use Rattle.fx_chains.specs.Parts.{one_tier, profile_jump, state_rules}
 
 abbrev tier_end : ViewTier → ChainRule
@@ -29,9 +29,11 @@ profiles-flat d (key ∷ keys) =
     append_assoc (profile_jump d key) (flat_map (profile_jump d) keys) (tagged [] target.Drop reason.NoProfileRule ∷ [])
     ∙ ap (λ l. profile_jump d key ++ l) (profiles-flat d keys)
 
--- the states, the tiers, the profiles and the end are the chain
-pub whole_chain : (d : Direction) (e : ViewEndpoint) → ((state_rules ++ flat_map (one_tier d) (tiers_side d e)) ++ flat_map (profile_jump d) e.profiles) ++ tagged [] target.Drop reason.NoProfileRule ∷ [] ≡ endpoint_rules d e
-whole_chain d e =
-    append_assoc (state_rules ++ flat_map (one_tier d) (tiers_side d e)) (flat_map (profile_jump d) e.profiles) (tagged [] target.Drop reason.NoProfileRule ∷ [])
-    ∙ append_assoc state_rules (flat_map (one_tier d) (tiers_side d e)) _
-    ∙ ap (λ l. state_rules ++ l) (tiers-flat d (tiers_side d e) _ ∙ ap (tier_rules d (tiers_side d e)) (profiles-flat d e.profiles))
+-- the states, the rules behind them, the tiers, the profiles and the end are the chain
+pub whole_chain : (third : List ChainRule) (d : Direction) (e : ViewEndpoint) → ((((state_rules ++ third) ++ plain [] (clear_mark accept_mark) ∷ []) ++ flat_map (one_tier d) (tiers_side d e)) ++ flat_map (profile_jump d) e.profiles) ++ tagged [] target.Drop reason.NoProfileRule ∷ [] ≡ endpoint_rules_with third d e
+whole_chain third d e =
+    let begun = (state_rules ++ third) ++ plain [] (clear_mark accept_mark) ∷ [] in
+    append_assoc (begun ++ flat_map (one_tier d) (tiers_side d e)) (flat_map (profile_jump d) e.profiles) (tagged [] target.Drop reason.NoProfileRule ∷ [])
+    ∙ append_assoc begun (flat_map (one_tier d) (tiers_side d e)) _
+    ∙ append_assoc (state_rules ++ third) (plain [] (clear_mark accept_mark) ∷ []) _
+    ∙ ap (λ l. state_rules ++ (third ++ plain [] (clear_mark accept_mark) ∷ l)) (tiers-flat d (tiers_side d e) _ ∙ ap (tier_rules d (tiers_side d e)) (profiles-flat d e.profiles))

@@ -22,5 +22,4 @@ abbrev pub state_rules : List ChainRule
 state_rules =
     tagged (match.State true ∷ []) target.Accept reason.Established
     ∷ tagged (match.State false ∷ []) target.Drop reason.Invalid
-    ∷ plain [] (clear_mark accept_mark)
     ∷ []

@@ -1,7 +1,7 @@
 //! An endpoint's chain, part by part.
 ghost use Rattle.std.specs.Prelude.{◌≡◌, ◌++◌, IfOk, OnOk, true};
 ghost use Rattle.std.specs.List.{list_all, flat_map};
-ghost use Rattle.fx_model.specs.Tables.{policy_jumps, endpoint_rules};
+ghost use Rattle.fx_model.specs.Tables.{policy_jumps, endpoint_rules, endpoint_rules_with};
 ghost use Rattle.fx_model.specs.Formed.{is_formed_profile_key};
 ghost use Rattle.fx_rules.specs.Rules.{direction_of};
 ghost use Rattle.fx_chains.specs.Parts.{policy_jump, one_tier, profile_jump, state_rules};
@@ -9,7 +9,7 @@ ghost use Rattle.fx_chains.specs.Parts.{policy_jump, one_tier, profile_jump, sta
 use crate::names::{policy_name, profile_name};
 use fx_base::{Memory, NameKey, Seq};
 use fx_model::{ChainRule, Match, Reason, Target, ViewEndpoint, ViewTier};
-use fx_rules::{ACCEPT, PASS, clear_mark, is_clear, one, plain, push_return, tagged};
+use fx_rules::{ACCEPT, PASS, append, clear_mark, is_clear, one, plain, push_return, tagged};
 use std::alloc::Global;
 
 // Asks a policy's chain while none has passed, and returns where it allowed.
@@ -101,7 +101,7 @@ fn push_profile_jumps(
     Ok(())
 }
 
-// What every chain of an endpoint begins with.
+// What every chain of an endpoint begins with: connections that are known go on, and invalid ones don't.
 fn push_state_rules(alloc: Global, chain: &mut Seq<ChainRule>) -> Result<(), Memory>
     ensures { OnOk result (chain.new ≡ chain.old ++ state_rules) }
 {
@@ -112,12 +112,10 @@ fn push_state_rules(alloc: Global, chain: &mut Seq<ChainRule>) -> Result<(), Mem
     let invalid = Match::State {
         related_established: false,
     };
-    chain.push(tagged(one(alloc, invalid)?, Target::Drop, Reason::Invalid))?;
-    chain.push(plain(Seq::new(alloc), clear_mark(ACCEPT)))
+    chain.push(tagged(one(alloc, invalid)?, Target::Drop, Reason::Invalid))
 }
 
 /// An endpoint's chain: its tiers, its profiles, and the end.
-#[tactic(auto, using(crate::proofs::WholeChain::whole_chain))]
 pub fn endpoint_chain(
     alloc: Global,
     endpoint: &ViewEndpoint,
@@ -126,6 +124,20 @@ pub fn endpoint_chain(
     requires { list_all is_formed_profile_key endpoint.now.profiles ≡ true }
     ensures { IfOk result (λ rules. rules ≡ endpoint_rules (direction_of ingress) endpoint.now) }
 {
+    endpoint_chain_with(alloc, endpoint, Seq::new(alloc), ingress)
+}
+
+/// An endpoint's chain with rules in the third place, behind those for connections that are known or invalid.
+#[tactic(auto, using(crate::proofs::WholeChain::whole_chain))]
+pub fn endpoint_chain_with(
+    alloc: Global,
+    endpoint: &ViewEndpoint,
+    third: Seq<ChainRule>,
+    ingress: bool,
+) -> Result<Seq<ChainRule>, Memory>
+    requires { list_all is_formed_profile_key endpoint.now.profiles ≡ true }
+    ensures { IfOk result (λ rules. rules ≡ endpoint_rules_with third (direction_of ingress) endpoint.now) }
+{
     let tiers = if ingress {
         &endpoint.ingress
     } else {
@@ -133,6 +145,8 @@ pub fn endpoint_chain(
     };
     let mut chain = Seq::new(alloc);
     push_state_rules(alloc, &mut chain)?;
+    append(third, &mut chain)?;
+    chain.push(plain(Seq::new(alloc), clear_mark(ACCEPT)))?;
     push_tiers(alloc, ingress, tiers, &mut chain)?;
     push_profile_jumps(alloc, ingress, &endpoint.profiles, &mut chain)?;
     chain.push(tagged(Seq::new(alloc), Target::Drop, Reason::NoProfileRule))?;

@@ -1,7 +1,7 @@
 //! The chains of endpoints as rules of iptables(8), and the names of chains.
 #![tactic(auto)]
 
-pub use endpoint::endpoint_chain;
+pub use endpoint::{endpoint_chain, endpoint_chain_with};
 pub use names::{endpoint_name, policy_name, profile_name};
 
 mod endpoint;

@@ -8,6 +8,4 @@ pub mod Writable
 pub mod Deletable
 pub mod Planned
 pub mod Once
-pub mod Others
-pub mod Endpoints
 pub mod Exact

@@ -7,3 +7,4 @@ pub mod Inheriting
 pub mod ChainWrites
 pub mod UseLemmas
 pub mod KnownTrees
+pub mod HostChains

@@ -10,7 +10,7 @@ use Rattle.fx_model.specs.declared.chain.Target.{Target}
 use Rattle.fx_model.specs.declared.chain.Target.TheVariants as target
 use Rattle.fx_model.specs.declared.chain.ChainRule.{ChainRule}
 use Rattle.fx_model.specs.Directions.{Ingress, Egress}
-use Rattle.fx_model.specs.Tables.{ChainName, Chains, forward, root_of}
+use Rattle.fx_model.specs.Tables.{ChainName, Chains, forward, root_of, host_hook, host_root_of, host_prefix}
 
 abbrev pub is_root : ChainName → Bool
 is_root name = bytes_eq name (root_of Egress) || bytes_eq name (root_of Ingress)
@@ -22,16 +22,26 @@ is_child_of root name = starts_with nat_eq name (root ++ codes "-") && nat_eq (l
 abbrev pub is_child : ChainName → Bool
 is_child name = is_child_of (root_of Egress) name || is_child_of (root_of Ingress) name
 
+-- the first chains of the hooks INPUT and OUTPUT
+abbrev pub is_host_hook : ChainName → Bool
+is_host_hook name = bytes_eq name (host_hook Ingress) || bytes_eq name (host_hook Egress)
+
+abbrev pub is_host_root : ChainName → Bool
+is_host_root name = bytes_eq name (host_root_of Ingress) || bytes_eq name (host_root_of Egress)
+
+abbrev pub is_of_host_endpoint : ChainName → Bool
+is_of_host_endpoint name = starts_with nat_eq name (host_prefix Ingress) || starts_with nat_eq name (host_prefix Egress)
+
 abbrev pub is_of_endpoint : ChainName → Bool
 is_of_endpoint name = starts_with nat_eq name (prefix_text ToEndpoint) || starts_with nat_eq name (prefix_text FromEndpoint)
 
--- policies and profiles lead nowhere
+-- policies, profiles and lists of failsafe ports lead nowhere
 abbrev pub rank_of : ChainName → ℕ
 rank_of name =
-    if bytes_eq name forward then 4
-    else (if is_root name then 3
+    if bytes_eq name forward || is_host_hook name then 4
+    else (if is_root name || is_host_root name then 3
     else (if is_child name then 2
-    else (if is_of_endpoint name then 1
+    else (if is_of_endpoint name || is_of_host_endpoint name then 1
     else 0)))
 
 -- a jump or goto leads to a chain of a rank below this one

@@ -101,12 +101,16 @@ abbrev pub tiers_side : Direction → ViewEndpoint → List ViewTier
 tiers_side Ingress e = e.ingress
 tiers_side Egress e = e.egress
 
-abbrev pub endpoint_rules : Direction → ViewEndpoint → List ChainRule
-endpoint_rules d e =
+-- with rules behind the two for connections that are known or invalid, as the chain of one of the node's own interfaces has a
+-- jump to its failsafe ports there
+abbrev pub endpoint_rules_with : List ChainRule → Direction → ViewEndpoint → List ChainRule
+endpoint_rules_with third d e =
     tagged (match.State true ∷ []) target.Accept reason.Established
     ∷ tagged (match.State false ∷ []) target.Drop reason.Invalid
-    ∷ plain [] (clear_mark accept_mark)
-    ∷ tier_rules d (tiers_side d e) (profile_jumps d e.profiles)
+    ∷ (third ++ (plain [] (clear_mark accept_mark) ∷ tier_rules d (tiers_side d e) (profile_jumps d e.profiles)))
+
+abbrev pub endpoint_rules : Direction → ViewEndpoint → List ChainRule
+endpoint_rules d e = endpoint_rules_with [] d e
 
 -- ---- the way to an endpoint's chain
 
@@ -133,3 +137,21 @@ forward_rules =
     ∷ plain (match.Iface Source (codes "cali") true ∷ []) (target.Jump (root_of Egress))
     ∷ plain (match.Iface Dest (codes "cali") true ∷ []) (target.Jump (root_of Ingress))
     ∷ []
+
+-- ---- the chains of the node's own interfaces, for packets to its own processes and from them
+
+-- where packets of the hooks INPUT and OUTPUT come first
+abbrev pub host_hook : Direction → ChainName
+host_hook Ingress = codes "cali-INPUT"
+host_hook Egress = codes "cali-OUTPUT"
+
+abbrev pub host_root_of : Direction → ChainName
+host_root_of Ingress = codes "cali-from-host-endpoint"
+host_root_of Egress = codes "cali-to-host-endpoint"
+
+abbrev pub host_prefix : Direction → List ℕ
+host_prefix Ingress = codes "cali-fh-"
+host_prefix Egress = codes "cali-th-"
+
+abbrev pub host_endpoint_chain : Direction → List ℕ → ChainName
+host_endpoint_chain d iface = host_prefix d ++ iface

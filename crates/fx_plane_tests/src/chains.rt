@@ -3,9 +3,10 @@ ghost use Rattle.std.specs.Prelude.{◌≡◌, IfOk, true};
 ghost use Rattle.std.specs.List.{list_all};
 ghost use Rattle.fx_model.specs.Formed.{is_formed_profile_key};
 
-use fx_base::{Memory, NameKey, Seq, Text};
-use fx_chains::endpoint_chain;
+use fx_base::{ChainName, Memory, NameKey, Seq, Text};
+use fx_chains::{endpoint_chain, endpoint_chain_with};
 use fx_model::{ChainRule, Match, Target, ViewEndpoint, ViewTier};
+use fx_rules::plain;
 use std::alloc::{AllocError, Global};
 use std::test::Fail;
 
@@ -107,6 +108,16 @@ INVALID -j DROP
 -j DROP
 ";
 
+const EGRESS_OF_HOST: &str = "\
+RELATED,ESTABLISHED -j ACCEPT
+INVALID -j DROP
+-j cali-failsafe-out
+-j MARK 0x0/0x10000
+-j cali-pro-open
+--mark 0x10000/0x10000 -j RETURN
+-j DROP
+";
+
 #[test]
 fn tiers_come_before_profiles(rt: HostRuntime) -> Result<(), Fail> {
     let alloc = rt.alloc();
@@ -115,5 +126,19 @@ fn tiers_come_before_profiles(rt: HostRuntime) -> Result<(), Fail> {
     assert_eq!(rt; chain_text(alloc, to.as_slice())?.as_str(), INGRESS);
     let from = endpoint_chain(alloc, &endpoint, false)?;
     assert_eq!(rt; chain_text(alloc, from.as_slice())?.as_str(), EGRESS);
+    Ok(())
+}
+
+#[test]
+fn failsafe_ports_come_third(rt: HostRuntime) -> Result<(), Fail> {
+    let alloc = rt.alloc();
+    let jump = Target::Jump(ChainName::join(b"cali-failsafe-out", b""));
+    let mut third = Seq::new(alloc);
+    third.push(plain(Seq::new(alloc), jump))?;
+    let from = endpoint_chain_with(alloc, &endpoint(alloc)?, third, false)?;
+    assert_eq!(rt;
+        chain_text(alloc, from.as_slice())?.as_str(),
+        EGRESS_OF_HOST
+    );
     Ok(())
 }

@@ -5,7 +5,7 @@
 pub use chains::{policy_chain, profile_chain};
 pub use marks::{ACCEPT, PASS, clear_mark, is_clear, is_set, set_mark};
 pub use parts::{one, plain, push_return, tagged};
-pub use rule::render_rule;
+pub use rule::{append, render_rule};
 
 mod blocks;
 mod chains;

@@ -52,8 +52,8 @@ fn push_main(
     }
 }
 
-// Moves the rules behind those that are there.
-fn append(rules: Seq<ChainRule>, out: &mut Seq<ChainRule>) -> Result<(), Memory>
+/// Moves the rules behind those that are there.
+pub fn append(rules: Seq<ChainRule>, out: &mut Seq<ChainRule>) -> Result<(), Memory>
     ensures ok { OnOk result (out.new ≡ out.old ++ rules) }
     ensures err { OnErr result (GrowsByPrefix out.old out.new rules) }
 {
