@@ -8,9 +8,9 @@ ghost use Rattle.felix_replay.specs.Standing.{IsReady};
 ghost use Rattle.felix_replay.specs.Writing.{Writes, HasWritten, HasTorn};
 
 use crate::run_fault::RunFault;
-use fx_agent::{Agent, MessageOut, OutFault, PullFault, Pulled};
+use fx_agent::{Agent, PullFault, Pulled};
 use fx_base::{Sink, Text};
-use fx_model::Message;
+use fx_model::{Message, MessageOut, OutFault};
 use fx_names::{DigestFunction, DigestRule};
 use fx_print::message_text;
 use std::alloc::Global;

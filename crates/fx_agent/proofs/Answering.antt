@@ -4,8 +4,8 @@ use Rattle.std.specs.Prelude.{◌↔◌, IsErrOf}
 use Rattle.fx_model.specs.Messages.{Change}
 use Rattle.fx_store.specs.declared.fault.CheckFault.{CheckFault}
 use Rattle.fx_store.specs.declared.fault.CheckFault.TheVariants as check
-use Rattle.fx_agent.specs.declared.faults.OutFault.{OutFault}
-use Rattle.fx_agent.specs.declared.faults.OutFault.TheVariants as out
+use Rattle.fx_model.specs.declared.out.OutFault.{OutFault}
+use Rattle.fx_model.specs.declared.out.OutFault.TheVariants as out
 use Rattle.fx_agent.specs.declared.faults.Pulled.{Pulled}
 use Rattle.fx_agent.specs.declared.faults.Pulled.TheVariants as pulled
 use Rattle.fx_agent.specs.Answers.{IsOutLeft, StaysIfTaken}

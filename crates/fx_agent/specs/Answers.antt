@@ -12,8 +12,8 @@ use Rattle.fx_k8s.specs.Clusters.{IsConverted, IsPlain}
 use Rattle.fx_k8s.specs.KubeVerdict.{Cluster, kubernetes_verdict}
 use Rattle.fx_store.specs.declared.fault.CheckFault.{CheckFault}
 use Rattle.fx_store.specs.declared.fault.CheckFault.TheVariants as check
-use Rattle.fx_agent.specs.declared.faults.OutFault.{OutFault}
-use Rattle.fx_agent.specs.declared.faults.OutFault.TheVariants as out
+use Rattle.fx_model.specs.declared.out.OutFault.{OutFault}
+use Rattle.fx_model.specs.declared.out.OutFault.TheVariants as out
 use Rattle.fx_agent.specs.declared.faults.PullFault.{PullFault}
 use Rattle.fx_agent.specs.declared.faults.PullFault.TheVariants as pull
 use Rattle.fx_agent.specs.declared.faults.Pulled.{Pulled}

@@ -1,5 +1,5 @@
-//! What the agent answers, and what an out of messages does.
-use fx_base::{KernelName, Memory, Text};
+//! What the agent answers.
+use fx_base::{KernelName, Text};
 use thiserror::Error;
 
 /// Why an update isn't taken.
@@ -34,22 +34,4 @@ pub enum PullFault {
     /// Memory ran out before, so what the agent holds isn't known any more.
     #[error("the agent has to begin anew")]
     NeedsResync,
-}
-
-/// Why a message isn't taken.
-#[derive(Clone, Copy, Debug, PartialEq, Eq)]
-pub enum OutFault {
-    Write,
-    Memory,
-}
-
-impl From<Memory> for OutFault {
-    ghost use Rattle.std.specs.Prelude.{◌≡◌};
-    ghost use Rattle.fx_agent.specs.declared.faults.OutFault.TheVariants as fault;
-
-    ghost from_gives = { λ _ e. e ≡ fault.Memory };
-
-    fn from(_: Memory) -> Self {
-        OutFault::Memory
-    }
 }

@@ -2,10 +2,8 @@
 #![tactic(auto)]
 
 pub use agent::Agent;
-pub use faults::{OutFault, PullFault, Pulled, UpdateFault};
-pub use out::MessageOut;
+pub use faults::{PullFault, Pulled, UpdateFault};
 
 mod agent;
 mod faults;
-mod out;
 mod pulling;

@@ -9,11 +9,11 @@ ghost use Rattle.fx_agent.specs.Driven.{IsDriven, KeepsResources};
 ghost use Rattle.fx_agent.specs.Sound.{IsAgent};
 
 use crate::agent::Agent;
-use crate::faults::{OutFault, PullFault, Pulled};
-use crate::out::MessageOut;
+use crate::faults::{PullFault, Pulled};
 use fx_base::Counter;
 use fx_driver::Driver;
 use fx_graph::Graph;
+use fx_model::{MessageOut, OutFault};
 use fx_names::{DigestFunction, DigestRule};
 
 impl<R: DigestRule, F: DigestFunction<R> + Drop> Agent<R, F> {

@@ -1,11 +1,29 @@
-//! Where messages go.
+//! Where messages go, and why one isn't taken.
 ghost use Rattle.std.specs.Prelude.{ℕ, ◌≤◌, OnOk, OnErr, IsErrOf};
 ghost use Rattle.fx_base.specs.Streams.{Rose};
 ghost use Rattle.fx_model.specs.Lent.{change_of};
 ghost use Rattle.fx_model.specs.Messages.{Change};
 
-use crate::faults::OutFault;
-use fx_model::Message;
+use crate::message::Message;
+use fx_base::Memory;
+
+/// Why a message isn't taken.
+#[derive(Clone, Copy, Debug, PartialEq, Eq)]
+pub enum OutFault {
+    Write,
+    Memory,
+}
+
+impl From<Memory> for OutFault {
+    ghost use Rattle.std.specs.Prelude.{◌≡◌};
+    ghost use Rattle.fx_model.specs.declared.out.OutFault.TheVariants as fault;
+
+    ghost from_gives = { λ _ e. e ≡ fault.Memory };
+
+    fn from(_: Memory) -> Self {
+        OutFault::Memory
+    }
+}
 
 /// Takes messages, as a writer of their texts does.
 pub trait MessageOut {
