@@ -1,5 +1,5 @@
 -- What holds of each entry of a map goes on when entries are put in.
-use Rattle.std.proofs.Common.{◌≡◌, Bool, true, false, ◌&&◌, List, [], ◌∷◌, refl, ap, ◌∙◌, subst}
+use Rattle.std.proofs.Common.{◌≡◌, Bool, true, List, [], ◌∷◌, refl, ap, ◌∙◌, subst}
 use Rattle.std.specs.List.{list_all}
 use Rattle.std.specs.declared.cmp.Ordering.{Ordering}
 use Rattle.std.specs.declared.cmp.Ordering.TheVariants.{Less, Equal, Greater}
@@ -9,20 +9,17 @@ use Rattle.std.specs.FinMap.Entries.{by_order}
 use Rattle.fx_base.specs.Same.{both_pass}
 use Rattle.fx_base.specs.Extended.{extended, collected}
 use Rattle.fx_base.proofs.Entries.{entries-empty}
-
-both : (a b : Bool) → a ≡ true → b ≡ true → (a && b) ≡ true
-both true b p q = q
-both false b p q = cc
+use Rattle.fx_base.proofs.Cases.{both_true}
 
 module _ {K X : Type 0} {R : K → K → Ordering} (exact : IsAntisymmetric R) (p : K × X → Bool) where
   all-put : (k : K) (v : X) (es : List (K × X)) → p (k, v) ≡ true → list_all p es ≡ true → list_all p (put R k v es) ≡ true
-  all-put k v [] here all = both (p (k, v)) true here refl
+  all-put k v [] here all = both_true (p (k, v)) true here refl
   all-put k v (e ∷ es) here all =
       let parts = both_pass (p e) (list_all p es) all in
       elim (R k e.0) as (λ r. R k e.0 ≡ r → list_all p (by_order r ((k, v) ∷ e ∷ es) ((e.0, v) ∷ es) (e ∷ put R k v es)) ≡ true) [
-        | Less ↦ λ is. both (p (k, v)) (list_all p (e ∷ es)) here all
-        | Equal ↦ λ is. both (p (e.0, v)) (list_all p es) (subst (λ (q : K). p (q, v) ≡ true) (exact k e.0 is) here) parts.1
-        | Greater ↦ λ is. both (p e) (list_all p (put R k v es)) parts.0 (all-put k v es here parts.1)
+        | Less ↦ λ is. both_true (p (k, v)) (list_all p (e ∷ es)) here all
+        | Equal ↦ λ is. both_true (p (e.0, v)) (list_all p es) (subst (λ (q : K). p (q, v) ≡ true) (exact k e.0 is) here) parts.1
+        | Greater ↦ λ is. both_true (p e) (list_all p (put R k v es)) parts.0 (all-put k v es here parts.1)
       ] refl
 
   module _ (o : IsTotalOrder R) where

@@ -9,25 +9,17 @@ use Rattle.std.specs.FinMap.Entries.{by_order}
 use Rattle.fx_base.specs.Extended.{extended, collected}
 use Rattle.fx_base.specs.Set.{Set, marked, items}
 use Rattle.fx_base.proofs.Entries.{entries-empty}
+use Rattle.fx_base.proofs.Cases.{swapped, none_else}
 
 twice : (a b : Bool) → (a || b) ≡ (a || (a || b))
 twice true b = refl
 twice false b = refl
-
-swapped : (a b c : Bool) → (a || (b || c)) ≡ (b || (a || c))
-swapped true true c = refl
-swapped true false c = refl
-swapped false b c = refl
 
 regrouped : (a b c : Bool) → (a || (b || c)) ≡ ((b || a) || c)
 regrouped true true c = refl
 regrouped true false c = refl
 regrouped false true c = refl
 regrouped false false c = refl
-
-unmoved : (a : Bool) → (a || false) ≡ a
-unmoved true = refl
-unmoved false = refl
 
 module _ {K : Type 0} {R : K → K → Ordering} (o : IsTotalOrder R) (exact : IsAntisymmetric R) (p : K → Bool) where
   abbrev any_key : List (K × Unit {0}) → Bool
@@ -53,4 +45,4 @@ module _ {K : Type 0} {R : K → K → Ordering} (o : IsTotalOrder R) (exact : I
   any-collected ks =
       any-extended empty ks
       ∙ ap (λ es. list_any p ks || any_key es) (entries-empty R)
-      ∙ unmoved (list_any p ks)
+      ∙ none_else (list_any p ks)

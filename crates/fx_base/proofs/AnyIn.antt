@@ -8,16 +8,13 @@ use Rattle.std.specs.Cmp.{IsTotalOrder}
 use Rattle.std.specs.FinMap.{FinMap, IsAntisymmetric, find, entries, keys, get, get-entries}
 use Rattle.fx_base.specs.Set.{Set, contains, items}
 use Rattle.fx_base.proofs.Walk.{found}
+use Rattle.fx_base.proofs.Cases.{surely}
 
 pub same_truth : (a b : Bool) → (a ≡ true → b ≡ true) → (b ≡ true → a ≡ true) → a ≡ b
 same_truth true true f g = refl
 same_truth true false f g = sym (f refl)
 same_truth false true f g = g refl
 same_truth false false f g = refl
-
-later : (b : Bool) → (b || true) ≡ true
-later true = refl
-later false = refl
 
 module _ {K X : Type 0} {R : K → K → Ordering} (o : IsTotalOrder R) (p : K → Bool) where
   kept_some : (r : Ordering) (x : X) (f : Option X) → is_some f ≡ true → is_some (cond (is_eq r) (Some x) f) ≡ true
@@ -37,8 +34,8 @@ module _ {K X : Type 0} {R : K → K → Ordering} (o : IsTotalOrder R) (p : K �
   from_key exact [] k q h = cc
   from_key exact (e ∷ es) k q h =
       elim (R k e.0) as (λ r. R k e.0 ≡ r → is_some (cond (is_eq r) (Some e.1) (find R k es)) ≡ true → (p e.0 || list_any p (map (λ e. e.0) es)) ≡ true) [
-        | Less ↦ λ w g. ap (λ b. p e.0 || b) (from_key exact es k q g) ∙ later (p e.0)
-        | Greater ↦ λ w g. ap (λ b. p e.0 || b) (from_key exact es k q g) ∙ later (p e.0)
+        | Less ↦ λ w g. ap (λ b. p e.0 || b) (from_key exact es k q g) ∙ surely (p e.0)
+        | Greater ↦ λ w g. ap (λ b. p e.0 || b) (from_key exact es k q g) ∙ surely (p e.0)
         | Equal ↦ λ w g. ap (λ b. b || list_any p (map (λ e. e.0) es)) (ap p (sym (exact k e.0 w)) ∙ q)
       ] refl h
 

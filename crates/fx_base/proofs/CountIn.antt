@@ -1,5 +1,5 @@
 -- How many items of a set pass a test, as an item comes or goes.
-use Rattle.std.proofs.Common.{◌≡◌, ℕ, ◌+◌, Bool, true, false, cond, List, [], ◌∷◌, Option, Some, None, is_some, refl, sym, ap, ◌∙◌, arith}
+use Rattle.std.proofs.Common.{◌≡◌, ℕ, ◌+◌, Bool, true, false, cond, List, [], ◌∷◌, Option, Some, None, is_some, refl, sym, ap, ◌∙◌}
 use Rattle.std.specs.declared.cmp.Ordering.{Ordering}
 use Rattle.std.specs.declared.cmp.Ordering.TheVariants.{Less, Equal, Greater}
 use Rattle.std.specs.Ordering.{is_eq, eq_by_cmp}
@@ -7,14 +7,12 @@ use Rattle.std.specs.Cmp.{IsTotalOrder, tied_itself}
 use Rattle.std.specs.FinMap.{IsAntisymmetric, find, put, entries, get, get-entries, entries-insert, get-insert, get-remove, same_map}
 use Rattle.std.specs.FinMap.Entries.{by_order}
 use Rattle.fx_base.specs.Set as set
+use Rattle.fx_base.proofs.Cases.{moved}
 
 -- how many keys pass
 abbrev pub tally : {K X : Type 0} → (K → Bool) → List (K × X) → ℕ
 tally p [] = 0
 tally p (e ∷ es) = cond (p e.0) 1 0 + tally p es
-
-moved : (a b n : ℕ) → a + (b + n) ≡ b + (a + n)
-moved a b n = omega arith
 
 not_found : {X : Type 0} (x : X) → Some x ≡ None → ⊥
 not_found x e = cc

@@ -1,11 +1,11 @@
 -- How many entries of a map pass a test, after a change at one key.
-use Rattle.std.proofs.Common.{◌≡◌, ℕ, ◌+◌, Bool, true, false, cond, List, [], ◌∷◌, Some, None, refl, sym, ap, ◌∙◌, arith}
+use Rattle.std.proofs.Common.{◌≡◌, ◌≤◌, ℕ, ◌+◌, Bool, true, false, cond, List, [], ◌∷◌, Some, None, refl, sym, ap, ◌∙◌, subst, arith}
 use Rattle.std.specs.List.{count_by}
 use Rattle.std.specs.declared.cmp.Ordering.{Ordering}
 use Rattle.std.specs.declared.cmp.Ordering.TheVariants.{Less, Equal, Greater}
 use Rattle.std.specs.Ordering.{is_eq, eq_by_cmp}
 use Rattle.std.specs.FinMap.Entries.{find, put, by_order}
-use Rattle.std.proofs.lemmas.List.Sums.{sum_by-cons}
+use Rattle.std.proofs.lemmas.List.Sums.{sum_by-cons, sum_by-le-sum_by}
 
 abbrev one_if : Bool → ℕ
 one_if b = cond b 1 0
@@ -52,3 +52,11 @@ module _ {K X : Type 0} (R : K → K → Ordering) where
         | Equal ↦ count-cons test (e.0, v) es ∙ sym (count-cons test e es)
         | Greater ↦ count-cons test e (put R k v es) ∙ ap (λ n. one_if (p e.0) + n) (count-put_failing p k v es fails) ∙ sym (count-cons test e es)
       ]
+
+no_more : (a b : Bool) → (a ≡ true → b ≡ true) → one_if a ≤ one_if b
+no_more true b h = subst (λ c. one_if true ≤ one_if c) (sym (h refl)) (omega arith)
+no_more false b h = omega arith
+
+-- what passes the one test passes the other
+pub count-implied : {A : Type 0} (p q : A → Bool) (xs : List A) → ((x : A) → p x ≡ true → q x ≡ true) → count_by p xs ≤ count_by q xs
+count-implied p q xs h = sum_by-le-sum_by (λ x. one_if (p x)) (λ x. one_if (q x)) xs (λ x. no_more (p x) (q x) (h x))

@@ -1,13 +1,13 @@
 -- What the entries of a `BTreeMap` and the keys of a `BTreeSet` make, as a finite map and a finite set.
-use Rattle.std.proofs.Common.{◌≡◌, ℕ, Bool, true, false, cond, ◌||◌, subst, List, [], ◌∷◌, length, Option, Some, None, is_some, IsSome, Ordering, refl, sym, ap, ◌∙◌, arith}
+use Rattle.std.proofs.Common.{◌≡◌, ◌↔◌, ℕ, suc, Bool, true, false, cond, ◌||◌, IsTrue, subst, List, [], ◌∷◌, length, Option, Some, None, is_some, IsSome, Ordering, refl, sym, ap, ◌∙◌, arith}
 use Rattle.std.specs.declared.cmp.Ordering.TheVariants.{Less, Equal, Greater}
 use Rattle.std.specs.Ordering.{eq_by_cmp, match_ordering}
 use Rattle.std.specs.Cmp.{IsTotalOrder, eq_by_cmp_equiv}
 use Rattle.std.specs.List.{AllByRecursion, AllZip, list_any}
 use Rattle.std.specs.List.Sorted.{IsStrictlySortedBy}
-use Rattle.std.specs.Map.{lookup, keys_of, remove_entry}
+use Rattle.std.specs.Map.{lookup, keys_of, remove_entry, set_value}
 use Rattle.std.specs.BTreeMap.{is_at, insert_entry}
-use Rattle.std.proofs.lemmas.Map.{lookup-remove_entry}
+use Rattle.std.proofs.lemmas.Map.{lookup-remove_entry, lookup-set_value}
 use Rattle.std.specs.FinMap.{FinMap, IsAntisymmetric, find, put, entries, empty, get, contains_key, insert, remove, from_entries, get-from_entries, get-insert, get-remove, same_map, entries-insert, same_entries_map, len, len-entries, len-empty}
 use Rattle.std.specs.FinMap.Entries.{by_order}
 use Rattle.fx_base.specs.Keyed.{keyed}
@@ -72,6 +72,9 @@ module _ {K X : Type 0} {R : K → K → Ordering} (o : IsTotalOrder R) where
 
   pub counted : (es : List (K × X)) (m : FinMap R X) → from_entries es ≡ m → IsStrictlySortedBy R (keys_of es) → (n : ℕ) → n ≡ length es → n ≡ len m
   counted es m is h n e = e ∙ ap length (walked es m is h) ∙ sym (len-entries m)
+
+  pub emptied : (es : List (K × X)) (m : FinMap R X) → from_entries es ≡ m → IsStrictlySortedBy R (keys_of es) → (b : Bool) → (IsTrue b ↔ (length es ≡ 0)) → IsTrue b ↔ (entries m ≡ [])
+  emptied es m is h b e = (λ t. sym (walked es m is h) ∙ no_length es (e.0 t), λ none. e.1 (ap length (walked es m is h ∙ none)))
 
   module _ (exact : IsAntisymmetric R) where
     pub inserted : (es fs : List (K × X)) (m : FinMap R X) → from_entries es ≡ m → (k : K) (v : X) → ((q : K) → lookup (is_at (R q)) fs ≡ cond (is_at (R k) q) (Some v) (lookup (is_at (R q)) es)) → from_entries fs ≡ insert m k v
@@ -169,6 +172,33 @@ module _ {B K X : Type 0} {R : K → K → Ordering} (o : IsTotalOrder R) (f : B
   inserted_read es fs m is h g b v e = same_entries_map _ _ (
       entries-view o (keyed f fs) (sorted-keyed fs g) ∙ ap (keyed f) e ∙ keyed-insert es b v
       ∙ ap (put R (f b) v) (walked o (keyed f es) m is (sorted-keyed es h)) ∙ sym (entries-insert o m (f b) v))
+
+  keyed-set_value : (test : K → Bool) (es : List (B × X)) (w : X) → keyed f (set_value (λ b. test (f b)) es w) ≡ set_value test (keyed f es) w
+  keyed-set_value test [] w = refl
+  keyed-set_value test (e ∷ es) w =
+      elim (test (f e.0)) as (λ b. keyed f (cond b ((e.0, w) ∷ es) (e ∷ set_value (λ c. test (f c)) es w)) ≡ cond b ((f e.0, w) ∷ keyed f es) ((f e.0, e.1) ∷ set_value test (keyed f es) w)) [
+        | true ↦ refl
+        | false ↦ ap (λ xs. (f e.0, e.1) ∷ xs) (keyed-set_value test es w)
+      ]
+
+  length-keyed : (es : List (B × X)) → length (keyed f es) ≡ length es
+  length-keyed [] = refl
+  length-keyed (e ∷ es) = ap suc (length-keyed es)
+
+  pub missing_read : (es : List (B × X)) (m : FinMap R X) → from_entries (keyed f es) ≡ m → (k : K) → IsSome (get m k) → None ≡ lookup (λ b. is_at (R k) (f b)) es → ⊥
+  missing_read es m is k there e = none_there _ (read es m is k None e) there
+
+  pub counted_read : (es : List (B × X)) (m : FinMap R X) → from_entries (keyed f es) ≡ m → IsStrictlySortedBy (λ x y. R (f x) (f y)) (keys_of es) → (n : ℕ) → n ≡ length es → n ≡ len m
+  counted_read es m is h n e = counted o (keyed f es) m is (sorted-keyed es h) n (e ∙ sym (length-keyed es))
+
+  pub emptied_read : (es : List (B × X)) (m : FinMap R X) → from_entries (keyed f es) ≡ m → IsStrictlySortedBy (λ x y. R (f x) (f y)) (keys_of es) → (b : Bool) → (IsTrue b ↔ (length es ≡ 0)) → IsTrue b ↔ (entries m ≡ [])
+  emptied_read es m is h b e = emptied o (keyed f es) m is (sorted-keyed es h) b (λ t. length-keyed es ∙ e.0 t, λ none. e.1 (sym (length-keyed es) ∙ none))
+
+  -- where the value at a key that is there is exchanged
+  pub swapped_read : IsAntisymmetric R → (es fs : List (B × X)) (m : FinMap R X) → from_entries (keyed f es) ≡ m → (k : K) (v w : X) → Some v ≡ lookup (λ b. is_at (R k) (f b)) es → fs ≡ set_value (λ b. is_at (R k) (f b)) es w → from_entries (keyed f fs) ≡ insert m k w
+  swapped_read exact es fs m is k v w there e = inserted o exact (keyed f es) (keyed f fs) m is k w (λ q.
+      ap (lookup (is_at (R q))) (ap (keyed f) e ∙ keyed-set_value (is_at (R k)) es w)
+      ∙ lookup-set_value (eq_by_cmp_equiv o) (is_at (R k)) (λ x y t. (eq_by_cmp_equiv o).congr k x y t) q w (keyed f es) (some_there _ v (there ∙ read-lookup k es)))
 
   pub removed_read : IsAntisymmetric R → (es fs : List (B × X)) (m : FinMap R X) → from_entries (keyed f es) ≡ m → IsStrictlySortedBy (λ x y. R (f x) (f y)) (keys_of es) → (k : K) → fs ≡ remove_entry (λ c. is_at (R k) (f c)) es → from_entries (keyed f fs) ≡ remove m k
   removed_read exact es fs m is h k e = removed o exact (keyed f es) (keyed f fs) m is k (λ q.

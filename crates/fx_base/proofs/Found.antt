@@ -4,11 +4,12 @@ use Rattle.std.proofs.Math.Dec.{T}
 use Rattle.std.specs.List.{AllByRecursion, find}
 use Rattle.std.specs.declared.cmp.Ordering.{Ordering}
 use Rattle.std.specs.declared.cmp.Ordering.TheVariants.{Less, Equal, Greater}
-use Rattle.std.specs.Ordering.{is_lt, is_eq, ordering_reverse}
+use Rattle.std.specs.Ordering.{is_eq, ordering_reverse}
 use Rattle.std.specs.Cmp.{IsTotalOrder, tied_itself}
 use Rattle.std.specs.FinMap as map
 use Rattle.std.specs.FinMap.{FinMap, IsAntisymmetric}
 use Rattle.std.specs.FinMap.Entries as list
+use Rattle.fx_base.proofs.Cases.{less}
 
 pub each : {A : Type 0} (P Q : A → Type 0) → ((x : A) → P x → Q x) → (xs : List A) → AllByRecursion P xs → AllByRecursion Q xs
 each P Q f [] h = tt
@@ -48,17 +49,12 @@ both_true : (a b : Bool) → T (a && b) → (T a) × (T b)
 both_true true b h = (tt, h)
 both_true false b h = absurd h
 
-is_less : (r : Ordering) → T (is_lt r) → r ≡ Less
-is_less Less h = refl
-is_less Equal h = absurd h
-is_less Greater h = absurd h
-
 module _ {K X : Type 0} {R : K → K → Ordering} (o : IsTotalOrder R) where
   behind : (e : K × X) (es fs : List (K × X)) → T (list.below_all R e.0 fs) → AllByRecursion (λ f. list.find R f.0 es ≡ Some f.1) fs → AllByRecursion (λ f. list.find R f.0 (e ∷ es) ≡ Some f.1) fs
   behind e es [] below h = tt
   behind e es (f ∷ fs) below h =
       let parts = both_true _ _ below in
-      let greater : R f.0 e.0 ≡ Greater = o.antisymm f.0 e.0 ∙ ap ordering_reverse (is_less _ parts.0) in
+      let greater : R f.0 e.0 ≡ Greater = o.antisymm f.0 e.0 ∙ ap ordering_reverse (less _ parts.0) in
       (ap (λ r. cond (is_eq r) (Some e.1) (list.find R f.0 es)) greater ∙ h.0, behind e es fs parts.1 h.1)
 
   found_in : (es : List (K × X)) → T (list.is_sorted R es) → AllByRecursion (λ e. list.find R e.0 es ≡ Some e.1) es

@@ -5,15 +5,10 @@ use Rattle.std.specs.Cmp.Lexicographic.{slice_cmp}
 use Rattle.std.specs.declared.cmp.Ordering.TheVariants.{Less, Equal, Greater}
 use Rattle.std.specs.FinMap.{FinMap, IsAntisymmetric, nat_cmp-IsAntisymmetric, slice_cmp-IsAntisymmetric, get, insert, remove, contains_key}
 use Rattle.fx_base.proofs.AtKey.{get_insert, get_remove, get_insert_same}
+use Rattle.fx_base.proofs.Cases.{same_some, none_some}
 
 pub bytes_exact : IsAntisymmetric (slice_cmp nat_cmp)
 bytes_exact = slice_cmp-IsAntisymmetric nat_cmp-IsAntisymmetric
-
-same_some : {X : Type 0} (v x : X) → Some v ≡ Some x → v ≡ x
-same_some v x e = cc
-
-none_some : {X A : Type 0} (x : X) → None ≡ Some x → A
-none_some x e = cc
 
 module _ {X : Type 0} (m : FinMap (slice_cmp nat_cmp) X) where
   -- what is there after an insert was inserted or was there

@@ -1,3 +1,5 @@
+pub mod Cases
+pub mod Sorted
 pub mod Entries
 pub mod AtKey
 pub mod PaddedLemmas
@@ -26,3 +28,9 @@ pub mod FilledLemmas
 pub mod AnyCollected
 pub mod NetLemmas
 pub mod TickLemmas
+pub mod Keyed
+pub mod Filtered
+pub mod Projected
+pub mod Gained
+pub mod SumFiltered
+mod Examples

@@ -1,12 +1,12 @@
 -- Names in any case, and tables of them.
-use Rattle.std.proofs.Common.{◌≡◌, ◌≢◌, ◌<◌, ◌≤◌, ◌+◌, ℕ, max, Bool, true, false, not, ◌&&◌, List, [], ◌∷◌, ◌++◌, length, take, drop, get_or, Result, Ok, Err, refl, sym, ap, subst, ◌∙◌, arith, inl, inr, nat_eq, length-append, take-append-drop}
+use Rattle.std.proofs.Common.{◌≡◌, ◌≢◌, ◌<◌, ◌≤◌, ℕ, max, Bool, true, false, not, ◌&&◌, List, [], ◌∷◌, ◌++◌, length, take, drop, get_or, Result, Ok, Err, refl, sym, ap, subst, ◌∙◌, arith, inl, inr, nat_eq, length-append, take-append-drop}
 use Rattle.std.specs.Str.{str_to_ascii_lowercase}
 use Rattle.std.specs.Char.{to_ascii_lowercase}
 use Rattle.std.specs.Cmp.{unsigned_Decides}
 use Rattle.std.specs.Cmp.Lexicographic.{pointwise}
 use Rattle.std.proofs.lemmas.Slice.Eq.{slice_eq-Decides}
 use Rattle.std.proofs.lemmas.Bool.{cases_lt}
-use Rattle.std.proofs.lemmas.List.{append-nil, map-append, drop-map, length-map, take_more, take_all, length-take-le, get_or-take, get_or_append_left, get_or-map}
+use Rattle.std.proofs.lemmas.List.{append-nil, map-append, drop-map, length-map, take_all, length-take-le, get_or-take, get_or_append_left, get_or-map}
 use Rattle.fx_base.specs.Forms.{Begins, Leaves, Reads}
 use Rattle.fx_base.specs.Same.{both_pass}
 use Rattle.fx_base.specs.Protocols.{IsNamed, IsNamedIn, farther}

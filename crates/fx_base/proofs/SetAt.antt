@@ -7,14 +7,11 @@ use Rattle.std.specs.Cmp.{IsTotalOrder}
 use Rattle.std.specs.FinMap.{IsAntisymmetric, get, get-insert, get-remove, same_map}
 use Rattle.fx_base.specs.Set.{Set, contains, insert, remove}
 use Rattle.fx_base.proofs.AtKey.{insert_same}
+use Rattle.fx_base.proofs.Cases.{hidden, absent_value}
 
 is_unit : (o : Option (Unit {0})) → is_some o ≡ true → o ≡ Some tt
 is_unit None h = cc
 is_unit (Some tt) h = refl
-
-is_none : {A : Type 0} (o : Option A) → is_some o ≡ false → o ≡ None
-is_none None h = refl
-is_none (Some x) h = cc
 
 spread : (b : Bool) (x y : Option (Unit {0})) → is_some (cond b x y) ≡ cond b (is_some x) (is_some y)
 spread true x y = refl
@@ -25,10 +22,6 @@ pub tied_pair : (a b : Ordering) → is_eq (ordering_then a b) ≡ (is_eq a && i
 tied_pair Less b = refl
 tied_pair Equal b = refl
 tied_pair Greater b = refl
-
-hidden : {A : Type 0} (b : Bool) (x y : Option A) → cond b None (cond b x y) ≡ cond b None y
-hidden true x y = refl
-hidden false x y = refl
 
 module _ {K : Type 0} {R : K → K → Ordering} (o : IsTotalOrder R) where
   pub contains_insert : (s : Set R) (p q : K) → contains (insert s p) q ≡ cond (eq_by_cmp R q p) true (contains s q)
@@ -53,10 +46,10 @@ module _ {K : Type 0} {R : K → K → Ordering} (o : IsTotalOrder R) where
     -- what stands already
     pub put_same : (s : Set R) (p : K) (b : Bool) → contains s p ≡ b → cond b (insert s p) (remove s p) ≡ s
     put_same s p true h = insert_same o exact s p tt (is_unit _ h)
-    put_same s p false h = same_map o exact _ _ (λ q. get-remove o s p q ∙ at_none (get s) p (is_none _ h) q)
+    put_same s p false h = same_map o exact _ _ (λ q. get-remove o s p q ∙ at_none (get s) p (absent_value _ h) q)
 
     -- put in and taken out again
     pub put_back : (s : Set R) (p : K) → contains s p ≡ false → remove (insert s p) p ≡ s
     put_back s p h = same_map o exact _ _ (λ q.
         get-remove o (insert s p) p q ∙ ap (cond (eq_by_cmp R q p) None) (get-insert o s p tt q)
-        ∙ hidden (eq_by_cmp R q p) (Some tt) (get s q) ∙ at_none (get s) p (is_none _ h) q)
+        ∙ hidden (eq_by_cmp R q p) None (Some tt) (get s q) ∙ at_none (get s) p (absent_value _ h) q)

@@ -1,5 +1,5 @@
 -- A sum over the entries of a map, as an entry comes or goes.
-use Rattle.std.proofs.Common.{◌≡◌, ℕ, ◌+◌, Bool, true, false, cond, List, [], ◌∷◌, Option, Some, None, refl, sym, ap, ◌∙◌, arith}
+use Rattle.std.proofs.Common.{◌≡◌, ℕ, ◌+◌, cond, List, [], ◌∷◌, Option, Some, None, refl, sym, ap, ◌∙◌}
 use Rattle.std.specs.declared.cmp.Ordering.{Ordering}
 use Rattle.std.specs.declared.cmp.Ordering.TheVariants.{Less, Equal, Greater}
 use Rattle.std.specs.Ordering.{is_eq, eq_by_cmp}
@@ -8,6 +8,7 @@ use Rattle.std.specs.FinMap.{FinMap, IsAntisymmetric, find, put, entries, get, i
 use Rattle.std.specs.FinMap.Entries.{by_order}
 use Rattle.fx_base.proofs.AtKey.{insert_same}
 use Rattle.fx_base.proofs.SetAt.{at_none}
+use Rattle.fx_base.proofs.Cases.{hidden, moved, none_more}
 
 -- the sum of what each element gives
 abbrev pub sum_over : {A : Type 0} → (A → ℕ) → List A → ℕ
@@ -19,18 +20,8 @@ abbrev pub sum_at : {K X : Type 0} → (K × X → ℕ) → K → Option X → �
 sum_at w k None = 0
 sum_at w k (Some v) = w (k, v)
 
-moved : (a b n : ℕ) → a + (b + n) ≡ b + (a + n)
-moved a b n = omega arith
-
-none_more : (n : ℕ) → n ≡ 0 + n
-none_more n = omega arith
-
 not_found : {X : Type 0} (x : X) → Some x ≡ None → ⊥
 not_found x e = cc
-
-covered : {A : Type 0} (b : Bool) (x y : Option A) → cond b x (cond b None y) ≡ cond b x y
-covered true x y = refl
-covered false x y = refl
 
 module _ {K X : Type 0} (R : K → K → Ordering) (w : K × X → ℕ) (k : K) (v : X) where
   sum-put : (es : List (K × X)) → find R k es ≡ None → sum_over w (put R k v es) ≡ w (k, v) + sum_over w es
@@ -49,7 +40,7 @@ module _ {K X : Type 0} {R : K → K → Ordering} (o : IsTotalOrder R) (exact :
   put_anew : (m : FinMap R X) (k : K) (v : X) → insert (remove m k) k v ≡ insert m k v
   put_anew m k v = same_map o exact _ _ (λ q.
       get-insert o (remove m k) k v q ∙ ap (cond (eq_by_cmp R q k) (Some v)) (get-remove o m k q)
-      ∙ covered (eq_by_cmp R q k) (Some v) (get m q) ∙ sym (get-insert o m k v q))
+      ∙ hidden (eq_by_cmp R q k) (Some v) None (get m q) ∙ sym (get-insert o m k v q))
 
   -- an entry that is put stands in place of what was there
   pub sum-insert : (m : FinMap R X) (k : K) (v : X) → sum_over w (entries (insert m k v)) ≡ w (k, v) + sum_over w (entries (remove m k))

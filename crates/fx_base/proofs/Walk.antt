@@ -1,24 +1,12 @@
 -- A walk of a map in the order of its keys, each step of which brings one row up to date.
-use Rattle.std.proofs.Common.{◌≡◌, Bool, true, false, cond, ◌&&◌, List, [], ◌∷◌, Some, None, is_some, T, refl, sym, ap, ◌∙◌}
+use Rattle.std.proofs.Common.{◌≡◌, false, cond, List, ◌∷◌, Some, None, is_some, T, refl, sym, ap, ◌∙◌}
 use Rattle.std.specs.declared.cmp.Ordering.{Ordering}
 use Rattle.std.specs.declared.cmp.Ordering.TheVariants.{Less, Equal, Greater}
-use Rattle.std.specs.Ordering.{is_lt, is_eq, eq_by_cmp}
+use Rattle.std.specs.Ordering.{is_eq, eq_by_cmp}
 use Rattle.std.specs.Cmp.{IsTotalOrder, tied_itself}
 use Rattle.std.specs.FinMap.{FinMap, IsAntisymmetric, find, is_sorted, entries, entries_sorted, get, get-entries}
-use Rattle.std.specs.FinMap.Entries.{below_all}
-
-first : (a b : Bool) → T (a && b) → T a
-first true b p = tt
-first false b p = p
-
-second : (a b : Bool) → T (a && b) → T b
-second true b p = p
-second false b p = absurd p
-
-less : (r : Ordering) → T (is_lt r) → r ≡ Less
-less Less p = refl
-less Equal p = absurd p
-less Greater p = absurd p
+use Rattle.fx_base.proofs.Sorted.{gone}
+use Rattle.fx_base.proofs.Cases.{second}
 
 -- es are left of the walk of m
 pub record IsRest {K X : Type 0} {R : K → K → Ordering} (m : FinMap R X) (es : List (K × X)) : Type 0 where
@@ -30,10 +18,6 @@ pub record IsHalf {K X I A : Type 0} (R : K → K → Ordering) (before after st
   pub at : (t : K) (i : I) → state t i ≡ cond (is_some (find R t es)) (before t i) (after t i)
 
 module _ {K X : Type 0} {R : K → K → Ordering} (o : IsTotalOrder R) where
-  none_below : (q : K) (es : List (K × X)) → T (below_all R q es) → find R q es ≡ None
-  none_below q [] h = refl
-  none_below q (e ∷ es) h = ap (λ r. cond (is_eq r) (Some e.1) (find R q es)) (less _ (first _ _ h)) ∙ none_below q es (second _ _ h)
-
   pub found : (e : K × X) (es : List (K × X)) → find R e.0 (e ∷ es) ≡ Some e.1
   found e es = ap (λ r. cond (is_eq r) (Some e.1) (find R e.0 es)) (tied_itself o e.0)
 
@@ -44,9 +28,6 @@ module _ {K X : Type 0} {R : K → K → Ordering} (o : IsTotalOrder R) where
   IsRest-head m e es h = h.within e.0 e.1 (found e es)
 
   module _ (exact : IsAntisymmetric R) where
-    gone : (e : K × X) (es : List (K × X)) → T (is_sorted R (e ∷ es)) → (t : K) → R t e.0 ≡ Equal → find R t es ≡ None
-    gone e es s t p = ap (λ k. find R k es) (exact t e.0 p) ∙ none_below e.0 es (first _ _ s)
-
     pub IsRest-next : (m : FinMap R X) (e : K × X) (es : List (K × X)) → IsRest m (e ∷ es) → IsRest m es
     IsRest-next m e es h = record {
       sorted = second _ _ h.sorted;
@@ -54,7 +35,7 @@ module _ {K X : Type 0} {R : K → K → Ordering} (o : IsTotalOrder R) where
           elim (R t e.0) as (λ r. R t e.0 ≡ r → get m t ≡ Some x) [
             | Less ↦ λ p. h.within t x (ap (λ r. cond (is_eq r) (Some e.1) (find R t es)) p ∙ k)
             | Greater ↦ λ p. h.within t x (ap (λ r. cond (is_eq r) (Some e.1) (find R t es)) p ∙ k)
-            | Equal ↦ λ p. let no : None ≡ Some x = sym (gone e es h.sorted t p) ∙ k in cc
+            | Equal ↦ λ p. let no : None ≡ Some x = sym (gone R exact e es h.sorted t p) ∙ k in cc
           ] refl;
     }
 
@@ -69,6 +50,6 @@ module _ {K X : Type 0} {R : K → K → Ordering} (o : IsTotalOrder R) where
             elim (R t e.0) as (λ r. R t e.0 ≡ r → next t i ≡ cond (is_some (find R t es)) (before t i) (after t i)) [
               | Less ↦ λ p. others t i (ap is_eq p) ∙ h.at t i ∙ ap (λ r. cond (is_some (cond (is_eq r) (Some e.1) (find R t es))) (before t i) (after t i)) p
               | Greater ↦ λ p. others t i (ap is_eq p) ∙ h.at t i ∙ ap (λ r. cond (is_some (cond (is_eq r) (Some e.1) (find R t es))) (before t i) (after t i)) p
-              | Equal ↦ λ p. ap (λ k. next k i) (exact t e.0 p) ∙ row i ∙ ap (λ k. after k i) (sym (exact t e.0 p)) ∙ sym (ap (λ o. cond (is_some o) (before t i) (after t i)) (gone e es w.sorted t p))
+              | Equal ↦ λ p. ap (λ k. next k i) (exact t e.0 p) ∙ row i ∙ ap (λ k. after k i) (sym (exact t e.0 p)) ∙ sym (ap (λ o. cond (is_some o) (before t i) (after t i)) (gone R exact e es w.sorted t p))
             ] refl;
       }

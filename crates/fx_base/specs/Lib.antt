@@ -2,13 +2,16 @@ pub mod Extended
 pub mod Addresses
 pub mod Forms
 pub mod Given
+pub mod Grouped
 pub mod Keyed
 pub mod KernelName
 pub mod MemSink
 pub mod MemSource
 pub mod Nets
 pub mod Padded
+pub mod Passing
 pub mod PortTexts
+pub mod Projected
 pub mod Protocols
 pub mod Same
 pub mod SameName
@@ -18,3 +21,4 @@ pub mod SetName
 pub mod Streams
 pub mod TextValues
 pub mod Ticks
+pub mod TornSink

@@ -1,5 +1,5 @@
 //! A map from byte strings to values, looked up by a borrowed slice, seen as a finite map.
-ghost use Rattle.std.specs.Prelude.{◌≡◌, IfOk, OnOk, OnErr};
+ghost use Rattle.std.specs.Prelude.{◌≡◌, ◌↔◌, [], IsTrue, IfOk, OnOk, OnErr, IsSome, Some};
 ghost use Rattle.std.specs.Option.{option_copied};
 ghost use Rattle.std.specs.FinMap as map;
 
@@ -7,6 +7,7 @@ use crate::{Memory, Text};
 use std::alloc::Global;
 use std::collections::BTreeMap;
 use std::marker::Model;
+use std::mem;
 
 #[derive(Drop)]
 pub struct BytesMap<V> {
@@ -44,6 +45,18 @@ impl<V> BytesMap<V> {
     {
         self.held.get(key)
     }
+
+    pub fn len(&self) -> usize
+        ensures { result ≡ map.len self.now }
+    {
+        self.held.len()
+    }
+
+    pub fn is_empty(&self) -> bool
+        ensures { IsTrue result ↔ (map.entries self.now ≡ []) }
+    {
+        self.held.is_empty()
+    }
 }
 
 impl<V: Drop> BytesMap<V> {
@@ -53,6 +66,18 @@ impl<V: Drop> BytesMap<V> {
         ensures err { OnErr result (self.new ≡ self.old) }
     {
         Ok(self.held.insert(key.into_vec(), value)?)
+    }
+
+    /// Exchanges the value at a key that is there, which takes no memory.
+    pub fn swap(&mut self, key: &[u8], value: &mut V)
+        requires { IsSome (map.get self.old key.now) }
+        ensures old { map.get self.old key.now ≡ Some value.new }
+        ensures swapped { self.new ≡ map.insert self.old key.now value.old }
+    {
+        let Some(slot) = self.held.get_mut(key) else {
+            return;
+        };
+        mem::swap(slot, value);
     }
 
     pub fn remove(&mut self, key: &[u8]) -> Option<V>

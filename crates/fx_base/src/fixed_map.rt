@@ -1,5 +1,5 @@
 //! A map from fixed names to values, seen as a finite map.
-ghost use Rattle.std.specs.Prelude.{◌≡◌, ◌<◌, ◌^◌, IfOk, OnOk, OnErr, IsSome, Some, None};
+ghost use Rattle.std.specs.Prelude.{◌≡◌, ◌↔◌, ◌<◌, ◌^◌, [], IsTrue, IfOk, OnOk, OnErr, IsSome, Some, None};
 ghost use Rattle.std.specs.Option.{option_copied};
 ghost use Rattle.std.specs.FinMap as map;
 ghost use Rattle.std.specs.Prelude.{◌&&◌, nat_eq};
@@ -71,6 +71,12 @@ impl<const N: usize, V> FixedMap<N, V> {
         ensures { result ≡ map.len self.now }
     {
         self.held.len()
+    }
+
+    pub fn is_empty(&self) -> bool
+        ensures { IsTrue result ↔ (map.entries self.now ≡ []) }
+    {
+        self.held.is_empty()
     }
 
     /// The entries, by ascending names.

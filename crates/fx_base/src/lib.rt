@@ -19,6 +19,7 @@ pub use set_name::{SetKind, SetName};
 pub use streams::{Failed, Sink, Source};
 pub use text::Text;
 pub use text_map::TextMap;
+pub use torn_sink::TornSink;
 pub use uses::Uses;
 
 mod address_text;
@@ -47,4 +48,5 @@ mod set_name;
 mod streams;
 mod text;
 mod text_map;
+mod torn_sink;
 mod uses;

@@ -10,4 +10,6 @@ mod names;
 #[cfg(test)]
 mod registry;
 #[cfg(test)]
+mod sinks;
+#[cfg(test)]
 mod texts;

@@ -1,6 +1,6 @@
 //! Names whose digests and texts another tool has computed.
 use fx_base::SetKind;
-use fx_names::{DigestFunction, Namer, PlainRule, Prefix, Sha256Rule};
+use fx_names::{DigestFunction, Namer, PlainRule, Prefix, Sha256Rule, ZeroRule};
 use sha2::{Digest, Sha256};
 
 // SHA-256 at work.
@@ -158,5 +158,14 @@ fn sets(rt: HostRuntime) {
         assert_eq!(rt; name.bytes(), by_text.as_bytes());
         let name = hashed().set_name(kind, text.as_bytes());
         assert_eq!(rt; name.bytes(), by_hash.as_bytes());
+    }
+}
+
+#[test]
+fn all_texts_have_one_name_under_the_zero_rule(rt: HostRuntime) {
+    let namer = Namer::<ZeroRule, ZeroRule>::new(ZeroRule);
+    for text in ["", r#"role == "b""#, r#"role == "c""#] {
+        let name = namer.set_name(SetKind::Nets, text.as_bytes());
+        assert_eq!(rt; name.bytes(), b"cali40s:AAAAAAAAAAAAAAAAAAAAAAA".as_slice(), "at {text}");
     }
 }

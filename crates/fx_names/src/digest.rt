@@ -1,6 +1,6 @@
 //! Digests of texts.
 ghost use Rattle.std.specs.Prelude.{◌≡◌};
-ghost use Rattle.fx_names.specs.Digests.{plain_digest};
+ghost use Rattle.fx_names.specs.Digests.{plain_digest, zero_digest};
 ghost use Rattle.sha2.specs.Sha256.{sha256};
 
 /// A rule by which each text has a digest of 32 bytes.
@@ -39,5 +39,19 @@ impl DigestFunction<PlainRule> for PlainRule {
         let size = text.len().min(32);
         digest[..size].copy_from_slice(&text[..size]);
         digest
+    }
+}
+
+/// 32 zero bytes for every text: all texts clash.
+#[derive(Clone, Copy, Debug)]
+pub struct ZeroRule;
+
+impl DigestRule for ZeroRule {
+    ghost digest_of = { zero_digest };
+}
+
+impl DigestFunction<ZeroRule> for ZeroRule {
+    fn digest(&self, _text: &[u8]) -> [u8; 32] {
+        [0; 32]
     }
 }

@@ -2,7 +2,7 @@
 #![tactic(auto)]
 
 pub use claim::{Claim, Taken};
-pub use digest::{DigestFunction, DigestRule, PlainRule, Sha256Rule};
+pub use digest::{DigestFunction, DigestRule, PlainRule, Sha256Rule, ZeroRule};
 pub use namer::Namer;
 pub use prefix::Prefix;
 pub use registry::Registry;

@@ -1,4 +1,4 @@
-use Rattle.std.proofs.Common.{◌≡◌, ◌==◌, ◌<◌, ◌^◌, ℕ, None, if◌then◌else◌, sym, ap, ◌∙◌, arith}
+use Rattle.std.proofs.Common.{◌==◌, ◌<◌, ◌^◌, ℕ, None, if◌then◌else◌, sym, ap, ◌∙◌, arith}
 use Rattle.fx_base.specs.Nets.{lower_half, upper_half}
 use Rattle.fx_base.specs.declared.net.Net.{Net}
 use Rattle.fx_base.proofs.NetLemmas.{both, halves_are}
