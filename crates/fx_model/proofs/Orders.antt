@@ -17,12 +17,15 @@ use Rattle.fx_model.specs.contracts.ids.PolicyIdOrd.TheImpl.Laws as policy_laws
 use Rattle.fx_model.specs.contracts.tier_order.PolicyPlacePartialEq.TheImpl as place_eq
 use Rattle.fx_model.specs.contracts.tier_order.PolicyPlaceOrd.TheImpl as place_cmp
 use Rattle.fx_model.specs.contracts.tier_order.PolicyPlaceOrd.TheImpl.Laws as place_laws
-use Rattle.fx_model.specs.SameIds.{same_item, same_policy_id}
+use Rattle.fx_model.specs.SameIds.{same_item, same_policy_id, same_key}
 use Rattle.fx_model.specs.SamePlaces.{same_place}
 use Rattle.fx_model.specs.SameMember.{same_member}
 use Rattle.fx_model.specs.contracts.ids.ItemKeyPartialEq.TheImpl as item_eq
 use Rattle.fx_model.specs.contracts.ids.ItemKeyOrd.TheImpl as item_cmp
 use Rattle.fx_model.specs.contracts.ids.ItemKeyOrd.TheImpl.Laws as item_laws
+use Rattle.fx_model.specs.contracts.ids.KeyPartialEq.TheImpl as key_eq
+use Rattle.fx_model.specs.contracts.ids.KeyOrd.TheImpl as key_cmp
+use Rattle.fx_model.specs.contracts.ids.KeyOrd.TheImpl.Laws as key_laws
 use Rattle.fx_model.specs.contracts.member.MemberPartialEq.TheImpl as member_eq
 use Rattle.fx_model.specs.contracts.member.MemberOrd.TheImpl as member_cmp
 use Rattle.fx_model.specs.contracts.member.MemberOrd.TheImpl.Laws as member_laws
@@ -32,6 +35,15 @@ item_total = item_laws.total-law
 
 pub exact_item : IsAntisymmetric item_cmp.cmp-value.it
 exact_item = exact_by item_eq.eq-value.it item_cmp.cmp-value.it item_laws.matches_eq-law same_item
+
+pub key_total : IsTotalOrder key_cmp.cmp-value.it
+key_total = key_laws.total-law
+
+pub exact_key : IsAntisymmetric key_cmp.cmp-value.it
+exact_key = exact_by key_eq.eq-value.it key_cmp.cmp-value.it key_laws.matches_eq-law same_key
+
+pub member_total : IsTotalOrder member_cmp.cmp-value.it
+member_total = member_laws.total-law
 
 pub exact_member : IsAntisymmetric member_cmp.cmp-value.it
 exact_member = exact_by member_eq.eq-value.it member_cmp.cmp-value.it member_laws.matches_eq-law same_member

@@ -1,5 +1,7 @@
 pub mod SameIds
 pub mod SameMember
+pub mod MemberOrder
+pub mod MemberOrderLaws
 pub mod SameRules
 pub mod SameChainRules
 pub mod SameViews
@@ -15,6 +17,7 @@ pub mod Sinks
 pub mod TierOrder
 pub mod Views
 pub mod Claims
+pub mod Batches
 pub mod Rendering
 pub mod Tables
 pub mod Tree

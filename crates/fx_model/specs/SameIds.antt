@@ -11,6 +11,10 @@ use Rattle.fx_model.specs.declared.ids.ItemKey.{ItemKey}
 use Rattle.fx_model.specs.declared.ids.ItemKey.TheVariants.{Endpoint, NetSet}
 use Rattle.fx_model.specs.contracts.ids.ItemKeyPartialEq.TheImpl as item_eq
 use Rattle.fx_model.specs.contracts.ids.ItemKeyClone.TheImpl as item_clone
+use Rattle.fx_model.specs.declared.ids.Key.{Key}
+use Rattle.fx_model.specs.declared.ids.Key.TheVariants as key
+use Rattle.fx_model.specs.contracts.ids.KeyPartialEq.TheImpl as key_eq
+use Rattle.fx_model.specs.contracts.ids.KeyClone.TheImpl as key_clone
 
 pub same_policy_id : (x y : PolicyId) → policy_eq.eq-value.it x y ≡ true → x ≡ y
 same_policy_id (Global a) (Global b) e = λ i. Global (same_bytes a b e i)
@@ -38,3 +42,17 @@ copies_item (NetSet None b) (NetSet (Some c) d) h = absurd h.0
 copies_item (NetSet (Some a) b) (NetSet None d) h = absurd h.0
 copies_item (Endpoint a b) (NetSet c d) h = absurd h
 copies_item (NetSet a b) (Endpoint c d) h = absurd h
+
+pub same_key : (x y : Key) → key_eq.eq-value.it x y ≡ true → x ≡ y
+same_key (key.Item a) (key.Item b) e = λ i. key.Item (same_item a b e i)
+same_key (key.Profile a) (key.Profile b) e = λ i. key.Profile (same_bytes a b e i)
+same_key (key.Tier a) (key.Tier b) e = λ i. key.Tier (same_bytes a b e i)
+same_key (key.Policy a) (key.Policy b) e = λ i. key.Policy (same_policy_id a b e i)
+same_key _ _ e = cc
+
+pub copies_key : (x y : Key) → key_clone.is_clone-value.it x y → y ≡ x
+copies_key (key.Item a) (key.Item b) h = λ i. key.Item (copies_item a b h i)
+copies_key (key.Profile a) (key.Profile b) h = λ i. key.Profile (h i)
+copies_key (key.Tier a) (key.Tier b) h = λ i. key.Tier (h i)
+copies_key (key.Policy a) (key.Policy b) h = λ i. key.Policy (copies_policy_id a b h i)
+copies_key _ _ h = absurd h

@@ -1,6 +1,6 @@
 //! What names policies and items.
 ghost use Rattle.std.specs.Prelude.{◌≡◌, ◌++◌, IfOk, codes};
-ghost use Rattle.fx_model.specs.SameIds.{same_policy_id, copies_policy_id, same_item, copies_item};
+ghost use Rattle.fx_model.specs.SameIds.{same_policy_id, copies_policy_id, same_item, copies_item, same_key, copies_key};
 
 use fx_base::{Exact, Memory, Text};
 use std::alloc::Global;
@@ -67,10 +67,16 @@ impl Exact for ItemKey {
 }
 
 /// The key of a resource.
-#[derive(Debug, Drop)]
+#[derive(Clone, Debug, PartialEq, Eq, PartialOrd, Ord, Drop)]
 pub enum Key {
     Item(ItemKey),
     Profile { name: Text },
     Tier { name: Text },
     Policy(PolicyId),
+}
+
+impl Exact for Key {
+    ghost same = { same_key };
+
+    ghost copies = { copies_key };
 }

@@ -1,22 +1,25 @@
 //! Members of IP sets, by ipset(8), and sets of them that contracts see as finite sets.
-ghost use Rattle.std.specs.Prelude.{◌≡◌, IfOk, OnOk, OnErr, not};
+ghost use Rattle.std.specs.Prelude.{◌≡◌, IfOk, OnOk, OnErr, Some, not, refl};
 ghost use Rattle.std.specs.Cmp.{on_per, on_equiv};
 ghost use Rattle.std.specs.Cmp.Lexicographic.{pointwise, lists_per, lists_equiv};
 ghost use Rattle.fx_base.specs.Set as set;
 ghost use Rattle.fx_base.specs.Same.{same_set};
+ghost use Rattle.fx_model.specs.declared.member.Member.{Member};
 ghost use Rattle.fx_model.specs.SameMember.{same_member};
+ghost use Rattle.fx_model.specs.MemberOrder.{members_compared};
+ghost use Rattle.fx_model.specs.MemberOrderLaws.{members_total, members_tie, members_po};
 ghost use Rattle.fx_model.specs.contracts.member.MemberPartialEq.TheImpl.Laws.{laws-law};
 ghost use Rattle.fx_model.specs.contracts.member.MemberEq.TheImpl.Laws as equal;
 
 use fx_base::{Exact, Ipv4, Memory, Net, Proto};
 use std::alloc::{AllocError, Global};
+use std::cmp::Ordering;
 use std::collections::BTreeSet;
 use std::collections::btree_set::Iter;
 use std::marker::Model;
 
-/// A net of a `hash:net` set, or an address, protocol and port of a `hash:ip,port` set. Nets come first, by address and
-/// then length; ports by address, protocol and number.
-#[derive(Clone, Copy, Debug, PartialEq, Eq, PartialOrd, Ord)]
+/// A net of a `hash:net` set, or an address, protocol and port of a `hash:ip,port` set.
+#[derive(Clone, Copy, Debug, PartialEq, Eq)]
 pub enum Member {
     Net(Net),
     PortAt {
@@ -25,6 +28,53 @@ pub enum Member {
         number: u16,
     },
 }
+
+impl PartialOrd for Member {
+    ghost partial_cmp = { λ a b. Some (members_compared a b) };
+
+    ghost laws = { members_po };
+
+    fn partial_cmp(&self, other: &Member) -> Option<Ordering> {
+        Some(self.cmp(other))
+    }
+}
+
+// By hand, so that the order is the one that is stated and not one that the fields' places give.
+impl Ord for Member {
+    ghost cmp = { members_compared };
+
+    ghost total = { members_total };
+
+    ghost matches_partial_cmp = { λ a b. refl };
+
+    ghost matches_eq = { members_tie };
+
+    /// Nets come first, by address and then length; ports by address, protocol and number.
+    fn cmp(&self, other: &Member) -> Ordering {
+        match (self, other) {
+            (Member::Net(a), Member::Net(b)) => a.addr.cmp(&b.addr).then(a.len.cmp(&b.len)),
+            (Member::Net(_), Member::PortAt { .. }) => Ordering::Less,
+            (Member::PortAt { .. }, Member::Net(_)) => Ordering::Greater,
+            (
+                Member::PortAt {
+                    addr: a,
+                    proto: p,
+                    number: m,
+                },
+                Member::PortAt {
+                    addr: b,
+                    proto: q,
+                    number: n,
+                },
+            ) => a.cmp(b).then(p.cmp(q)).then(m.cmp(n)),
+        }
+    }
+}
+
+/// Members compare by kind, then by address, and only then by what else they have. It does nothing.
+pub fn members_compare_as_stated()
+    ensures { (a b : Member) → ⟦<Member as Ord>⟧.cmp a b ≡ members_compared a b }
+{}
 
 impl Exact for Member {
     ghost same = { same_member };

@@ -82,6 +82,20 @@ pub enum Item {
     NetSet(NetSet),
 }
 
+impl Clone for Item {
+    ghost is_clone = { λ a b. b ≡ a };
+
+    fn clone(&self) -> Result<Self, AllocError> {
+        match self {
+            Item::Endpoint(endpoint) => Ok(Item::Endpoint(endpoint.clone()?)),
+            Item::Profile(profile) => Ok(Item::Profile(profile.clone()?)),
+            Item::Tier(tier) => Ok(Item::Tier(*tier)),
+            Item::Policy(policy) => Ok(Item::Policy(policy.clone()?)),
+            Item::NetSet(net_set) => Ok(Item::NetSet(net_set.clone()?)),
+        }
+    }
+}
+
 /// A change of the resources. The item of a put is of its key's kind.
 #[derive(Debug, Drop)]
 pub enum Update {
