@@ -18,6 +18,7 @@ pub mod TierOrder
 pub mod Views
 pub mod Claims
 pub mod Batches
+pub mod Tests
 pub mod Rendering
 pub mod Tables
 pub mod Tree

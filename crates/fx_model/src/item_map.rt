@@ -1,5 +1,5 @@
 //! A map from item keys, seen as a finite map.
-ghost use Rattle.std.specs.Prelude.{◌≡◌, IfOk, OnOk, OnErr};
+ghost use Rattle.std.specs.Prelude.{◌≡◌, IfOk, IsSome, OnOk, OnErr, Some};
 ghost use Rattle.std.specs.Option.{option_copied};
 ghost use Rattle.std.specs.FinMap as map;
 
@@ -9,6 +9,7 @@ use std::alloc::Global;
 use std::collections::BTreeMap;
 use std::collections::btree_map::Iter;
 use std::marker::Model;
+use std::mem;
 
 #[derive(Drop)]
 pub struct ItemMap<V> {
@@ -59,6 +60,18 @@ impl<V: Drop> ItemMap<V> {
         ensures err { OnErr result (self.new ≡ self.old) }
     {
         Ok(self.held.insert(key, value)?)
+    }
+
+    /// Exchanges the value at a key that is there, which takes no memory.
+    pub fn swap(&mut self, key: &ItemKey, value: &mut V)
+        requires { IsSome (map.get self.old key.now) }
+        ensures old { map.get self.old key.now ≡ Some value.new }
+        ensures swapped { self.new ≡ map.insert self.old key.now value.old }
+    {
+        let Some(slot) = self.held.get_mut(key) else {
+            return;
+        };
+        mem::swap(slot, value);
     }
 
     pub fn remove(&mut self, key: &ItemKey) -> Option<V>
