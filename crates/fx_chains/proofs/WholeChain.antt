@@ -7,21 +7,18 @@ use Rattle.fx_model.specs.declared.chain.Target.TheVariants as target
 use Rattle.fx_model.specs.declared.chain.Reason.TheVariants as reason
 use Rattle.fx_model.specs.declared.chain.ChainRule.{ChainRule}
 use Rattle.fx_model.specs.Directions.{Direction}
-use Rattle.fx_model.specs.Rendering.{plain, tagged, clear_mark, is_clear, accept_mark, pass_mark}
-use Rattle.fx_model.specs.Tables.{tier_rules, profile_jumps, endpoint_rules_with, tiers_side, policy_jumps}
+use Rattle.fx_model.specs.Rendering.{plain, clear_mark, accept_mark, pass_mark, tagged}
+use Rattle.fx_model.specs.Tables.{tier_end, tier_rules, profile_jumps, endpoint_rules_with, tiers_side, policy_jumps}
 use Rattle.fx_chains.specs.Parts.{one_tier, profile_jump, state_rules}
-
-abbrev tier_end : ViewTier → ChainRule
-tier_end t = tagged (is_clear pass_mark ∷ []) target.Drop (reason.EndOfTier t.name)
 
 -- the tiers one after another, and then what follows them
 tiers-flat : (d : Direction) (ts : List ViewTier) (rest : List ChainRule) → flat_map (one_tier d) ts ++ rest ≡ tier_rules d ts rest
 tiers-flat d [] rest = refl
 tiers-flat d (t ∷ ts) rest =
     ap (λ l. plain [] (clear_mark pass_mark) ∷ l)
-    (append_assoc (policy_jumps d t.policies ++ tier_end t ∷ []) (flat_map (one_tier d) ts) rest
-    ∙ append_assoc (policy_jumps d t.policies) (tier_end t ∷ []) (flat_map (one_tier d) ts ++ rest)
-    ∙ ap (λ l. policy_jumps d t.policies ++ tier_end t ∷ l) (tiers-flat d ts rest))
+    (append_assoc (policy_jumps d t.policies ++ tier_end t) (flat_map (one_tier d) ts) rest
+    ∙ append_assoc (policy_jumps d t.policies) (tier_end t) (flat_map (one_tier d) ts ++ rest)
+    ∙ ap (λ l. policy_jumps d t.policies ++ (tier_end t ++ l)) (tiers-flat d ts rest))
 
 profiles-flat : (d : Direction) (keys : List (List ℕ)) → flat_map (profile_jump d) keys ++ tagged [] target.Drop reason.NoProfileRule ∷ [] ≡ profile_jumps d keys
 profiles-flat d [] = refl

@@ -1,7 +1,7 @@
 //! An endpoint's chain, part by part.
 ghost use Rattle.std.specs.Prelude.{◌≡◌, ◌++◌, IfOk, OnOk, true};
 ghost use Rattle.std.specs.List.{list_all, flat_map};
-ghost use Rattle.fx_model.specs.Tables.{policy_jumps, endpoint_rules, endpoint_rules_with};
+ghost use Rattle.fx_model.specs.Tables.{policy_jumps, tier_end, endpoint_rules, endpoint_rules_with};
 ghost use Rattle.fx_model.specs.Formed.{is_formed_profile_key};
 ghost use Rattle.fx_rules.specs.Rules.{direction_of};
 ghost use Rattle.fx_chains.specs.Parts.{policy_jump, one_tier, profile_jump, state_rules};
@@ -40,7 +40,24 @@ fn push_policy_jumps(
     Ok(())
 }
 
-// A tier: its policies, and its end where none of them passed.
+// The end of a tier, which drops what none of its policies has passed, unless the tier passes at its end.
+fn push_tier_end(
+    alloc: Global,
+    tier: &ViewTier,
+    chain: &mut Seq<ChainRule>,
+) -> Result<(), Memory>
+    ensures { OnOk result (chain.new ≡ chain.old ++ tier_end tier.now) }
+{
+    if tier.pass_at_end {
+        return Ok(());
+    }
+    let why = Reason::EndOfTier {
+        tier: tier.name.clone()?,
+    };
+    chain.push(tagged(one(alloc, is_clear(PASS))?, Target::Drop, why))
+}
+
+// A tier: its policies, and its end.
 fn push_tier(
     alloc: Global,
     ingress: bool,
@@ -51,10 +68,7 @@ fn push_tier(
 {
     chain.push(plain(Seq::new(alloc), clear_mark(PASS)))?;
     push_policy_jumps(alloc, ingress, &tier.policies, chain)?;
-    let why = Reason::EndOfTier {
-        tier: tier.name.clone()?,
-    };
-    chain.push(tagged(one(alloc, is_clear(PASS))?, Target::Drop, why))
+    push_tier_end(alloc, tier, chain)
 }
 
 fn push_tiers(

@@ -20,15 +20,14 @@ use Rattle.fx_fields.specs.Forms.{text}
 abbrev pub order : Reader ℤ
 order path d = formed path (option_and_then as_i64 (as_number d))
 
--- A tier ends by denying. One that passes at its end isn't read yet.
-abbrev pub default_action : Reader (Unit {0})
-default_action path d = by_text (as_str d)
-  where
-    by_text : Option (List ℕ) → Result (Unit {0}) ReadFault
-    by_text None = Err (BadField path)
-    by_text (Some s) =
-        if bytes_eq s (codes "Deny") then Ok tt
-        else (if bytes_eq s (codes "Pass") then Err (Unsupported path) else Err (BadField path))
+-- whether a tier with this default action passes at its end
+abbrev pub passes_named : List ℕ → Option Bool
+passes_named s =
+    if bytes_eq s (codes "Deny") then Some false
+    else (if bytes_eq s (codes "Pass") then Some true else None)
+
+abbrev pub default_action : Reader Bool
+default_action path d = formed path (option_and_then passes_named (as_str d))
 
 -- ---- where a policy stands, and its flags
 

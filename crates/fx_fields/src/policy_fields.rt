@@ -5,7 +5,7 @@ ghost use Rattle.serde_json.specs.Find.{as_str};
 ghost use Rattle.serde_json.specs.View.{view};
 ghost use Rattle.fx_fields.specs.Faults.{IsAnswerOf};
 ghost use Rattle.fx_fields.specs.Paths.{text_of};
-ghost use Rattle.fx_fields.specs.PolicyFields.{order, default_action, place_of, unset, flags, policy_type_named, policy_type, is_ingress, is_egress, directions_by_rules, directions_of};
+ghost use Rattle.fx_fields.specs.PolicyFields.{order, passes_named, default_action, place_of, unset, flags, policy_type_named, policy_type, is_ingress, is_egress, directions_by_rules, directions_of};
 
 use crate::fault::ReadFault;
 use crate::fields::{Form, defaulted, formed, optional};
@@ -30,24 +30,32 @@ impl Form for OrderForm {
     }
 }
 
-/// How a tier ends: it denies, and passing isn't read yet.
+/// What a tier does at its end: it denies, or passes. It is read as whether it passes.
 pub struct DefaultActionForm;
 
 impl Form for DefaultActionForm {
-    type Read = ();
+    type Read = bool;
 
     ghost read_by = { λ _. default_action };
 
-    fn read(&self, alloc: Global, path: &Path<'_>, value: &Value) -> Result<(), ReadFault> {
-        match value.as_str() {
-            Some("Deny") => Ok(()),
-            Some("Pass") => Err(ReadFault::Unsupported {
-                path: path.text(alloc)?,
-            }),
-            _ => Err(ReadFault::BadField {
-                path: path.text(alloc)?,
-            }),
-        }
+    fn read(&self, alloc: Global, path: &Path<'_>, value: &Value) -> Result<bool, ReadFault> {
+        formed(alloc, path, passes_in(value))
+    }
+}
+
+fn passes_in(value: &Value) -> Option<bool>
+    ensures { result ≡ option_and_then passes_named (as_str (view value.now)) }
+{
+    passes_named(value.as_str()?)
+}
+
+fn passes_named(name: &str) -> Option<bool>
+    ensures { result ≡ passes_named name.now }
+{
+    match name {
+        "Deny" => Some(false),
+        "Pass" => Some(true),
+        _ => None,
     }
 }
 

@@ -9,7 +9,7 @@ ghost use Rattle.fx_graph.specs.Taking.{contributing, withdrawn, placed, displac
 
 use crate::nodes::Nodes;
 use fx_base::{Memory, NameKey, Text};
-use fx_model::{Item, ItemKey};
+use fx_model::{Item, ItemKey, Tier};
 use fx_names::{DigestFunction, DigestRule, Namer, Prefix};
 use fx_told::{put_endpoint, put_item, put_tier, remove_endpoint, remove_item, remove_tier};
 use std::alloc::Global;
@@ -89,21 +89,21 @@ impl Nodes {
         Ok(())
     }
 
-    /// Puts a tier with its order.
+    /// Puts a tier.
     pub fn order_tier<R: DigestRule>(
         &mut self,
         name: &Text,
-        order: Option<i64>,
+        tier: &Tier,
     ) -> Result<(), Memory>
         requires { IsSettled R.digest_of None self.old }
-        ensures taken { OnOk result (taken_of self.new ≡ with_tier name.now (record { order = order }) (taken_of self.old)) }
+        ensures taken { OnOk result (taken_of self.new ≡ with_tier name.now tier.now (taken_of self.old)) }
         ensures beside { OnOk result (IsBeside self.old self.new) }
         ensures settled { OnOk result (IsSettled R.digest_of None self.new) }
     {
         put_tier(
             self.alloc,
             name,
-            order,
+            tier,
             &mut self.resolver,
             &mut self.sequencer,
         )?;

@@ -179,7 +179,7 @@ impl GraphState {
         ensures sent { OnOk result ((sides_of self.new).sent ≡ (sides_of self.old).sent) }
     {
         let nodes = &mut self.nodes;
-        nodes.order_tier::<R>(name, tier.order)?;
+        nodes.order_tier::<R>(name, tier)?;
         Ok(())
     }
 

@@ -20,7 +20,7 @@ use Rattle.fx_fields.specs.declared.rule_form.Services.{Services}
 use Rattle.fx_fields.specs.declared.policy_fields.Directions.{Directions}
 use Rattle.fx_fields.specs.declared.policy_fields.TierPlace.{TierPlace}
 use Rattle.fx_fields.specs.declared.names.NamespacedName.{NamespacedName}
-use Rattle.fx_fields.specs.Fields.{◌>>=◌, Reader, optional, section, items}
+use Rattle.fx_fields.specs.Fields.{◌>>=◌, Reader, defaulted, optional, section, items}
 use Rattle.fx_fields.specs.Names.{name_in, namespaced_name_in}
 use Rattle.fx_fields.specs.PolicyFields.{order, default_action, place_of, flags, policy_type, directions_of}
 use Rattle.fx_fields.specs.Selectors.{global_selector, namespaced_selector}
@@ -33,8 +33,8 @@ use Rattle.fx_json.specs.Rules.{form_in, rule}
 unfoldable pub tier_of : Reader Tier
 tier_of path spec = do
   o ← optional order path (codes "order") spec
-  _ ← optional default_action path (codes "defaultAction") spec
-  Ok (record { order = o })
+  p ← defaulted false default_action path (codes "defaultAction") spec
+  Ok (record { order = o; pass_at_end = p })
 
 -- ---- rules
 

@@ -10,8 +10,9 @@ use crate::rules::RuleReader;
 use fx_base::{Seq, Text};
 use fx_fields::{
     DefaultActionForm, Directions, NamespacedName, OrderForm, Path, PolicyTypeForm, ReadFault,
-    RuleForm, RulePlace, Services, TierPlace, directions_of, global_selector, is_given, items, name_in,
-    namespaced_name_in, namespaced_selector, optional, read_flags, read_place, section,
+    RuleForm, RulePlace, Services, TierPlace, defaulted, directions_of, global_selector, is_given,
+    items, name_in, namespaced_name_in, namespaced_selector, optional, read_flags, read_place,
+    section,
 };
 use fx_model::{Item, Key, Policy, PolicyId, Rule, Tier, Update};
 use fx_selector::Selector;
@@ -47,8 +48,15 @@ fn read_tier(alloc: Global, path: &Path<'_>, spec: &Value) -> Result<Tier, ReadF
     ensures { IsAnswerOf (tier_of (text_of path.now) (view spec.now)) result }
 {
     let order = optional(alloc, &OrderForm, path, "order", spec)?;
-    optional(alloc, &DefaultActionForm, path, "defaultAction", spec)?;
-    Ok(Tier { order })
+    let pass_at_end = defaulted(
+        alloc,
+        &DefaultActionForm,
+        false,
+        path,
+        "defaultAction",
+        spec,
+    )?;
+    Ok(Tier { order, pass_at_end })
 }
 
 // ---- global policies

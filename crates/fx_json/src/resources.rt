@@ -12,8 +12,8 @@ use crate::net_sets::{global_set_key, global_set_put, net_set_key, net_set_put};
 use crate::policies::{global_policy_put, namespaced_key, namespaced_policy_put, tier_put};
 use crate::rules::RuleReader;
 use fx_fields::{
-    Kind, KubernetesKind, Path, ReadFault, RuleForm, RulePlace, Services, items, kind_of, kubernetes_kind, labels_at,
-    name_at, name_in, namespaced_name, section,
+    Kind, KubernetesKind, Path, ReadFault, RuleForm, RulePlace, Services, items, kind_of,
+    kubernetes_kind, labels_at, name_at, name_in, namespaced_name, section,
 };
 use fx_model::{Item, Key, PolicyId, Profile, Update};
 use serde_json::Value;
@@ -129,11 +129,7 @@ fn key_of(alloc: Global, kind: Kind, path: &Path<'_>, metadata: &Value) -> Resul
 // ---- profiles
 
 #[tactic(auto, unfolding(crate::specs::Resources::profile_put))]
-fn profile_put(
-    alloc: Global,
-    services: Services,
-    resource: &Value,
-) -> Result<Update, ReadFault>
+fn profile_put(alloc: Global, services: Services, resource: &Value) -> Result<Update, ReadFault>
     ensures { IsAnswerOf (profile_put services (view resource.now)) result }
 {
     let name = name_in(alloc, resource)?;
@@ -145,11 +141,7 @@ fn profile_put(
 }
 
 #[tactic(auto, unfolding(crate::specs::Resources::profile_in))]
-fn profile_in(
-    alloc: Global,
-    services: Services,
-    resource: &Value,
-) -> Result<Profile, ReadFault>
+fn profile_in(alloc: Global, services: Services, resource: &Value) -> Result<Profile, ReadFault>
     ensures { IsAnswerOf (profile_in services (view resource.now)) result }
 {
     let nothing = Value::Null;

@@ -10,8 +10,8 @@ ghost use Rattle.fx_json.specs.Rules.{action_named, may_pass, allowed, action, i
 use crate::sides::{ReadSide, read_side};
 use fx_base::Proto;
 use fx_fields::{
-    ByteForm, Form, Path, ProtocolForm, ReadFault, RuleForm, RulePlace, UnreadForm, VersionForm, defaulted,
-    formed, is_absent, object, optional, required, section,
+    ByteForm, Form, Path, ProtocolForm, ReadFault, RuleForm, RulePlace, UnreadForm, VersionForm,
+    defaulted, formed, is_absent, object, optional, required, section,
 };
 use fx_model::{Action, Icmp, Rule};
 use serde_json::Value;

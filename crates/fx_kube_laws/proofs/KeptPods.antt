@@ -3,6 +3,8 @@ use Rattle.std.proofs.Common.{◌≡◌, ℕ, suc, Bool, true, false, not, ◌&&
 use Rattle.std.specs.Prelude.{filter, is_some, if◌then◌else◌}
 use Rattle.std.specs.List.{list_any, list_all, flat_map, AllByRecursion}
 use Rattle.std.specs.Str.{bytes_eq}
+use Rattle.std.specs.Cmp.Lexicographic.{slice_cmp}
+use Rattle.std.specs.Ordering.{nat_cmp}
 use Rattle.std.specs.FinMap as maps
 use Rattle.std.specs.declared.cmp.Ordering.TheVariants.{Equal}
 use Rattle.fx_base.specs.Same.{same_bytes, both_pass}
@@ -24,9 +26,9 @@ use Rattle.fx_model.specs.declared.rules.Rule.{Rule}
 use Rattle.fx_model.specs.declared.tier_order.PolicyPlace.{PolicyPlace}
 use Rattle.fx_model.specs.Active.{applies, applying}
 use Rattle.fx_model.specs.Directions.{Direction, Ingress, Egress}
-use Rattle.fx_model.specs.Policy.{MetRule, Decision, first_answer, after_policies, end_of_tier, tiers_verdict, profiles_verdict, profile_verdict, rule_matches, met_rules, there_or_missing, listed_profile, met_policy, met_tier, tiers_for, endpoint_verdict}
+use Rattle.fx_model.specs.Policy.{MetRule, Decision, first_answer, after_policies, end_of_tier, passed_or_denied, tiers_verdict, profiles_verdict, profile_verdict, rule_matches, met_rules, there_or_missing, listed_profile, met_policy, met_tier, tiers_for, endpoint_verdict}
 use Rattle.fx_model.specs.Policy as policy
-use Rattle.fx_model.specs.TierOrder.{place_in, onto_tiers, tier_by_tier, in_order}
+use Rattle.fx_model.specs.TierOrder.{TierHead, head_of, passes_at_end, place_in, onto_tiers, tier_by_tier, in_order}
 use Rattle.fx_model.proofs.Orders.{policy_total, place_total, exact_place}
 use Rattle.fx_fields.specs.declared.names.NamespacedName.{NamespacedName}
 use Rattle.fx_fields.specs.declared.policy_fields.PolicyType.{PolicyType}
@@ -99,19 +101,23 @@ allow-both P (r ∷ rs) qs h g = (h.0, allow-both P rs qs h.1 g)
 
 -- ---- one tier
 
+-- no cluster defines a tier, so that of its policies denies at its end
+abbrev default_tier : TierHead
+default_tier = record { name = codes "default"; pass_at_end = false }
+
 abbrev InDefault : PolicyPlace × (PolicyId × Policy) → Type 0
-InDefault e = e.0.tier ≡ codes "default"
+InDefault e = head_of e.0 ≡ default_tier
 
 abbrev values : List (PolicyPlace × (PolicyId × Policy)) → List (PolicyId × Policy)
 values [] = []
 values (e ∷ es) = e.1 ∷ values es
 
 -- policies of one tier stand in that tier
-one-tier : (e : PolicyPlace × (PolicyId × Policy)) (es : List (PolicyPlace × (PolicyId × Policy))) → AllByRecursion InDefault (e ∷ es) → tier_by_tier (e ∷ es) ≡ (codes "default", values (e ∷ es)) ∷ []
-one-tier e [] h = ap (λ (t : List ℕ). (t, e.1 ∷ []) ∷ []) h.0
+one-tier : (e : PolicyPlace × (PolicyId × Policy)) (es : List (PolicyPlace × (PolicyId × Policy))) → AllByRecursion InDefault (e ∷ es) → tier_by_tier (e ∷ es) ≡ (default_tier, values (e ∷ es)) ∷ []
+one-tier e [] h = ap (λ (t : TierHead). (t, e.1 ∷ []) ∷ []) h.0
 one-tier e (g ∷ es) h =
-    ap (onto_tiers e.0.tier e.1) (one-tier g es h.1)
-    ∙ ap (λ (t : List ℕ). onto_tiers t e.1 ((codes "default", values (g ∷ es)) ∷ [])) h.0
+    ap (onto_tiers (head_of e.0) e.1) (one-tier g es h.1)
+    ∙ ap (λ (t : TierHead). onto_tiers t e.1 ((default_tier, values (g ∷ es)) ∷ [])) h.0
 
 -- ---- tests of some
 
@@ -207,16 +213,20 @@ module _ (K : Cluster) (R : Resources) (d : Direction) (pod : Pod) (a : Packet) 
   apart : AreApart place_cmp.cmp-value.it (map in_place those)
   apart = places-apart those (some-others policy_cmp.cmp-value.it policy_total (λ x. applies R d x.1 (endpoint_of pod)) (maps.entries R.policies) (entries-others policy_cmp.cmp-value.it policy_total R.policies))
 
+  -- a cluster defines no tier
+  no-tier : (name : List ℕ) → maps.get R.tiers name ≡ None
+  no-tier name = maps.get-entries R.tiers name ∙ ap (maps.find (slice_cmp nat_cmp) name) converted.tiers
+
   abbrev OfDefault : PolicyId × Policy → Type 0
-  OfDefault x = x.1.tier ≡ codes "default"
+  OfDefault x = head_of (place_in R.tiers x) ≡ default_tier
 
   all-default : AllByRecursion OfDefault (maps.entries R.policies)
   all-default =
-      subst (AllByRecursion OfDefault) (sym converted.policies) (to_map OfDefault policy_entry K.policies (every (λ x. OfDefault (policy_entry x)) (λ x. refl) K.policies))
+      subst (AllByRecursion OfDefault) (sym converted.policies) (to_map OfDefault policy_entry K.policies (every (λ x. OfDefault (policy_entry x)) (λ x i. record { name = codes "default"; pass_at_end = passes_at_end (no-tier (codes "default") i) }) K.policies))
 
   ordered-default : AllByRecursion InDefault ordered
   ordered-default =
-      keys-collected place_cmp.cmp-value.it (λ (p : PolicyPlace). p.tier ≡ codes "default") place_total (map in_place those)
+      keys-collected place_cmp.cmp-value.it (λ (p : PolicyPlace). head_of p ≡ default_tier) place_total (map in_place those)
       (to_map InDefault in_place those (filter-all OfDefault (λ x. applies R d x.1 (endpoint_of pod)) (maps.entries R.policies) all-default))
 
   -- ---- what some policy that applies does
@@ -337,7 +347,8 @@ module _ (K : Cluster) (R : Resources) (d : Direction) (pod : Pod) (a : Packet) 
   verdict-of : (es : List (PolicyPlace × (PolicyId × Policy))) → AllByRecursion InDefault es → AllByRecursion (λ (e : PolicyPlace × (PolicyId × Policy)). PolicyAllows e.1) es → (tiers_verdict (map (met_tier R d a) (tier_by_tier es)) rest).verdict ≡ verdict_if (not (list_any (λ e. is_true e.1) es) || list_any (λ e. matching e.1) es)
   verdict-of [] h g = open_pod
   verdict-of (e ∷ es) h g =
-      ap (λ (ts : List (List ℕ × List (PolicyId × Policy))). (tiers_verdict (map (met_tier R d a) ts) rest).verdict) (one-tier e es h)
+      ap (λ (ts : List (TierHead × List (PolicyId × Policy))). (tiers_verdict (map (met_tier R d a) ts) rest).verdict) (one-tier e es h)
+      ∙ ap (λ o. (after_policies (first_answer (flat_map (met_policy R d a) (values (e ∷ es)))) (passed_or_denied (passes_at_end o) (codes "default") rest) rest).verdict) (no-tier (codes "default"))
       ∙ answer-verdict (codes "default") rest (flat_map (met_policy R d a) (values (e ∷ es))) (all-allow (values (e ∷ es)) (values-allow (e ∷ es) g))
       ∙ ap verdict_if (met-policies (values (e ∷ es)) ∙ any-values matching (e ∷ es))
     where

@@ -13,7 +13,7 @@ use Rattle.fx_model.specs.declared.chain.Reason.TheVariants as reason
 use Rattle.fx_model.specs.declared.chain.Target.TheVariants as target
 use Rattle.fx_model.specs.declared.chain.ChainRule.{ChainRule}
 use Rattle.fx_model.specs.Directions.{Direction, Ingress, Egress}
-use Rattle.fx_model.specs.Tables.{ChainName, Chains, Sets, policy_chain, profile_chain, policy_side, profile_side, policy_rules, profile_rules, present_or_missing, endpoint_chain, policy_jumps, tier_rules, profile_jumps, tiers_side, endpoint_rules}
+use Rattle.fx_model.specs.Tables.{ChainName, Chains, Sets, policy_chain, profile_chain, policy_side, profile_side, policy_rules, profile_rules, present_or_missing, endpoint_chain, policy_jumps, pass_or_drop, tier_rules, profile_jumps, tiers_side, endpoint_rules}
 use Rattle.fx_model.specs.ViewTables.{policy_chains, profile_chains, endpoint_chains}
 use Rattle.fx_model.specs.Rendering.{plain, tagged, is_set, accept_mark}
 use Rattle.fx_model.specs.Ranks.{LeadsBelow, AllLeadBelow, rank_of}
@@ -93,11 +93,15 @@ module _ (v : View) (sets : Sets) (chains : Chains) (has : HasLower v chains) (d
       lead_more sets chains 1 _ _ (has.profiles d k there.0) (profile_below d k) tt refl
       (return_lead sets chains 1 _ (profile_jumps_lead ks there.1))
 
+  end_leads : (b : Bool) (name : List ℕ) (rest : List ChainRule) → Lead sets chains 1 rest → Lead sets chains 1 (pass_or_drop b name ++ rest)
+  end_leads true name rest h = h
+  end_leads false name rest h = lead_more sets chains 1 _ _ tt tt (tt, tt) refl h
+
   tiers_lead : (ts : List ViewTier) → TiersAreThere v.policies ts → (rest : List ChainRule) → Lead sets chains 1 rest → Lead sets chains 1 (tier_rules d ts rest)
   tiers_lead [] there rest h = h
   tiers_lead (t ∷ ts) there rest h =
       lead_more sets chains 1 _ _ tt tt tt refl
-      (policy_jumps_lead t.policies there.0 _ (lead_more sets chains 1 _ _ tt tt (tt, tt) refl (tiers_lead ts there.1 rest h)))
+      (policy_jumps_lead t.policies there.0 _ (end_leads t.pass_at_end t.name _ (tiers_lead ts there.1 rest h)))
 
   sides_there : (e : ViewEndpoint) → EndpointIsClosed v e → TiersAreThere v.policies (tiers_side d e)
   sides_there e h = elim d as (λ d. TiersAreThere v.policies (tiers_side d e)) [ Ingress ↦ h.ingress | Egress ↦ h.egress ]

@@ -21,7 +21,7 @@ use Rattle.fx_model.specs.declared.view.ViewPolicy.{ViewPolicy}
 use Rattle.fx_model.specs.Directions.{Direction, Ingress, Egress}
 use Rattle.fx_model.specs.Messages.{Named}
 use Rattle.fx_model.specs.Active.{applies, applying, is_active}
-use Rattle.fx_model.specs.TierOrder.{onto_tiers, tier_by_tier, in_order, view_tier}
+use Rattle.fx_model.specs.TierOrder.{TierHead, head_of, onto_tiers, tier_by_tier, in_order, view_tier}
 use Rattle.fx_model.specs.Views.{view_policy, policy_key, policy_entry, key_in_place, view_tiers}
 use Rattle.fx_model.specs.Closed.{AreThere, TiersAreThere}
 use Rattle.fx_model.proofs.Orders.{place_total, exact_place}
@@ -66,10 +66,10 @@ module _ (dg : Digest) (R : Resources) where
         by_tests rest false true p q h = rest h.1
         by_tests rest false false p q h = rest h
 
-    onto_there : (tier key : List ℕ) (ts : List (List ℕ × List (List ℕ))) → maps.contains_key m key ≡ true → TiersAreThere m (map view_tier ts) → TiersAreThere m (map view_tier (onto_tiers tier key ts))
+    onto_there : (tier : TierHead) (key : List ℕ) (ts : List (TierHead × List (List ℕ))) → maps.contains_key m key ≡ true → TiersAreThere m (map view_tier ts) → TiersAreThere m (map view_tier (onto_tiers tier key ts))
     onto_there tier key [] here h = ((here, tt), tt)
     onto_there tier key (t ∷ ts) here h =
-        elim (bytes_eq tier t.0) as (λ b. TiersAreThere m (map view_tier (if b then (tier, key ∷ t.1) ∷ ts else (tier, key ∷ []) ∷ t ∷ ts))) [
+        elim (bytes_eq tier.name t.0.name) as (λ b. TiersAreThere m (map view_tier (if b then (tier, key ∷ t.1) ∷ ts else (tier, key ∷ []) ∷ t ∷ ts))) [
           | true ↦ ((here, h.0), h.1)
           | false ↦ ((here, tt), h)
         ]
@@ -78,7 +78,7 @@ module _ (dg : Digest) (R : Resources) where
     by_tier_there [] h = tt
     by_tier_there (x ∷ es) h =
         let parts = both_pass (is_there x) (list_all is_there es) h in
-        onto_there x.0.tier x.1 (tier_by_tier es) parts.0 (by_tier_there es parts.1)
+        onto_there (head_of x.0) x.1 (tier_by_tier es) parts.0 (by_tier_there es parts.1)
 
     -- where the active policies are there, those of the tiers are
     pub tiers_there : AreThere m (map (λ x. policy_key dg x.0) (active_of (maps.entries R.policies))) → TiersAreThere m (view_tiers dg R d e)

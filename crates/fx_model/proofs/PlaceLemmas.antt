@@ -1,6 +1,6 @@
 -- Places compare as it is stated.
 use Rattle.std.proofs.Common.{◌≡◌, refl}
-use Rattle.std.specs.Ordering.{nat_cmp, ordering_then}
+use Rattle.std.specs.Ordering.{nat_cmp, bool_cmp, ordering_then}
 use Rattle.std.specs.Cmp.Lexicographic.{slice_cmp}
 use Rattle.fx_model.specs.declared.tier_order.Order.{Order}
 use Rattle.fx_model.specs.declared.tier_order.Order.TheVariants.{At, Last}
@@ -20,5 +20,6 @@ pub compared : (a b : PolicyPlace) → place_cmp.cmp-value.it a b ≡ places_com
 compared a b = λ i.
     ordering_then (orders a.tier_order b.tier_order i)
     (ordering_then (slice_cmp nat_cmp a.tier b.tier)
+    (ordering_then (bool_cmp a.pass_at_end b.pass_at_end)
     (ordering_then (orders a.order b.order i)
-    (ordering_then (slice_cmp nat_cmp a.text b.text) (id_cmp.cmp-value.it a.id b.id))))
+    (ordering_then (slice_cmp nat_cmp a.text b.text) (id_cmp.cmp-value.it a.id b.id)))))

@@ -27,9 +27,14 @@ listed_text mark (w ∷ ws) = w ++ behind mark ws
 abbrev pub keys_text : List (List ℕ) → List ℕ
 keys_text keys = listed_text (codes ",") keys
 
--- `TIER(KEY,KEY)`
+-- what a tier that passes at its end has behind its name
+abbrev pub pass_text : Bool → List ℕ
+pass_text true = codes "/pass"
+pass_text false = []
+
+-- `TIER(KEY,KEY)`, or `TIER/pass(KEY,KEY)`
 abbrev pub tier_text : ViewTier → List ℕ
-tier_text t = t.name ++ (codes "(" ++ (keys_text t.policies ++ codes ")"))
+tier_text t = t.name ++ (pass_text t.pass_at_end ++ (codes "(" ++ (keys_text t.policies ++ codes ")")))
 
 abbrev pub later_tiers : List ViewTier → List ℕ
 later_tiers ts = flat_map (λ t. codes ";" ++ tier_text t) ts

@@ -34,7 +34,7 @@ use Rattle.fx_model.specs.Directions.{Direction, Ingress, Egress}
 use Rattle.fx_model.specs.Criteria.{address_at, port_at, proto_is, proto_is_not, lies_in, lies_in_given, holds_port, icmp_is, icmp_is_not}
 use Rattle.fx_model.specs.Resources.{served_endpoints, items_of}
 use Rattle.fx_model.specs.Active.{applying}
-use Rattle.fx_model.specs.TierOrder.{place_in, tiers_of}
+use Rattle.fx_model.specs.TierOrder.{TierHead, passes_at_end, place_in, tiers_of}
 
 -- ---- rules, in their order
 
@@ -67,18 +67,23 @@ pub record Decision : Type 0 where
   pub verdict : Verdict
   pub why : Reason
 
--- a tier that takes part: the rules of its policies that apply, in one list
+-- a tier that takes part: whether its default action is Pass, and the rules of its policies that apply, in one list
 pub record Tier : Type 0 where
   pub name : List ℕ
+  pub pass_at_end : Bool
   pub rules : List MetRule
 
 -- what the rules of a tier's policies say
 abbrev pub policies_answer : Tier → Answer
 policies_answer t = first_answer t.rules
 
--- the end of a tier denies
+-- the end of a tier denies, unless its default action is Pass
 abbrev pub end_of_tier : List ℕ → Decision
 end_of_tier name = record { verdict = Deny; why = reason.EndOfTier name }
+
+abbrev pub passed_or_denied : Bool → List ℕ → Decision → Decision
+passed_or_denied true name rest = rest
+passed_or_denied false name rest = end_of_tier name
 
 -- behind a tier's policies: where they say nothing the tier's end decides, and Pass goes on behind the tier
 abbrev pub after_policies : Answer → Decision → Decision → Decision
@@ -89,7 +94,8 @@ after_policies (Denied why) end rest = record { verdict = Deny; why = why }
 
 abbrev pub tiers_verdict : List Tier → Decision → Decision
 tiers_verdict [] rest = rest
-tiers_verdict (t ∷ ts) rest = after_policies (policies_answer t) (end_of_tier t.name) (tiers_verdict ts rest)
+tiers_verdict (t ∷ ts) rest =
+    after_policies (policies_answer t) (passed_or_denied t.pass_at_end t.name (tiers_verdict ts rest)) (tiers_verdict ts rest)
 
 -- a listed profile: missing, or there with its rules
 pub data Listed : Type 0 where
@@ -192,8 +198,13 @@ rules_of Egress p = p.egress
 abbrev pub met_policy : Resources → Direction → Packet → PolicyId × Policy → List MetRule
 met_policy R d a x = met_rules R a (reason.Policy x.0) 1 (rules_of d x.1)
 
-abbrev pub met_tier : Resources → Direction → Packet → List ℕ × List (PolicyId × Policy) → Tier
-met_tier R d a t = record { name = t.0; rules = flat_map (met_policy R d a) t.1 }
+-- a tier of this name, with these of its policies
+abbrev pub met_tier : Resources → Direction → Packet → TierHead × List (PolicyId × Policy) → Tier
+met_tier R d a t = record {
+  name = t.0.name;
+  pass_at_end = passes_at_end (maps.get R.tiers t.0.name);
+  rules = flat_map (met_policy R d a) t.1;
+}
 
 -- the tiers that take part for an endpoint: those of the policies that apply to it, in order, each with its policies in order
 abbrev pub tiers_for : Resources → Direction → Endpoint → Packet → List Tier

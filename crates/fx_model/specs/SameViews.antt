@@ -15,7 +15,12 @@ use Rattle.fx_model.specs.contracts.view.ViewEndpointPartialEq.TheImpl as endpoi
 pub same_tier : (x y : ViewTier) → tier.eq-value.it x y ≡ true → x ≡ y
 same_tier x y e =
     let p = both_pass _ _ e in
-    λ i. record { name = same_bytes x.name y.name p.0 i; policies = same_list _ same_bytes x.policies y.policies p.1 i }
+    let q = both_pass _ _ p.1 in
+    λ i. record {
+      name = same_bytes x.name y.name p.0 i;
+      pass_at_end = same_truths x.pass_at_end y.pass_at_end q.0 i;
+      policies = same_list _ same_bytes x.policies y.policies q.1 i;
+    }
 
 pub same_policy : (x y : ViewPolicy) → policy.eq-value.it x y ≡ true → x ≡ y
 same_policy x y e =

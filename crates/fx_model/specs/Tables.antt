@@ -82,9 +82,13 @@ policy_jumps d (key ∷ keys) =
 abbrev pub tier_policies : Direction → ViewTier → List ChainRule
 tier_policies d t = plain [] (clear_mark pass_mark) ∷ policy_jumps d t.policies
 
--- the end of a tier drops what none has passed
+-- the end of a tier drops what none has passed, unless the tier passes at its end
+abbrev pub pass_or_drop : Bool → List ℕ → List ChainRule
+pass_or_drop true name = []
+pass_or_drop false name = tagged (is_clear pass_mark ∷ []) target.Drop (reason.EndOfTier name) ∷ []
+
 abbrev pub tier_end : ViewTier → List ChainRule
-tier_end t = tagged (is_clear pass_mark ∷ []) target.Drop (reason.EndOfTier t.name) ∷ []
+tier_end t = pass_or_drop t.pass_at_end t.name
 
 -- the tiers, each with its end, and then what follows them
 abbrev pub tier_rules : Direction → List ViewTier → List ChainRule → List ChainRule

@@ -76,7 +76,11 @@ rules_of_policy sets d a None = []
 rules_of_policy sets d a (Some p) = met_view_rules sets a (reason.Policy p.id) 1 (policy_side d p)
 
 abbrev pub view_tier : View → Direction → Packet → ViewTier → Tier
-view_tier v d a t = record { name = t.name; rules = flat_map (λ key. rules_of_policy v.sets d a (maps.get v.policies key)) t.policies }
+view_tier v d a t = record {
+  name = t.name;
+  pass_at_end = t.pass_at_end;
+  rules = flat_map (λ key. rules_of_policy v.sets d a (maps.get v.policies key)) t.policies;
+}
 
 abbrev pub missing_or_there : Bool → List ℕ → List MetRule → Listed
 missing_or_there true name rules = Missing name

@@ -22,7 +22,7 @@ pub use resources::{Endpoint, EndpointPort, Item, Profile, Resources, Update};
 pub use rules::{Action, Icmp, PortSpec, Rule, Side};
 pub use set_use::{SetUse, ports_protocol, push_both, push_uses};
 pub use sinks::{ActiveSink, MatchSink, SetSink, UseSink, ViewSink};
-pub use tier_order::{Order, PolicyPlace, places_compare_as_stated, tiers_in_order};
+pub use tier_order::{Order, PolicyPlace, TierStand, places_compare_as_stated, tiers_in_order};
 pub use view::{View, ViewEndpoint, ViewPolicy, ViewProfile, ViewTier};
 pub use view_rule::{ViewPort, ViewRule, ViewSide};
 

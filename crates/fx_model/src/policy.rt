@@ -6,10 +6,12 @@ use fx_base::{Net, Seq, Text};
 use fx_selector::{Labels, Selector};
 use std::alloc::AllocError;
 
-/// A tier. One without an order comes behind those that have one.
+/// A tier. One without an order comes behind those that have one. At its end a packet on which none of its policies decides is
+/// denied, or goes on to the next tier where the default action is Pass.
 #[derive(Clone, Copy, Debug)]
 pub struct Tier {
     pub order: Option<i64>,
+    pub pass_at_end: bool,
 }
 
 /// A network set: its own labels and its nets.

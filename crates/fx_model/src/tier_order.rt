@@ -5,7 +5,7 @@ ghost use Rattle.std.specs.FinMap as maps;
 ghost use Rattle.fx_model.specs.declared.tier_order.PolicyPlace.{PolicyPlace};
 ghost use Rattle.fx_model.specs.contracts.tier_order.PolicyPlaceOrd.TheImpl as place_cmp;
 ghost use Rattle.fx_model.specs.SamePlaces.{same_place, copies_place};
-ghost use Rattle.fx_model.specs.TierOrder.{order_of, tier_order, policy_place, places_compared, view_tier, tier_by_tier, pushed, grown};
+ghost use Rattle.fx_model.specs.TierOrder.{order_of, tier_stand, policy_place, places_compared, head_of, view_tier, tier_by_tier, pushed, grown};
 
 use crate::ids::PolicyId;
 use crate::place_map::PlaceMap;
@@ -30,23 +30,40 @@ impl Order {
             None => Order::Last,
         }
     }
+}
 
-    /// The order of a tier. One that nobody defined has none.
-    pub fn of_tier(tier: Option<&Tier>) -> Order
-        ensures { result ≡ tier_order (option_copied tier.entry) }
+/// How a tier stands among the others: its order, and whether its end passes on what none of its policies decided.
+#[derive(Clone, Copy, Debug, PartialEq, Eq)]
+pub struct TierStand {
+    pub order: Order,
+    pub pass_at_end: bool,
+}
+
+impl TierStand {
+    /// One that nobody defined has no order, and denies at its end.
+    pub fn of_tier(tier: Option<&Tier>) -> TierStand
+        ensures { result ≡ tier_stand (option_copied tier.entry) }
     {
         match tier {
-            Some(tier) => Order::new(tier.order),
-            None => Order::Last,
+            Some(tier) => TierStand {
+                order: Order::new(tier.order),
+                pass_at_end: tier.pass_at_end,
+            },
+            None => TierStand {
+                order: Order::Last,
+                pass_at_end: false,
+            },
         }
     }
 }
 
 /// A policy's place among those that apply: by its tier's order and name, and in the tier by its own order and the text of its id.
+/// What the tier does at its end stands with its name, and all policies of a tier share it, so it decides no order.
 #[derive(Clone, Debug, PartialEq, Eq, PartialOrd, Ord, Drop)]
 pub struct PolicyPlace {
     pub tier_order: Order,
     pub tier: Text,
+    pub pass_at_end: bool,
     pub order: Order,
     pub text: Text,
     pub id: PolicyId,
@@ -59,19 +76,20 @@ impl Exact for PolicyPlace {
 }
 
 impl PolicyPlace {
-    /// The place of a policy in a tier that stands at this order.
+    /// The place of a policy in a tier that stands so.
     pub fn new(
         alloc: Global,
-        tier_order: Order,
+        stand: TierStand,
         tier: &Text,
         order: Option<i64>,
         id: &PolicyId,
     ) -> Result<PolicyPlace, Memory>
-        ensures { IfOk result (λ place. place ≡ policy_place tier_order tier.now order id.now) }
+        ensures { IfOk result (λ place. place ≡ policy_place stand tier.now order id.now) }
     {
         Ok(PolicyPlace {
-            tier_order,
+            tier_order: stand.order,
             tier: tier.clone()?,
+            pass_at_end: stand.pass_at_end,
             order: Order::new(order),
             text: id.text(alloc)?,
             id: id.clone()?,
@@ -91,24 +109,24 @@ pub fn tiers_in_order(alloc: Global, keys: &PlaceMap<NameKey>) -> Result<Seq<Vie
 {
     let mut tiers = Vec::new(alloc);
     for (place, key) in keys.iter() {
-        push_key(alloc, &place.tier, key, &mut tiers)?;
+        push_key(alloc, place, key, &mut tiers)?;
     }
     Ok(Seq::from_vec(tiers))
 }
 
-// One key more: in the last tier if it has this name, else in a tier behind it.
+// One key more: in the last tier if that is the place's, else in a tier behind it.
 #[tactic(auto, using(crate::proofs::TierLemmas::pushed_last))]
 fn push_key(
     alloc: Global,
-    tier: &Text,
+    place: &PolicyPlace,
     key: &NameKey,
     tiers: &mut Vec<ViewTier>,
 ) -> Result<(), Memory>
-    ensures { OnOk result (tiers.new.items ≡ pushed tier.now key.now tiers.old.items) }
+    ensures { OnOk result (tiers.new.items ≡ pushed (head_of place.now) key.now tiers.old.items) }
 {
     match tiers.pop() {
-        None => tiers.push(one_key(alloc, tier, key)?)?,
-        Some(last) => push_behind(alloc, tier, key, last, tiers)?,
+        None => tiers.push(one_key(alloc, place, key)?)?,
+        Some(last) => push_behind(alloc, place, key, last, tiers)?,
     }
     Ok(())
 }
@@ -116,30 +134,31 @@ fn push_key(
 // The last tier, and the key in it or behind it.
 fn push_behind(
     alloc: Global,
-    tier: &Text,
+    place: &PolicyPlace,
     key: &NameKey,
     mut last: ViewTier,
     tiers: &mut Vec<ViewTier>,
 ) -> Result<(), Memory>
-    ensures { OnOk result (tiers.new.items ≡ tiers.old.items ++ grown tier.now key.now last) }
+    ensures { OnOk result (tiers.new.items ≡ tiers.old.items ++ grown (head_of place.now) key.now last) }
 {
-    if last.name == *tier {
+    if last.name == place.tier {
         last.policies.push(*key)?;
         tiers.push(last)?;
     } else {
         tiers.push(last)?;
-        tiers.push(one_key(alloc, tier, key)?)?;
+        tiers.push(one_key(alloc, place, key)?)?;
     }
     Ok(())
 }
 
-fn one_key(alloc: Global, tier: &Text, key: &NameKey) -> Result<ViewTier, Memory>
-    ensures { IfOk result (λ t. t ≡ view_tier (tier.now, key.now ∷ [])) }
+fn one_key(alloc: Global, place: &PolicyPlace, key: &NameKey) -> Result<ViewTier, Memory>
+    ensures { IfOk result (λ t. t ≡ view_tier (head_of place.now, key.now ∷ [])) }
 {
     let mut policies = Seq::new(alloc);
     policies.push(*key)?;
     Ok(ViewTier {
-        name: tier.clone()?,
+        name: place.tier.clone()?,
+        pass_at_end: place.pass_at_end,
         policies,
     })
 }

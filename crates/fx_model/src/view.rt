@@ -40,17 +40,19 @@ impl Exact for ViewProfile {
     ghost copies = { λ x y h i. record { name = h.0 i; missing = h.1.0 i; ingress = h.1.1.0 i; egress = h.1.1.1 i } };
 }
 
-/// A tier that takes part for an endpoint in a direction, with its policies that apply, in order.
+/// A tier that takes part for an endpoint in a direction, whether its end passes on what no policy decided, and its policies that
+/// apply, in order.
 #[derive(Clone, Debug, PartialEq, Eq, Drop)]
 pub struct ViewTier {
     pub name: Text,
+    pub pass_at_end: bool,
     pub policies: Seq<NameKey>,
 }
 
 impl Exact for ViewTier {
     ghost same = { same_tier };
 
-    ghost copies = { λ x y h i. record { name = h.0 i; policies = h.1 i } };
+    ghost copies = { λ x y h i. record { name = h.0 i; pass_at_end = h.1.0 i; policies = h.1.1 i } };
 }
 
 /// An endpoint of the node: its tiers for packets to it and from it, then its profiles.

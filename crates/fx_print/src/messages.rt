@@ -3,7 +3,7 @@ ghost use Rattle.std.specs.Prelude.{◌≡◌, ◌++◌, OnOk, IfOk, codes};
 ghost use Rattle.fx_model.specs.Messages.{Change, SetAdd, SetDelta, PolicyPut, ProfilePut, EndpointPut};
 ghost use Rattle.fx_model.specs.Lent.{change_of};
 ghost use Rattle.fx_model.specs.PolicyIdTexts.{policy_id_text};
-ghost use Rattle.fx_model.specs.MessageTexts.{each_member, behind, keys_text, tier_text, later_tiers, tiers_text, counts_text, rules_text, sides_text, endpoint_text, named_line, message_line};
+ghost use Rattle.fx_model.specs.MessageTexts.{each_member, behind, keys_text, pass_text, tier_text, later_tiers, tiers_text, counts_text, rules_text, sides_text, endpoint_text, named_line, message_line};
 
 use crate::members::{push_member, type_name};
 use crate::texts::{push_both, push_decimal, push_word};
@@ -207,10 +207,18 @@ fn push_later_tiers(line: &mut Vec<u8>, tiers: &[ViewTier]) -> Result<(), Memory
     Ok(())
 }
 
+// What a tier that passes at its end has behind its name.
+fn pass_word(pass_at_end: bool) -> &'static [u8]
+    ensures { result.now ≡ pass_text pass_at_end }
+{
+    if pass_at_end { b"/pass" } else { b"" }
+}
+
 fn push_tier(line: &mut Vec<u8>, tier: &ViewTier) -> Result<(), Memory>
     ensures { OnOk result (line.new.items ≡ line.old.items ++ tier_text tier.now) }
 {
     line.extend_from_slice(tier.name.bytes())?;
+    line.extend_from_slice(pass_word(tier.pass_at_end))?;
     line.extend_from_slice(b"(")?;
     push_keys(line, tier.policies.as_slice())?;
     line.extend_from_slice(b")")?;

@@ -19,7 +19,7 @@ use Rattle.fx_model.specs.declared.view.ViewTier.{ViewTier}
 use Rattle.fx_model.specs.contracts.ids.PolicyIdOrd.TheImpl as policy_cmp
 use Rattle.fx_model.specs.contracts.tier_order.PolicyPlaceOrd.TheImpl as place_cmp
 use Rattle.fx_model.specs.Directions.{Direction, Ingress, Egress}
-use Rattle.fx_model.specs.TierOrder.{tier_order, policy_place, tier_by_tier, view_tier}
+use Rattle.fx_model.specs.TierOrder.{tier_stand, policy_place, tier_by_tier, view_tier}
 use Rattle.fx_model.proofs.Orders.{place_total, policy_total, policy_pairs_total}
 use Rattle.fx_resolver.specs.declared.inputs.Inputs.{Inputs}
 use Rattle.fx_resolver.specs.declared.known.KnownPolicy.{KnownPolicy}
@@ -51,7 +51,7 @@ module _ (tiers : List (List ℕ × Tier)) (policies : List (PolicyId × KnownPo
   inputs = record { tiers = collected tiers; policies = collected policies; endpoints = maps.empty; pairs = collected pairs }
 
   abbrev tiers_by : (List ℕ → Option Tier) → (Pair → Bool) → List (PolicyId × KnownPolicy) → Direction → ItemKey → List (PolicyPlace × List ℕ)
-  tiers_by tier_at applies all d i = map (λ x. (policy_place (tier_order (tier_at x.1.tier)) x.1.tier x.1.order x.0, x.1.key)) (filter (λ x. is_on d x.1 && applies (x.0, i)) all)
+  tiers_by tier_at applies all d i = map (λ x. (policy_place (tier_stand (tier_at x.1.tier)) x.1.tier x.1.order x.0, x.1.key)) (filter (λ x. is_on d x.1 && applies (x.0, i)) all)
 
   -- the tiers as they compute
   abbrev computed : Direction → ItemKey → List ViewTier
@@ -80,7 +80,14 @@ abbrev both_ways : List ℕ → List ℕ → Option ℤ → KnownPolicy
 both_ways key tier order = record { key = key; tier = tier; order = order; on_ingress = true; on_egress = true }
 
 abbrev order : Option ℤ → Tier
-order o = record { order = o }
+order o = record { order = o; pass_at_end = false }
+
+-- the policies with these keys in a tier that denies at its end, and in one that passes
+abbrev denying : List ℕ → List (List ℕ) → ViewTier
+denying name keys = record { name = name; pass_at_end = false; policies = keys }
+
+abbrev passing : List ℕ → List (List ℕ) → ViewTier
+passing name keys = record { name = name; pass_at_end = true; policies = keys }
 
 -- every policy applies to the endpoint
 abbrev with_web : List (PolicyId × KnownPolicy) → List (Pair × Unit {0})
@@ -102,7 +109,7 @@ one_in_each =
     ∷ []
 
 pub tiers_in_order : tiers_for (inputs some_tiers one_in_each (with_web one_in_each)) Ingress web
-    ≡ view_tier (codes "f", codes "5" ∷ []) ∷ view_tier (codes "b", codes "3" ∷ []) ∷ view_tier (codes "c", codes "2" ∷ []) ∷ view_tier (codes "a", codes "1" ∷ []) ∷ view_tier (codes "e", codes "4" ∷ []) ∷ []
+    ≡ denying (codes "f") (codes "5" ∷ []) ∷ denying (codes "b") (codes "3" ∷ []) ∷ denying (codes "c") (codes "2" ∷ []) ∷ denying (codes "a") (codes "1" ∷ []) ∷ denying (codes "e") (codes "4" ∷ []) ∷ []
 tiers_in_order = tiers-are some_tiers one_in_each (with_web one_in_each) Ingress web
 
 -- ---- in a tier, policies go by their orders, with those that have none last, and those of one order by the text of the id, in which
@@ -116,7 +123,7 @@ in_one_tier =
     ∷ (gnp (codes "x"), both_ways (codes "4") (codes "t") (Some (pos 6)))
     ∷ []
 
-pub policies_in_order : tiers_for (inputs [] in_one_tier (with_web in_one_tier)) Egress web ≡ view_tier (codes "t", codes "4" ∷ codes "2" ∷ codes "1" ∷ codes "3" ∷ []) ∷ []
+pub policies_in_order : tiers_for (inputs [] in_one_tier (with_web in_one_tier)) Egress web ≡ denying (codes "t") (codes "4" ∷ codes "2" ∷ codes "1" ∷ codes "3" ∷ []) ∷ []
 policies_in_order = tiers-are [] in_one_tier (with_web in_one_tier) Egress web
 
 -- ---- a policy counts only in the directions that are on, for the endpoints to which it applies; a tier without any takes no part
@@ -131,8 +138,24 @@ one_way =
 abbrev two_pairs : List (Pair × Unit {0})
 two_pairs = ((gnp (codes "p"), web), tt) ∷ ((gnp (codes "q"), web), tt) ∷ []
 
-pub only_ingress : tiers_for (inputs [] one_way two_pairs) Ingress web ≡ view_tier (codes "s", codes "1" ∷ []) ∷ []
+pub only_ingress : tiers_for (inputs [] one_way two_pairs) Ingress web ≡ denying (codes "s") (codes "1" ∷ []) ∷ []
 only_ingress = tiers-are [] one_way two_pairs Ingress web
 
-pub only_egress : tiers_for (inputs [] one_way two_pairs) Egress web ≡ view_tier (codes "t", codes "2" ∷ []) ∷ []
+pub only_egress : tiers_for (inputs [] one_way two_pairs) Egress web ≡ denying (codes "t") (codes "2" ∷ []) ∷ []
 only_egress = tiers-are [] one_way two_pairs Egress web
+
+-- ---- a tier whose default action is Pass passes at its end, wherever its policies stand
+
+abbrev one_passes : List (List ℕ × Tier)
+one_passes = (codes "b", record { order = Some (pos 5); pass_at_end = true }) ∷ (codes "c", order (Some (pos 6))) ∷ []
+
+abbrev two_in_one : List (PolicyId × KnownPolicy)
+two_in_one =
+    (gnp (codes "p"), both_ways (codes "1") (codes "b") None)
+    ∷ (gnp (codes "q"), both_ways (codes "2") (codes "c") None)
+    ∷ (gnp (codes "r"), both_ways (codes "3") (codes "b") (Some (pos 1)))
+    ∷ []
+
+pub passes_at_its_end : tiers_for (inputs one_passes two_in_one (with_web two_in_one)) Ingress web
+    ≡ passing (codes "b") (codes "3" ∷ codes "1" ∷ []) ∷ denying (codes "c") (codes "2" ∷ []) ∷ []
+passes_at_its_end = tiers-are one_passes two_in_one (with_web two_in_one) Ingress web

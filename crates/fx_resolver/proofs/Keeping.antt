@@ -9,7 +9,7 @@ use Rattle.fx_model.specs.Pairs.{PolicyPairs, put}
 use Rattle.fx_model.specs.Messages.{Named}
 use Rattle.fx_model.specs.declared.ids.ItemKey.{ItemKey}
 use Rattle.fx_model.specs.declared.ids.PolicyId.{PolicyId}
-use Rattle.fx_model.specs.declared.tier_order.Order.{Order}
+use Rattle.fx_model.specs.declared.tier_order.TierStand.{TierStand}
 use Rattle.fx_model.specs.declared.tier_order.PolicyPlace.{PolicyPlace}
 use Rattle.fx_model.specs.declared.view.ViewEndpoint.{ViewEndpoint}
 use Rattle.fx_model.specs.Directions.{Direction}
@@ -22,7 +22,7 @@ use Rattle.fx_resolver.specs.Indexes.{Ids, Items, is_in_tier, same_item}
 use Rattle.fx_resolver.specs.Kept.{IsKept}
 use Rattle.fx_resolver.specs.Known.{KnownPolicies, KnownEndpoints}
 use Rattle.fx_resolver.specs.Lists.{AllLists, AreLists, item_lists, list_of, moved, row_of, row_in}
-use Rattle.fx_resolver.specs.Placed.{Orders, at_place, placed, with_order}
+use Rattle.fx_resolver.specs.Placed.{TierStands, at_place, placed, with_stand}
 use Rattle.fx_resolver.specs.Resolved.{HaveOwnInterfaces}
 use Rattle.fx_resolver.specs.Rows.{IsToldBut, rows_by, with_row, without_row, if_other}
 use Rattle.fx_resolver.proofs.OrderLemmas.{same_orders, none_in, tier_moved, tier_idle}
@@ -50,8 +50,8 @@ unless b true h isnt = sym (h refl) ∙ isnt
 unless b false h isnt = refl
 
 -- lists that are as they are to be, and rows made from them
-module _ {orders : Orders} {policies : KnownPolicies} {pairs : PolicyPairs} {endpoints : KnownEndpoints} {was : Rows} (kept : IsKept orders policies pairs endpoints was) where
-  pub kept_anew : (orders' : Orders) (policies' : KnownPolicies) (pairs' : PolicyPairs) (lists : AllLists) (now : Rows) → AreLists orders' policies' pairs' lists → now.lists ≡ lists → now.told ≡ rows_by (row_in lists) endpoints
+module _ {orders : TierStands} {policies : KnownPolicies} {pairs : PolicyPairs} {endpoints : KnownEndpoints} {was : Rows} (kept : IsKept orders policies pairs endpoints was) where
+  pub kept_anew : (orders' : TierStands) (policies' : KnownPolicies) (pairs' : PolicyPairs) (lists : AllLists) (now : Rows) → AreLists orders' policies' pairs' lists → now.lists ≡ lists → now.told ≡ rows_by (row_in lists) endpoints
       → IsKept orders' policies' pairs' endpoints now
   kept_anew orders' policies' pairs' lists now are same told = record {
     lists_are = subst (AreLists orders' policies' pairs') (sym same) are;
@@ -64,11 +64,11 @@ module _ {orders : Orders} {policies : KnownPolicies} {pairs : PolicyPairs} {end
   untold but lists same = told_but endpoints kept.apart (row_in was.lists) (row_in lists) but was.told kept.told_is (λ i e isnt. ap (λ l. row_of l i e) (same i isnt))
 
   -- ---- a tier at another order
-  module _ (name : List ℕ) (after : Order) where
-    pub order_same : orders name ≡ after → IsKept (with_order orders name after) policies pairs endpoints was
-    order_same h = subst (λ (o : Orders). IsKept o policies pairs endpoints was) (same_orders orders name after h) kept
+  module _ (name : List ℕ) (after : TierStand) where
+    pub order_same : orders name ≡ after → IsKept (with_stand orders name after) policies pairs endpoints was
+    order_same h = subst (λ (o : TierStands). IsKept o policies pairs endpoints was) (same_orders orders name after h) kept
 
-    pub order_none : ((id : PolicyId) → is_in_tier name (map.get policies id) ≡ false) → IsKept (with_order orders name after) policies pairs endpoints was
+    pub order_none : ((id : PolicyId) → is_in_tier name (map.get policies id) ≡ false) → IsKept (with_stand orders name after) policies pairs endpoints was
     order_none none = record { lists_are = none_in orders policies pairs name after was.lists none kept.lists_are; told_is = kept.told_is; apart = kept.apart }
 
     module _ (ids : Ids) (own : (id : PolicyId) → set.contains ids id ≡ is_in_tier name (map.get policies id)) (lists : AllLists)
@@ -77,8 +77,8 @@ module _ {orders : Orders} {policies : KnownPolicies} {pairs : PolicyPairs} {end
       order_untold items covers = untold (set.contains items) lists (λ i isnt.
           tier_idle orders policies pairs name ids own was.lists kept.lists_are after lists moves i (λ id is. unless (set.contains items i) (set.contains pairs (id, i)) (covers id i is) isnt))
 
-      pub order_kept : (now : Rows) → now.lists ≡ lists → now.told ≡ rows_by (row_in lists) endpoints → IsKept (with_order orders name after) policies pairs endpoints now
-      order_kept now same told = kept_anew (with_order orders name after) policies pairs lists now (tier_moved orders policies pairs name ids own was.lists kept.lists_are after lists moves) same told
+      pub order_kept : (now : Rows) → now.lists ≡ lists → now.told ≡ rows_by (row_in lists) endpoints → IsKept (with_stand orders name after) policies pairs endpoints now
+      order_kept now same told = kept_anew (with_stand orders name after) policies pairs lists now (tier_moved orders policies pairs name ids own was.lists kept.lists_are after lists moves) same told
 
   -- ---- a policy that changes
   module _ (id : PolicyId) (o : Option KnownPolicy) (lists : AllLists) (keys : ItemKey → Bool) (own : (i : ItemKey) → keys i ≡ set.contains pairs (id, i))

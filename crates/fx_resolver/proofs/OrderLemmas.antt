@@ -12,7 +12,7 @@ use Rattle.fx_base.proofs.Walk.{IsRest, IsRest-start, IsRest-next, IsRest-head, 
 use Rattle.fx_model.specs.Pairs.{PolicyPairs}
 use Rattle.fx_model.specs.declared.ids.ItemKey.{ItemKey}
 use Rattle.fx_model.specs.declared.ids.PolicyId.{PolicyId}
-use Rattle.fx_model.specs.declared.tier_order.Order.{Order}
+use Rattle.fx_model.specs.declared.tier_order.TierStand.{TierStand}
 use Rattle.fx_model.specs.declared.tier_order.PolicyPlace.{PolicyPlace}
 use Rattle.fx_model.specs.contracts.ids.ItemKeyOrd.TheImpl as item_cmp
 use Rattle.fx_model.specs.contracts.ids.PolicyIdOrd.TheImpl as policy_cmp
@@ -24,7 +24,7 @@ use Rattle.fx_resolver.specs.declared.placed.PlacedPolicy.{PlacedPolicy}
 use Rattle.fx_resolver.specs.Indexes.{Ids, Items, same_id, same_item, same_text, is_in_tier}
 use Rattle.fx_resolver.specs.Known.{KnownPolicies}
 use Rattle.fx_resolver.specs.Lists.{AllLists, AreLists, item_lists, list_of, moved}
-use Rattle.fx_resolver.specs.Placed.{Orders, placed, shown, at_place, with_order}
+use Rattle.fx_resolver.specs.Placed.{TierStands, placed, shown, at_place, with_stand}
 use Rattle.fx_resolver.proofs.Keyed.{one_key, own_key, at_key}
 use Rattle.fx_resolver.proofs.Moves.{get_moved}
 use Rattle.fx_resolver.proofs.Placing.{own_place, at_own}
@@ -41,39 +41,39 @@ swapped : (t u : List ℕ) → same_text t u ≡ same_text u t
 swapped t u = (eq_by_cmp_equiv nat_list_cmp_total).symm t u
 
 -- a tier that stands at this order already
-pub same_orders : (orders : Orders) (name : List ℕ) (at : Order) → orders name ≡ at → orders ≡ with_order orders name at
+pub same_orders : (orders : TierStands) (name : List ℕ) (at : TierStand) → orders name ≡ at → orders ≡ with_stand orders name at
 same_orders orders name at h = λ j t. sym (at_key bytes_exact orders name t at h) j
 
-module _ (orders : Orders) (name : List ℕ) (at : Order) (id : PolicyId) where
+module _ (orders : TierStands) (name : List ℕ) (at : TierStand) (id : PolicyId) where
   -- a policy of the tier, and one of another tier
-  placed_in : (o : Option KnownPolicy) → is_in_tier name o ≡ true → placed (with_order orders name at) id o ≡ placed (λ _. at) id o
+  placed_in : (o : Option KnownPolicy) → is_in_tier name o ≡ true → placed (with_stand orders name at) id o ≡ placed (λ _. at) id o
   placed_in None h = cc
   placed_in (Some p) h = ap (λ b. placed (λ _. cond b at (orders p.tier)) id (Some p)) (swapped p.tier name ∙ h)
 
-  placed_other : (o : Option KnownPolicy) → is_in_tier name o ≡ false → placed (with_order orders name at) id o ≡ placed orders id o
+  placed_other : (o : Option KnownPolicy) → is_in_tier name o ≡ false → placed (with_stand orders name at) id o ≡ placed orders id o
   placed_other None h = refl
   placed_other (Some p) h = ap (λ b. placed (λ _. cond b at (orders p.tier)) id (Some p)) (swapped p.tier name ∙ h)
 
-placed_by : (orders : Orders) (name : List ℕ) (at : Order) → orders name ≡ at → (id : PolicyId) (o : Option KnownPolicy) → is_in_tier name o ≡ true → placed orders id o ≡ placed (λ _. at) id o
-placed_by orders name at h id o is = ap (λ (f : Orders). placed f id o) (same_orders orders name at h) ∙ placed_in orders name at id o is
+placed_by : (orders : TierStands) (name : List ℕ) (at : TierStand) → orders name ≡ at → (id : PolicyId) (o : Option KnownPolicy) → is_in_tier name o ≡ true → placed orders id o ≡ placed (λ _. at) id o
+placed_by orders name at h id o is = ap (λ (f : TierStands). placed f id o) (same_orders orders name at h) ∙ placed_in orders name at id o is
 
-module _ (orders : Orders) (policies : KnownPolicies) (pairs : PolicyPairs) (name : List ℕ) where
+module _ (orders : TierStands) (policies : KnownPolicies) (pairs : PolicyPairs) (name : List ℕ) where
   -- without a policy in the tier, no place changes
-  pub none_in : (at : Order) (lists : AllLists) → ((id : PolicyId) → is_in_tier name (map.get policies id) ≡ false) → AreLists orders policies pairs lists → AreLists (with_order orders name at) policies pairs lists
+  pub none_in : (at : TierStand) (lists : AllLists) → ((id : PolicyId) → is_in_tier name (map.get policies id) ≡ false) → AreLists orders policies pairs lists → AreLists (with_stand orders name at) policies pairs lists
   none_in at lists none are d i q =
       are d i q ∙ ap (λ o. cond (set.contains pairs (q.id, i)) (shown d o q) None) (sym (placed_other orders name at q.id (map.get policies q.id) (none q.id)))
 
   module _ (ids : Ids) (own : (id : PolicyId) → set.contains ids id ≡ is_in_tier name (map.get policies id)) (lists : AllLists) (are : AreLists orders policies pairs lists) where
     -- the places of the tier's policies before
-    pub places_before : (before : Order) → orders name ≡ before → (d : Direction) (i : ItemKey) (q : PolicyPlace) → set.contains ids q.id ≡ true → map.get (list_of d (item_lists lists i)) q ≡ at_place (λ _. before) policies pairs d i q
+    pub places_before : (before : TierStand) → orders name ≡ before → (d : Direction) (i : ItemKey) (q : PolicyPlace) → set.contains ids q.id ≡ true → map.get (list_of d (item_lists lists i)) q ≡ at_place (λ _. before) policies pairs d i q
     places_before before h d i q is =
         are d i q ∙ ap (λ o. cond (set.contains pairs (q.id, i)) (shown d o q) None) (placed_by orders name before h q.id (map.get policies q.id) (sym (own q.id) ∙ is))
 
-    module _ (after : Order) (now : AllLists) (moves : (d : Direction) (i : ItemKey) (q : PolicyPlace) → map.get (list_of d (item_lists now i)) q ≡ cond (set.contains ids q.id) (at_place (λ _. after) policies pairs d i q) (map.get (list_of d (item_lists lists i)) q)) where
-      pub tier_moved : AreLists (with_order orders name after) policies pairs now
+    module _ (after : TierStand) (now : AllLists) (moves : (d : Direction) (i : ItemKey) (q : PolicyPlace) → map.get (list_of d (item_lists now i)) q ≡ cond (set.contains ids q.id) (at_place (λ _. after) policies pairs d i q) (map.get (list_of d (item_lists lists i)) q)) where
+      pub tier_moved : AreLists (with_stand orders name after) policies pairs now
       tier_moved d i q =
           moves d i q
-          ∙ elim (set.contains ids q.id) as (λ b. set.contains ids q.id ≡ b → cond b (at_place (λ _. after) policies pairs d i q) (map.get (list_of d (item_lists lists i)) q) ≡ at_place (with_order orders name after) policies pairs d i q) [
+          ∙ elim (set.contains ids q.id) as (λ b. set.contains ids q.id ≡ b → cond b (at_place (λ _. after) policies pairs d i q) (map.get (list_of d (item_lists lists i)) q) ≡ at_place (with_stand orders name after) policies pairs d i q) [
             | true ↦ λ h. ap (λ o. cond (set.contains pairs (q.id, i)) (shown d o q) None) (sym (placed_in orders name after q.id (map.get policies q.id) (sym (own q.id) ∙ h)))
             | false ↦ λ h. are d i q ∙ ap (λ o. cond (set.contains pairs (q.id, i)) (shown d o q) None) (sym (placed_other orders name after q.id (map.get policies q.id) (sym (own q.id) ∙ h)))
           ] refl
@@ -96,13 +96,13 @@ as_it_was true x y = refl
 as_it_was false x y = refl
 
 -- at the places of the policies that are left stands what stood there before the walk, at those of the others what is to stand there
-pub record IsHalfReordered (after : Order) (policies : KnownPolicies) (pairs : PolicyPairs) (ids : Ids) (lists now : AllLists) (es : List (PolicyId × Unit {0})) : Type 0 where
+pub record IsHalfReordered (after : TierStand) (policies : KnownPolicies) (pairs : PolicyPairs) (ids : Ids) (lists now : AllLists) (es : List (PolicyId × Unit {0})) : Type 0 where
   pub rest : IsRest ids es
   pub at : (d : Direction) (i : ItemKey) (q : PolicyPlace) → map.get (list_of d (item_lists now i)) q
       ≡ cond (is_some (map.find policy_cmp.cmp-value.it q.id es)) (map.get (list_of d (item_lists lists i)) q)
       (cond (set.contains ids q.id) (at_place (λ _. after) policies pairs d i q) (map.get (list_of d (item_lists lists i)) q))
 
-module _ (before after : Order) (policies : KnownPolicies) (pairs : PolicyPairs) (ids : Ids) (lists : AllLists)
+module _ (before after : TierStand) (policies : KnownPolicies) (pairs : PolicyPairs) (ids : Ids) (lists : AllLists)
     (were : (d : Direction) (i : ItemKey) (q : PolicyPlace) → set.contains ids q.id ≡ true → map.get (list_of d (item_lists lists i)) q ≡ at_place (λ _. before) policies pairs d i q) where
   pub reordered_start : IsHalfReordered after policies pairs ids lists lists (map.entries ids)
   reordered_start = record {
@@ -175,7 +175,7 @@ module _ (before after : Order) (policies : KnownPolicies) (pairs : PolicyPairs)
               h.at d i q ∙ ap (λ b. cond (is_some (cond b (Some e.1) (map.find policy_cmp.cmp-value.it q.id es))) (map.get (list_of d (item_lists lists i)) q) (cond (set.contains ids q.id) (at_place (λ _. after) policies pairs d i q) (map.get (list_of d (item_lists lists i)) q))) other
 
 -- a policy that isn't there moves nowhere
-pub nowhere : (before after : Order) (id : PolicyId) (o : Option KnownPolicy) → o ≡ None → (b : Bool) (l : ItemLists) → l ≡ cond b (moved (placed (λ _. before) id o) (placed (λ _. after) id o) l) l
+pub nowhere : (before after : TierStand) (id : PolicyId) (o : Option KnownPolicy) → o ≡ None → (b : Bool) (l : ItemLists) → l ≡ cond b (moved (placed (λ _. before) id o) (placed (λ _. after) id o) l) l
 nowhere before after id o none b l =
     unmoved b ∙ ap (λ p. cond b (moved (placed (λ _. before) id p) (placed (λ _. after) id p) l) l) (sym none)
   where

@@ -6,7 +6,7 @@ use Rattle.fx_base.specs.Set as set
 use Rattle.fx_model.specs.Pairs.{PolicyPairs, put}
 use Rattle.fx_model.specs.declared.ids.ItemKey.{ItemKey}
 use Rattle.fx_model.specs.declared.ids.PolicyId.{PolicyId}
-use Rattle.fx_model.specs.declared.tier_order.Order.{Order}
+use Rattle.fx_model.specs.declared.tier_order.TierStand.{TierStand}
 use Rattle.fx_model.specs.declared.tier_order.PolicyPlace.{PolicyPlace}
 use Rattle.fx_model.specs.Directions.{Direction}
 use Rattle.fx_model.proofs.Orders.{policy_total, exact_policy, exact_item}
@@ -17,11 +17,11 @@ use Rattle.fx_resolver.specs.declared.placed.PlacedPolicy.{PlacedPolicy}
 use Rattle.fx_resolver.specs.Indexes.{same_id, same_item, has_key}
 use Rattle.fx_resolver.specs.Known.{KnownPolicies}
 use Rattle.fx_resolver.specs.Lists.{AllLists, AreLists, item_lists, list_of, moved}
-use Rattle.fx_resolver.specs.Placed.{Orders, placed, shown, at_place}
+use Rattle.fx_resolver.specs.Placed.{TierStands, placed, shown, at_place}
 use Rattle.fx_resolver.proofs.Keyed.{one_key, at_key}
 use Rattle.fx_resolver.proofs.Moves.{HasId, get_moved, not_shown}
 
-pub own_place : (orders : Orders) (id : PolicyId) (o : Option KnownPolicy) → HasId id (placed orders id o)
+pub own_place : (orders : TierStands) (id : PolicyId) (o : Option KnownPolicy) → HasId id (placed orders id o)
 own_place orders id None = tt
 own_place orders id (Some p) = refl
 
@@ -29,13 +29,13 @@ get_either : (policies : KnownPolicies) (id : PolicyId) (o : Option KnownPolicy)
 get_either policies id (Some p) q = map.get-insert policy_total policies id p q
 get_either policies id None q = map.get-remove policy_total policies id q
 
-module _ (orders : Orders) (policies : KnownPolicies) (pairs : PolicyPairs) (d : Direction) (i : ItemKey) where
+module _ (orders : TierStands) (policies : KnownPolicies) (pairs : PolicyPairs) (d : Direction) (i : ItemKey) where
   -- what stands at the places of one policy
   pub at_own : (id : PolicyId) (q : PolicyPlace) → same_id q.id id ≡ true → at_place orders policies pairs d i q ≡ cond (set.contains pairs (id, i)) (shown d (placed orders id (map.get policies id)) q) None
   at_own id q h = ap (λ (u : PolicyId). cond (set.contains pairs (u, i)) (shown d (placed orders u (map.get policies u)) q) None) (one_key exact_policy q.id id h)
 
 -- ---- a policy that changes
-module _ (orders : Orders) (policies : KnownPolicies) (pairs : PolicyPairs) (id : PolicyId) (o : Option KnownPolicy) (lists now : AllLists) where
+module _ (orders : TierStands) (policies : KnownPolicies) (pairs : PolicyPairs) (id : PolicyId) (o : Option KnownPolicy) (lists now : AllLists) where
   abbrev before : Option PlacedPolicy
   before = placed orders id (map.get policies id)
 
@@ -81,7 +81,7 @@ module _ (orders : Orders) (policies : KnownPolicies) (pairs : PolicyPairs) (id 
     policy_idle i isnt = moves i ∙ ap (λ b. cond b (moved before after (item_lists lists i)) (item_lists lists i)) isnt
 
 -- ---- a pair that is added or removed
-module _ (orders : Orders) (policies : KnownPolicies) (pairs : PolicyPairs) (id : PolicyId) (item : ItemKey) (added : Bool) where
+module _ (orders : TierStands) (policies : KnownPolicies) (pairs : PolicyPairs) (id : PolicyId) (item : ItemKey) (added : Bool) where
   abbrev own : Option PlacedPolicy
   own = placed orders id (map.get policies id)
 

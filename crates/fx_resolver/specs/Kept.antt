@@ -5,15 +5,15 @@ use Rattle.fx_resolver.specs.declared.rows.Rows.{Rows}
 use Rattle.fx_resolver.specs.declared.state.State.{State}
 use Rattle.fx_resolver.specs.Known.{KnownPolicies, KnownEndpoints}
 use Rattle.fx_resolver.specs.Lists.{AreLists, row_in}
-use Rattle.fx_resolver.specs.Placed.{Orders, orders_of}
+use Rattle.fx_resolver.specs.Placed.{TierStands, stands_of}
 use Rattle.fx_resolver.specs.Resolved.{HaveOwnInterfaces}
 use Rattle.fx_resolver.specs.Rows.{rows_by}
 
 -- the lists are those of these orders, policies and pairs, and the rows that were told are made from them
-pub record IsKept (orders : Orders) (policies : KnownPolicies) (pairs : PolicyPairs) (endpoints : KnownEndpoints) (rows : Rows) : Type 0 where
+pub record IsKept (orders : TierStands) (policies : KnownPolicies) (pairs : PolicyPairs) (endpoints : KnownEndpoints) (rows : Rows) : Type 0 where
   pub lists_are : AreLists orders policies pairs rows.lists
   pub told_is : rows.told ≡ rows_by (row_in rows.lists) endpoints
   pub apart : HaveOwnInterfaces endpoints
 
 abbrev pub IsKeptState : State → Type 0
-IsKeptState s = IsKept (orders_of s.inputs.tiers) s.inputs.policies s.inputs.pairs s.inputs.endpoints s.rows
+IsKeptState s = IsKept (stands_of s.inputs.tiers) s.inputs.policies s.inputs.pairs s.inputs.endpoints s.rows

@@ -14,7 +14,7 @@ use Rattle.fx_resolver.specs.declared.known.KnownEndpoint.{KnownEndpoint}
 use Rattle.fx_resolver.specs.declared.lists.ItemLists.{ItemLists}
 use Rattle.fx_resolver.specs.declared.placed.PlacedPolicy.{PlacedPolicy}
 use Rattle.fx_resolver.specs.Known.{KnownPolicies}
-use Rattle.fx_resolver.specs.Placed.{Orders, is_placed_on, at_place}
+use Rattle.fx_resolver.specs.Placed.{TierStands, is_placed_on, at_place}
 
 -- keys of policies by their places
 abbrev pub Keys : Type 0
@@ -57,7 +57,7 @@ moved before after l = with_policy after (without before l)
 -- ---- all lists
 
 -- each place of each list has what is to stand there
-abbrev pub AreLists : Orders → KnownPolicies → PolicyPairs → AllLists → Type 0
+abbrev pub AreLists : TierStands → KnownPolicies → PolicyPairs → AllLists → Type 0
 AreLists orders policies pairs lists = (d : Direction) (i : ItemKey) (q : PolicyPlace) → maps.get (list_of d (item_lists lists i)) q ≡ at_place orders policies pairs d i q
 
 -- an endpoint with the tiers of these lists

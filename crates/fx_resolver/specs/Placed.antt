@@ -6,11 +6,11 @@ use Rattle.fx_base.specs.Set as set
 use Rattle.fx_model.specs.Pairs.{PolicyPairs}
 use Rattle.fx_model.specs.declared.ids.ItemKey.{ItemKey}
 use Rattle.fx_model.specs.declared.ids.PolicyId.{PolicyId}
-use Rattle.fx_model.specs.declared.tier_order.Order.{Order}
+use Rattle.fx_model.specs.declared.tier_order.TierStand.{TierStand}
 use Rattle.fx_model.specs.declared.tier_order.PolicyPlace.{PolicyPlace}
 use Rattle.fx_model.specs.contracts.tier_order.PolicyPlaceOrd.TheImpl as place_cmp
 use Rattle.fx_model.specs.Directions.{Direction, Ingress, Egress}
-use Rattle.fx_model.specs.TierOrder.{Tiers, tier_order, policy_place}
+use Rattle.fx_model.specs.TierOrder.{Tiers, tier_stand, policy_place}
 use Rattle.fx_resolver.specs.declared.known.KnownPolicy.{KnownPolicy}
 use Rattle.fx_resolver.specs.declared.placed.PlacedPolicy.{PlacedPolicy}
 use Rattle.fx_resolver.specs.Indexes.{same_text}
@@ -19,23 +19,23 @@ use Rattle.fx_resolver.specs.Known.{KnownPolicies}
 abbrev pub same_place : PolicyPlace → PolicyPlace → Bool
 same_place q r = eq_by_cmp place_cmp.cmp-value.it q r
 
--- at which orders tiers stand, by their names
-abbrev pub Orders : Type 0
-Orders = List ℕ → Order
+-- how tiers stand, by their names
+abbrev pub TierStands : Type 0
+TierStands = List ℕ → TierStand
 
-abbrev pub orders_of : Tiers → Orders
-orders_of tiers name = tier_order (maps.get tiers name)
+abbrev pub stands_of : Tiers → TierStands
+stands_of tiers name = tier_stand (maps.get tiers name)
 
--- one tier stands at this order
-abbrev pub with_order : Orders → List ℕ → Order → Orders
-with_order orders name at t = cond (same_text t name) at (orders t)
+-- one tier stands so
+abbrev pub with_stand : TierStands → List ℕ → TierStand → TierStands
+with_stand orders name at t = cond (same_text t name) at (orders t)
 
--- a policy whose tier stands at this order
-abbrev pub placed_at : Order → PolicyId → KnownPolicy → PlacedPolicy
+-- a policy whose tier stands so
+abbrev pub placed_at : TierStand → PolicyId → KnownPolicy → PlacedPolicy
 placed_at at id p = record { place = policy_place at p.tier p.order id; key = p.key; on_ingress = p.on_ingress; on_egress = p.on_egress }
 
 -- a policy that may be absent, at its place
-abbrev pub placed : Orders → PolicyId → Option KnownPolicy → Option PlacedPolicy
+abbrev pub placed : TierStands → PolicyId → Option KnownPolicy → Option PlacedPolicy
 placed orders id None = None
 placed orders id (Some p) = Some (placed_at (orders p.tier) id p)
 
@@ -49,5 +49,5 @@ shown d None q = None
 shown d (Some p) q = cond (is_placed_on d p && same_place q p.place) (Some p.key) None
 
 -- what stands at a place for an item: what the policy that the place names puts there, if it applies to the item
-abbrev pub at_place : Orders → KnownPolicies → PolicyPairs → Direction → ItemKey → PolicyPlace → Option (List ℕ)
+abbrev pub at_place : TierStands → KnownPolicies → PolicyPairs → Direction → ItemKey → PolicyPlace → Option (List ℕ)
 at_place orders policies pairs d i q = cond (set.contains pairs (q.id, i)) (shown d (placed orders q.id (maps.get policies q.id)) q) None

@@ -12,7 +12,7 @@ use Rattle.fx_model.specs.declared.view.ViewTier.{ViewTier}
 use Rattle.fx_model.specs.declared.view.ViewEndpoint.{ViewEndpoint}
 use Rattle.fx_model.specs.Directions.{Direction, Ingress, Egress}
 use Rattle.fx_model.specs.Messages.{Named}
-use Rattle.fx_model.specs.TierOrder.{tier_order, policy_place, tiers_of, view_tier}
+use Rattle.fx_model.specs.TierOrder.{tier_stand, policy_place, tiers_of, view_tier}
 use Rattle.fx_model.specs.Views.{namespace_of, item_name}
 use Rattle.fx_resolver.specs.declared.inputs.Inputs.{Inputs}
 use Rattle.fx_resolver.specs.declared.known.KnownPolicy.{KnownPolicy}
@@ -29,7 +29,7 @@ applies_to n d i x = is_on d x.1 && set.contains n.pairs (x.0, i)
 
 -- the policy's key at its place
 abbrev pub key_in_place : Inputs → PolicyId × KnownPolicy → PolicyPlace × List ℕ
-key_in_place n x = (policy_place (tier_order (maps.get n.tiers x.1.tier)) x.1.tier x.1.order x.0, x.1.key)
+key_in_place n x = (policy_place (tier_stand (maps.get n.tiers x.1.tier)) x.1.tier x.1.order x.0, x.1.key)
 
 -- the keys of the policies that apply to an item in a direction, at their places
 abbrev pub keys_for : Inputs → Direction → ItemKey → List (PolicyPlace × List ℕ)

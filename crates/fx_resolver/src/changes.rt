@@ -6,7 +6,7 @@ ghost use Rattle.fx_base.specs.Extended.{put_or_removed};
 ghost use Rattle.fx_base.specs.Set as set;
 ghost use Rattle.fx_model.specs.Pairs.{put};
 ghost use Rattle.fx_resolver.specs.Kept.{IsKept};
-ghost use Rattle.fx_resolver.specs.Placed.{orders_of};
+ghost use Rattle.fx_resolver.specs.Placed.{stands_of};
 ghost use Rattle.fx_resolver.specs.Resolved.{HaveOwnInterfaces};
 ghost use Rattle.fx_resolver.specs.Rows.{if_other};
 
@@ -16,7 +16,7 @@ use crate::lists::{move_in_item, move_in_items};
 use crate::placed::{place_in_tiers, place_policy};
 use crate::rows::{Rows, row_in, tell_item, tell_items, tell_row, withdraw};
 use fx_base::{Memory, Text};
-use fx_model::{ItemKey, Order, PolicyId, ViewSink};
+use fx_model::{ItemKey, PolicyId, TierStand, ViewSink};
 use std::alloc::Global;
 
 /// Moves a policy that changes in the lists of the items to which it applies, and tells these. It may be absent then.
@@ -28,9 +28,9 @@ pub fn change_policy<S: ViewSink>(
     rows: &mut Rows,
     sink: &mut S,
 ) -> Result<(), Memory>
-    requires kept { IsKept (orders_of inputs.now.tiers) inputs.now.policies inputs.now.pairs inputs.now.endpoints rows.old }
+    requires kept { IsKept (stands_of inputs.now.tiers) inputs.now.policies inputs.now.pairs inputs.now.endpoints rows.old }
     requires sink { S.endpoints sink.old ≡ rows.old.told }
-    ensures kept { OnOk result (IsKept (orders_of inputs.now.tiers)
+    ensures kept { OnOk result (IsKept (stands_of inputs.now.tiers)
         (put_or_removed inputs.now.policies id.now (option_copied after.entry)) inputs.now.pairs
         inputs.now.endpoints rows.new) }
     ensures endpoints { OnOk result (S.endpoints sink.new ≡ rows.new.told) }
@@ -56,9 +56,9 @@ pub fn change_pair<S: ViewSink>(
     sink: &mut S,
 ) -> Result<(), Memory>
     requires pair { set.contains inputs.now.pairs (id.now, item.now) ≡ not added }
-    requires kept { IsKept (orders_of inputs.now.tiers) inputs.now.policies inputs.now.pairs inputs.now.endpoints rows.old }
+    requires kept { IsKept (stands_of inputs.now.tiers) inputs.now.policies inputs.now.pairs inputs.now.endpoints rows.old }
     requires sink { S.endpoints sink.old ≡ rows.old.told }
-    ensures kept { OnOk result (IsKept (orders_of inputs.now.tiers) inputs.now.policies
+    ensures kept { OnOk result (IsKept (stands_of inputs.now.tiers) inputs.now.policies
         (put inputs.now.pairs (id.now, item.now) added) inputs.now.endpoints rows.new) }
     ensures endpoints { OnOk result (S.endpoints sink.new ≡ rows.new.told) }
     ensures policies { OnOk result (S.policies sink.new ≡ S.policies sink.old) }
@@ -67,8 +67,8 @@ pub fn change_pair<S: ViewSink>(
     let Some(policy) = inputs.policies.get(id) else {
         return Ok(());
     };
-    let order = Order::of_tier(inputs.tiers.get(&policy.tier));
-    let placed = place_policy(alloc, order, id, policy)?;
+    let stand = TierStand::of_tier(inputs.tiers.get(&policy.tier));
+    let placed = place_policy(alloc, stand, id, policy)?;
     let from = (!added).then_some(&placed);
     let to = added.then_some(&placed);
     move_in_item(alloc, item, from, to, &mut rows.lists)?;
@@ -86,9 +86,9 @@ pub fn put_row<S: ViewSink>(
     sink: &mut S,
 ) -> Result<(), Memory>
     requires apart { HaveOwnInterfaces (map.insert inputs.now.endpoints item.now endpoint.now) }
-    requires kept { IsKept (orders_of inputs.now.tiers) inputs.now.policies inputs.now.pairs inputs.now.endpoints rows.old }
+    requires kept { IsKept (stands_of inputs.now.tiers) inputs.now.policies inputs.now.pairs inputs.now.endpoints rows.old }
     requires sink { S.endpoints sink.old ≡ rows.old.told }
-    ensures kept { OnOk result (IsKept (orders_of inputs.now.tiers) inputs.now.policies inputs.now.pairs
+    ensures kept { OnOk result (IsKept (stands_of inputs.now.tiers) inputs.now.policies inputs.now.pairs
         (map.insert inputs.now.endpoints item.now endpoint.now) rows.new) }
     ensures endpoints { OnOk result (S.endpoints sink.new ≡ rows.new.told) }
     ensures policies { OnOk result (S.policies sink.new ≡ S.policies sink.old) }
@@ -118,9 +118,9 @@ pub fn remove_row<S: ViewSink>(
     rows: &mut Rows,
     sink: &mut S,
 ) -> Result<(), Memory>
-    requires kept { IsKept (orders_of inputs.now.tiers) inputs.now.policies inputs.now.pairs inputs.now.endpoints rows.old }
+    requires kept { IsKept (stands_of inputs.now.tiers) inputs.now.policies inputs.now.pairs inputs.now.endpoints rows.old }
     requires sink { S.endpoints sink.old ≡ rows.old.told }
-    ensures kept { OnOk result (IsKept (orders_of inputs.now.tiers) inputs.now.policies inputs.now.pairs
+    ensures kept { OnOk result (IsKept (stands_of inputs.now.tiers) inputs.now.policies inputs.now.pairs
         (map.remove inputs.now.endpoints item.now) rows.new) }
     ensures endpoints { OnOk result (S.endpoints sink.new ≡ rows.new.told) }
     ensures policies { OnOk result (S.policies sink.new ≡ S.policies sink.old) }

@@ -1,4 +1,4 @@
-//! What the sink is told where a tier comes to stand at another order.
+//! What the sink is told where a tier comes to stand otherwise: at another order, or with another action at its end.
 ghost use Rattle.std.specs.Prelude.{◌≡◌, IfOk, OnOk, cond, true, ◌||◌};
 ghost use Rattle.std.specs.Option.{option_copied};
 ghost use Rattle.std.specs.FinMap as map;
@@ -10,7 +10,7 @@ ghost use Rattle.fx_model.specs.Directions.{Direction};
 ghost use Rattle.fx_resolver.specs.Indexes.{has_key};
 ghost use Rattle.fx_resolver.specs.Kept.{IsKept};
 ghost use Rattle.fx_resolver.specs.Lists.{item_lists, list_of, moved};
-ghost use Rattle.fx_resolver.specs.Placed.{at_place, orders_of, placed, with_order};
+ghost use Rattle.fx_resolver.specs.Placed.{at_place, stands_of, placed, with_stand};
 
 use crate::inputs::Inputs;
 use crate::lists::{ItemLists, move_in_items};
@@ -18,27 +18,27 @@ use crate::pairs::PairIndex;
 use crate::placed::place_policy;
 use crate::rows::{Rows, tell_items};
 use fx_base::{Memory, Text};
-use fx_model::{ItemMap, Order, PolicyId, PolicyMap, ViewSink};
+use fx_model::{ItemMap, PolicyId, PolicyMap, TierStand, ViewSink};
 use std::alloc::Global;
 
-/// Moves the policies of a tier to where they stand if it stands at this order, and tells the items to which they apply.
+/// Moves the policies of a tier to where they stand if it stands so, and tells the items to which they apply.
 pub fn change_order<S: ViewSink>(
     alloc: Global,
     inputs: &Inputs,
     name: &Text,
-    after: Order,
+    after: TierStand,
     rows: &mut Rows,
     sink: &mut S,
 ) -> Result<(), Memory>
-    requires kept { IsKept (orders_of inputs.now.tiers) inputs.now.policies inputs.now.pairs inputs.now.endpoints rows.old }
+    requires kept { IsKept (stands_of inputs.now.tiers) inputs.now.policies inputs.now.pairs inputs.now.endpoints rows.old }
     requires sink { S.endpoints sink.old ≡ rows.old.told }
-    ensures kept { OnOk result (IsKept (with_order (orders_of inputs.now.tiers) name.now after) inputs.now.policies
+    ensures kept { OnOk result (IsKept (with_stand (stands_of inputs.now.tiers) name.now after) inputs.now.policies
         inputs.now.pairs inputs.now.endpoints rows.new) }
     ensures endpoints { OnOk result (S.endpoints sink.new ≡ rows.new.told) }
     ensures policies { OnOk result (S.policies sink.new ≡ S.policies sink.old) }
     ensures profiles { OnOk result (S.profiles sink.new ≡ S.profiles sink.old) }
 {
-    let before = Order::of_tier(inputs.tiers.get(name));
+    let before = TierStand::of_tier(inputs.tiers.get(name));
     if before == after {
         return Ok(());
     }
@@ -51,13 +51,13 @@ pub fn change_order<S: ViewSink>(
     Ok(())
 }
 
-// Moves these policies from where they stand with a tier at one order to where they stand with a tier at another one.
+// Moves these policies from where they are with the tier as it stands to where they are with the tier as it will stand.
 fn move_ids(
     alloc: Global,
     inputs: &Inputs,
     ids: &PolicyMap<()>,
-    before: Order,
-    after: Order,
+    before: TierStand,
+    after: TierStand,
     lists: &mut ItemMap<ItemLists>,
 ) -> Result<(), Memory>
     requires { (d : Direction) (i : ItemKey) (q : PolicyPlace) → set.contains ids.now q.id ≡ true
@@ -78,8 +78,8 @@ fn move_id(
     alloc: Global,
     inputs: &Inputs,
     id: &PolicyId,
-    before: Order,
-    after: Order,
+    before: TierStand,
+    after: TierStand,
     lists: &mut ItemMap<ItemLists>,
 ) -> Result<(), Memory>
     ensures { OnOk result ((i : ItemKey) → item_lists lists.new i ≡ cond (set.contains inputs.now.pairs (id.now, i))

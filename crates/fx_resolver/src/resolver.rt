@@ -57,21 +57,23 @@ impl Resolver {
         &mut self,
         name: &Text,
         order: Option<i64>,
+        pass_at_end: bool,
         sink: &mut S,
     ) -> Result<(), Memory>
         requires { IsResolved self.old (S.endpoints sink.old) }
-        ensures inputs { OnOk result (self.new ≡ record self.old { tiers = map.insert self.old.tiers name.now (record { order = order }) }) }
+        ensures inputs { OnOk result (self.new ≡ record self.old { tiers = map.insert self.old.tiers name.now (record { order = order; pass_at_end = pass_at_end }) }) }
         ensures resolved { OnOk result (IsResolved self.new (S.endpoints sink.new)) }
         ensures policies { OnOk result (S.policies sink.new ≡ S.policies sink.old) }
         ensures profiles { OnOk result (S.profiles sink.new ≡ S.profiles sink.old) }
     {
         let mut state = mem::replace(&mut self.state, State::new(self.alloc));
-        state.put_tier(self.alloc, name, Tier { order }, sink)?;
+        let tier = Tier { order, pass_at_end };
+        state.put_tier(self.alloc, name, tier, sink)?;
         self.state = state;
         Ok(())
     }
 
-    /// Policies that name the tier stay in it, and it counts as one without an order.
+    /// Policies that name the tier stay in it, and it counts as one without an order, which denies at its end.
     pub fn remove_tier<S: ViewSink>(&mut self, name: &Text, sink: &mut S) -> Result<(), Memory>
         requires { IsResolved self.old (S.endpoints sink.old) }
         ensures inputs { OnOk result (self.new ≡ record self.old { tiers = map.remove self.old.tiers name.now }) }

@@ -11,7 +11,7 @@ use crate::known::{KnownEndpoint, KnownPolicy};
 use crate::orders::change_order;
 use crate::rows::Rows;
 use fx_base::{Memory, Text};
-use fx_model::{ItemKey, Order, PolicyId, Tier, ViewSink};
+use fx_model::{ItemKey, PolicyId, Tier, TierStand, ViewSink};
 use std::alloc::Global;
 
 /// What the node is told, and what it makes of that.
@@ -50,7 +50,7 @@ impl State {
         ensures policies { OnOk result (S.policies sink.new ≡ S.policies sink.old) }
         ensures profiles { OnOk result (S.profiles sink.new ≡ S.profiles sink.old) }
     {
-        let after = Order::of_tier(Some(&tier));
+        let after = TierStand::of_tier(Some(&tier));
         change_order(alloc, &self.inputs, name, after, &mut self.rows, sink)?;
         self.inputs.tiers.insert(name.clone()?, tier)?;
         Ok(())
@@ -72,7 +72,7 @@ impl State {
         ensures policies { OnOk result (S.policies sink.new ≡ S.policies sink.old) }
         ensures profiles { OnOk result (S.profiles sink.new ≡ S.profiles sink.old) }
     {
-        let after = Order::of_tier(None);
+        let after = TierStand::of_tier(None);
         change_order(alloc, &self.inputs, name, after, &mut self.rows, sink)?;
         self.inputs.tiers.remove(name);
         Ok(())

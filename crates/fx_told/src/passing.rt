@@ -8,7 +8,7 @@ ghost use Rattle.fx_parts.specs.Kept.{SameButSets};
 
 use fx_base::{Memory, NameKey, Text};
 use fx_members::Members;
-use fx_model::{Item, ItemKey};
+use fx_model::{Item, ItemKey, Tier};
 use fx_parts::{Beside, SetPart, ViewPart};
 use fx_resolver::Resolver;
 use fx_sequencer::Sequencer;
@@ -19,13 +19,13 @@ use std::mem;
 fn put_tier_by<K: Beside>(
     alloc: Global,
     name: &Text,
-    order: Option<i64>,
+    tier: &Tier,
     resolver: &mut Resolver,
     sequencer: &mut Sequencer,
 ) -> Result<(), Memory>
     requires stood { sequencer.old ≡ K.stood }
     requires resolved { IsResolved resolver.old sequencer.old.now.endpoints }
-    ensures inputs { OnOk result (resolver.new ≡ record resolver.old { tiers = map.insert resolver.old.tiers name.now (record { order = order }) }) }
+    ensures inputs { OnOk result (resolver.new ≡ record resolver.old { tiers = map.insert resolver.old.tiers name.now tier.now }) }
     ensures resolved { OnOk result (IsResolved resolver.new sequencer.new.now.endpoints) }
     ensures beside { OnOk result (SameSentAndSets sequencer.old sequencer.new) }
     ensures policies { OnOk result (sequencer.new.now.policies ≡ sequencer.old.now.policies) }
@@ -33,27 +33,27 @@ fn put_tier_by<K: Beside>(
 {
     let whole = mem::replace(sequencer, Sequencer::new(alloc));
     let mut part: ViewPart<K> = ViewPart::new(whole);
-    resolver.put_tier(name, order, &mut part)?;
+    resolver.put_tier(name, tier.order, tier.pass_at_end, &mut part)?;
     *sequencer = part.into_sequencer();
     Ok(())
 }
 
-/// Puts a tier with its order.
+/// Puts a tier.
 pub fn put_tier(
     alloc: Global,
     name: &Text,
-    order: Option<i64>,
+    tier: &Tier,
     resolver: &mut Resolver,
     sequencer: &mut Sequencer,
 ) -> Result<(), Memory>
     requires resolved { IsResolved resolver.old sequencer.old.now.endpoints }
-    ensures inputs { OnOk result (resolver.new ≡ record resolver.old { tiers = map.insert resolver.old.tiers name.now (record { order = order }) }) }
+    ensures inputs { OnOk result (resolver.new ≡ record resolver.old { tiers = map.insert resolver.old.tiers name.now tier.now }) }
     ensures resolved { OnOk result (IsResolved resolver.new sequencer.new.now.endpoints) }
     ensures beside { OnOk result (SameSentAndSets sequencer.old sequencer.new) }
     ensures policies { OnOk result (sequencer.new.now.policies ≡ sequencer.old.now.policies) }
     ensures profiles { OnOk result (sequencer.new.now.profiles ≡ sequencer.old.now.profiles) }
 {
-    put_tier_by::<Brand>(alloc, name, order, resolver, sequencer)?;
+    put_tier_by::<Brand>(alloc, name, tier, resolver, sequencer)?;
     Ok(())
 }
 

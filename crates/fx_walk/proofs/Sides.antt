@@ -29,10 +29,10 @@ use Rattle.fx_model.specs.declared.view.ViewEndpoint.{ViewEndpoint}
 use Rattle.fx_model.specs.Directions.{Direction, Ingress, Egress}
 use Rattle.fx_model.specs.Formed.{passes, is_formed_view_profile_rule}
 use Rattle.fx_model.specs.Rendering.{plain, tagged, is_set, is_clear, accept_mark, pass_mark, rendered_rules}
-use Rattle.fx_model.specs.Tables.{ChainName, Chains, Sets, forward, policy_chain, policy_rules, policy_jumps, policy_side, profile_chain, profile_rules, profile_jumps, profile_side, present_or_missing, tier_rules, tiers_side, endpoint_chain, endpoint_rules, end_of, root_of}
+use Rattle.fx_model.specs.Tables.{ChainName, Chains, Sets, forward, policy_chain, policy_rules, policy_jumps, policy_side, profile_chain, profile_rules, profile_jumps, profile_side, present_or_missing, pass_or_drop, tier_end, tier_rules, tiers_side, endpoint_chain, endpoint_rules, end_of, root_of}
 use Rattle.fx_model.specs.Machine.{holds, hold_all, marked, iface_at, state_in, rules_in, Reasons, with_reason, last_reason}
 use Rattle.fx_model.specs.Walk.{Onward, Ended, Dropped, Left, onward, after_jump, after_goto, over_rules, over_chain}
-use Rattle.fx_model.specs.Policy.{MetRule, Answer, Silent, Passed, Allowed, Denied, answer_of, first_answer, Decision, end_of_tier, after_policies, tiers_verdict, or_rest, profile_verdict, profiles_verdict, is_workload}
+use Rattle.fx_model.specs.Policy.{MetRule, Answer, Silent, Passed, Allowed, Denied, answer_of, first_answer, Decision, passed_or_denied, after_policies, tiers_verdict, or_rest, profile_verdict, profiles_verdict, is_workload}
 use Rattle.fx_model.specs.ViewPolicy.{met_view_rules, view_rule_matches, rules_of_policy, view_tier, missing_or_there, listed_of, view_listed, view_endpoint_verdict, HasFormedRules}
 use Rattle.fx_walk.proofs.Walks.{walk_hit, walk-end}
 use Rattle.fx_walk.proofs.Marks.{clear_same, clear_other, is_zero, is_not_zero}
@@ -182,35 +182,37 @@ module _ (a : Packet) (v : View) (chains : Chains) (given : Renders v chains) (f
 
     -- ---- tiers
 
-    abbrev end_rule : List ℕ → ChainRule
-    end_rule name = tagged (is_clear pass_mark ∷ []) target.Drop (reason.EndOfTier name)
-
-    -- behind a Pass the rest of the tier is gone over
-    passed_over : (d : Direction) (name : List ℕ) (keys : List (List ℕ)) (rest : List ChainRule) (p m : ℕ) (s : Reasons) → bit_at m 16 ≡ 0 → bit_at m 17 ≡ 1 → (q : ℕ) × (walk p (policy_jumps d keys ++ end_rule name ∷ rest) m s ≡ walk q rest m s)
-    passed_over d name [] rest p m s z o = (suc p, miss v.sets a (call (suc n)) c inner p (end_rule name) rest m s (only v.sets a m (is_clear pass_mark) false (is_not_zero v.sets a m 17 o)))
-    passed_over d name (key ∷ keys) rest p m s z o =
-        let y = passed_over d name keys rest (suc (suc p)) m s z o in (
+    -- behind a Pass the rest of the tier's policies is gone over
+    passed_over : (d : Direction) (keys : List (List ℕ)) (tail : List ChainRule) (p m : ℕ) (s : Reasons) → bit_at m 16 ≡ 0 → bit_at m 17 ≡ 1 → (q : ℕ) × (walk p (policy_jumps d keys ++ tail) m s ≡ walk q tail m s)
+    passed_over d [] tail p m s z o = (p, refl)
+    passed_over d (key ∷ keys) tail p m s z o =
+        let y = passed_over d keys tail (suc (suc p)) m s z o in (
           y.0,
-          miss v.sets a (call (suc n)) c inner p (plain (is_clear pass_mark ∷ []) (target.Jump (policy_chain d key))) (back ∷ (policy_jumps d keys ++ end_rule name ∷ rest)) m s (only v.sets a m (is_clear pass_mark) false (is_not_zero v.sets a m 17 o))
-              ∙ return_miss v.sets a (call (suc n)) c inner (suc p) (policy_jumps d keys ++ end_rule name ∷ rest) m s z ∙ y.1,
+          miss v.sets a (call (suc n)) c inner p (plain (is_clear pass_mark ∷ []) (target.Jump (policy_chain d key))) (back ∷ (policy_jumps d keys ++ tail)) m s (only v.sets a m (is_clear pass_mark) false (is_not_zero v.sets a m 17 o))
+              ∙ return_miss v.sets a (call (suc n)) c inner (suc p) (policy_jumps d keys ++ tail) m s z ∙ y.1,
         )
 
+    -- what stands behind a tier's policies concludes so where none of them passed, and so where one did
+    record IsTail (tail : List ChainRule) (end x : Decision) : Type 0 where
+      silent : (p m : ℕ) (s : Reasons) → bit_at m 16 ≡ 0 → bit_at m 17 ≡ 0 → ConcludesAs (walk p tail m s) s end
+      passed : (p m : ℕ) (s : Reasons) → bit_at m 16 ≡ 0 → bit_at m 17 ≡ 1 → ConcludesAs (walk p tail m s) s x
+
     -- after a policy's chain, in its tier
-    after_policy : (d : Direction) (name : List ℕ) (keys : List (List ℕ)) (rest : List ChainRule) (p : ℕ) (e : Ended Reasons) (m : ℕ) (s : Reasons) (x : Decision) (ans more : Answer) → bit_at m 16 ≡ 0 → bit_at m 17 ≡ 0 → EndsAs e m s ans
-        → ((k : ℕ) → bit_at k 16 ≡ 0 → bit_at k 17 ≡ 0 → ConcludesAs (walk (suc p) (policy_jumps d keys ++ end_rule name ∷ rest) k s) s (after_policies more (end_of_tier name) x))
-        → Concluding rest x
-        → ConcludesAs (back_after p (policy_jumps d keys ++ end_rule name ∷ rest) e) s (after_policies (or_answer ans more) (end_of_tier name) x)
-    after_policy d name keys rest p e m s x Silent more z y h next after =
-        concludes_from _ _ s _ (ap (back_after p (policy_jumps d keys ++ end_rule name ∷ rest)) h.1 ∙ return_miss v.sets a (call (suc n)) c inner p (policy_jumps d keys ++ end_rule name ∷ rest) h.0 s (h.2.accept ∙ z))
+    after_policy : (d : Direction) (keys : List (List ℕ)) (tail : List ChainRule) (p : ℕ) (e : Ended Reasons) (m : ℕ) (s : Reasons) (end x : Decision) (ans more : Answer) → bit_at m 16 ≡ 0 → bit_at m 17 ≡ 0 → EndsAs e m s ans
+        → ((k : ℕ) → bit_at k 16 ≡ 0 → bit_at k 17 ≡ 0 → ConcludesAs (walk (suc p) (policy_jumps d keys ++ tail) k s) s (after_policies more end x))
+        → IsTail tail end x
+        → ConcludesAs (back_after p (policy_jumps d keys ++ tail) e) s (after_policies (or_answer ans more) end x)
+    after_policy d keys tail p e m s end x Silent more z y h next after =
+        concludes_from _ _ s _ (ap (back_after p (policy_jumps d keys ++ tail)) h.1 ∙ return_miss v.sets a (call (suc n)) c inner p (policy_jumps d keys ++ tail) h.0 s (h.2.accept ∙ z))
         (next h.0 (h.2.accept ∙ z) (h.2.pass ∙ y))
-    after_policy d name keys rest p e m s x (Allowed why) more z y h next after =
-        (h.0, ap (back_after p (policy_jumps d keys ++ end_rule name ∷ rest)) h.1 ∙ return_hit v.sets a (call (suc n)) c inner p (policy_jumps d keys ++ end_rule name ∷ rest) h.0 (with_reason s.side why s) h.2)
-    after_policy d name keys rest p e m s x (Denied why) more z y h next after =
-        ap (back_after p (policy_jumps d keys ++ end_rule name ∷ rest)) h
-    after_policy d name keys rest p e m s x Passed more z y h next after =
-        let over = passed_over d name keys rest (suc p) h.0 (with_reason s.side h.1 s) h.3 h.4 in
-        concludes_from _ _ s x (ap (back_after p (policy_jumps d keys ++ end_rule name ∷ rest)) h.2 ∙ return_miss v.sets a (call (suc n)) c inner p (policy_jumps d keys ++ end_rule name ∷ rest) h.0 (with_reason s.side h.1 s) h.3 ∙ over.1)
-        (concludes_retold _ s h.1 x (after over.0 h.0 (with_reason s.side h.1 s) h.3))
+    after_policy d keys tail p e m s end x (Allowed why) more z y h next after =
+        (h.0, ap (back_after p (policy_jumps d keys ++ tail)) h.1 ∙ return_hit v.sets a (call (suc n)) c inner p (policy_jumps d keys ++ tail) h.0 (with_reason s.side why s) h.2)
+    after_policy d keys tail p e m s end x (Denied why) more z y h next after =
+        ap (back_after p (policy_jumps d keys ++ tail)) h
+    after_policy d keys tail p e m s end x Passed more z y h next after =
+        let over = passed_over d keys tail (suc p) h.0 (with_reason s.side h.1 s) h.3 h.4 in
+        concludes_from _ _ s x (ap (back_after p (policy_jumps d keys ++ tail)) h.2 ∙ return_miss v.sets a (call (suc n)) c inner p (policy_jumps d keys ++ tail) h.0 (with_reason s.side h.1 s) h.3 ∙ over.1)
+        (concludes_retold _ s h.1 x (after.passed over.0 h.0 (with_reason s.side h.1 s) h.3 h.4))
 
     -- what a policy's chain comes to, whether the policy is in the view or not
     policy_ends : (d : Direction) (key : List ℕ) (m : ℕ) (s : Reasons) → bit_at m 16 ≡ 0 → bit_at m 17 ≡ 0 → (o : Option ViewPolicy) → maps.get v.policies key ≡ o → rules_in chains (policy_chain d key) ≡ found (policy_rules d) o → EndsAs (call (suc n) (policy_chain d key) m s) m s (first_answer (rules_of_policy v.sets d a o))
@@ -222,26 +224,37 @@ module _ (a : Packet) (v : View) (chains : Chains) (given : Renders v chains) (f
     abbrev policies_met : Direction → List (List ℕ) → List MetRule
     policies_met d keys = flat_map (λ key. rules_of_policy v.sets d a (maps.get v.policies key)) keys
 
-    -- the policies of a tier, and the tier's end
-    policies_end : (d : Direction) (name : List ℕ) (keys : List (List ℕ)) (rest : List ChainRule) (p m : ℕ) (s : Reasons) (x : Decision) → bit_at m 16 ≡ 0 → bit_at m 17 ≡ 0 → Concluding rest x
-        → ConcludesAs (walk p (policy_jumps d keys ++ end_rule name ∷ rest) m s) s (after_policies (first_answer (policies_met d keys)) (end_of_tier name) x)
-    policies_end d name [] rest p m s x z y after =
-        tagged_drop v.sets a (call (suc n)) c inner p (is_clear pass_mark ∷ []) (reason.EndOfTier name) rest m s (only v.sets a m (is_clear pass_mark) true (is_zero v.sets a m 17 y))
-    policies_end d name (key ∷ keys) rest p m s x z y after =
-        concludes_from _ _ s _ (jump_hit p (is_clear pass_mark ∷ []) (policy_chain d key) (back ∷ (policy_jumps d keys ++ end_rule name ∷ rest)) m s (only v.sets a m (is_clear pass_mark) true (is_zero v.sets a m 17 y)))
-        (subst (λ ans. ConcludesAs (back_after (suc p) (policy_jumps d keys ++ end_rule name ∷ rest) (call (suc n) (policy_chain d key) m s)) s (after_policies ans (end_of_tier name) x)) (sym (first-append (rules_of_policy v.sets d a (maps.get v.policies key)) (policies_met d keys)))
-        (after_policy d name keys rest (suc p) (call (suc n) (policy_chain d key) m s) m s x (first_answer (rules_of_policy v.sets d a (maps.get v.policies key))) (first_answer (policies_met d keys)) z y
+    -- the policies of a tier, and what stands behind them
+    policies_end : (d : Direction) (keys : List (List ℕ)) (tail : List ChainRule) (p m : ℕ) (s : Reasons) (end x : Decision) → bit_at m 16 ≡ 0 → bit_at m 17 ≡ 0 → IsTail tail end x
+        → ConcludesAs (walk p (policy_jumps d keys ++ tail) m s) s (after_policies (first_answer (policies_met d keys)) end x)
+    policies_end d [] tail p m s end x z y after = after.silent p m s z y
+    policies_end d (key ∷ keys) tail p m s end x z y after =
+        concludes_from _ _ s _ (jump_hit p (is_clear pass_mark ∷ []) (policy_chain d key) (back ∷ (policy_jumps d keys ++ tail)) m s (only v.sets a m (is_clear pass_mark) true (is_zero v.sets a m 17 y)))
+        (subst (λ ans. ConcludesAs (back_after (suc p) (policy_jumps d keys ++ tail) (call (suc n) (policy_chain d key) m s)) s (after_policies ans end x)) (sym (first-append (rules_of_policy v.sets d a (maps.get v.policies key)) (policies_met d keys)))
+        (after_policy d keys tail (suc p) (call (suc n) (policy_chain d key) m s) m s end x (first_answer (rules_of_policy v.sets d a (maps.get v.policies key))) (first_answer (policies_met d keys)) z y
         (policy_ends d key m s z y (maps.get v.policies key) refl (given.at_policy d key))
-        (λ k zk yk. policies_end d name keys rest (suc (suc p)) k s x zk yk after)
+        (λ k zk yk. policies_end d keys tail (suc (suc p)) k s end x zk yk after)
         after))
+
+    -- the end of a tier drops where none passed, and where the tier passes at its end there is no rule
+    tier_tail : (b : Bool) (name : List ℕ) (rest : List ChainRule) (x : Decision) → Concluding rest x → IsTail (pass_or_drop b name ++ rest) (passed_or_denied b name x) x
+    tier_tail true name rest x after = record { silent = λ p m s z y. after p m s z; passed = λ p m s z o. after p m s z }
+    tier_tail false name rest x after = record {
+      silent = λ p m s z y. tagged_drop v.sets a (call (suc n)) c inner p (is_clear pass_mark ∷ []) (reason.EndOfTier name) rest m s (only v.sets a m (is_clear pass_mark) true (is_zero v.sets a m 17 y));
+      passed = λ p m s z o.
+          concludes_from _ _ s x
+          (miss v.sets a (call (suc n)) c inner p (tagged (is_clear pass_mark ∷ []) target.Drop (reason.EndOfTier name)) rest m s (only v.sets a m (is_clear pass_mark) false (is_not_zero v.sets a m 17 o)))
+          (after (suc p) m s z);
+    }
 
     tiers_end : (d : Direction) (ts : List ViewTier) (rest : List ChainRule) (x : Decision) → Concluding rest x → Concluding (tier_rules d ts rest) (tiers_verdict (map (view_tier v d a) ts) x)
     tiers_end d [] rest x after p m s z = after p m s z
     tiers_end d (t ∷ ts) rest x after p m s z =
-        concludes_from _ _ s _ (plain_hit v.sets a (call (suc n)) c inner p [] 0 pass_mark (policy_jumps d t.policies ++ end_rule t.name ∷ tier_rules d ts rest) m s refl)
-        (policies_end d t.name t.policies (tier_rules d ts rest) (suc p) (marked m 0 pass_mark) s (tiers_verdict (map (view_tier v d a) ts) x)
+        let later = tiers_verdict (map (view_tier v d a) ts) x in
+        concludes_from _ _ s _ (plain_hit v.sets a (call (suc n)) c inner p [] 0 pass_mark (policy_jumps d t.policies ++ (tier_end t ++ tier_rules d ts rest)) m s refl)
+        (policies_end d t.policies (tier_end t ++ tier_rules d ts rest) (suc p) (marked m 0 pass_mark) s (passed_or_denied t.pass_at_end t.name later) later
         (clear_other m 17 16 (lit< tt) (lit< tt) (omega arith) ∙ z) (clear_same m 17 (lit< tt))
-        (tiers_end d ts rest x after))
+        (tier_tail t.pass_at_end t.name (tier_rules d ts rest) later (tiers_end d ts rest x after)))
 
   state_misses : (b : Bool) (m : ℕ) → a.state ≡ New → hold_all (holds v.sets a) m (match.State b ∷ []) ≡ false
   unfolding holds

@@ -19,13 +19,13 @@ use Rattle.fx_model.specs.declared.view.ViewPolicy.{ViewPolicy}
 use Rattle.fx_model.specs.Directions.{Direction, Ingress, Egress}
 use Rattle.fx_model.specs.Active.{applies, applying, is_active, active_policies}
 use Rattle.fx_model.specs.Policy.{MetRule, met_rules, rules_of, met_policy, met_tier, tiers_for}
-use Rattle.fx_model.specs.TierOrder.{place_in, tiers_of}
+use Rattle.fx_model.specs.TierOrder.{TierHead, head_of, passes_at_end, place_in, tiers_of}
 use Rattle.fx_model.specs.TierOrder as order
 use Rattle.fx_model.specs.Views.{view_of, view_rule, view_policy, policy_key, policy_entry, key_in_place, view_tiers}
 use Rattle.fx_model.specs.ViewPolicy.{met_view_rules, rules_of_policy, view_tier}
 use Rattle.fx_model.proofs.Orders.{policy_total}
 use Rattle.fx_laws.proofs.EntryLookups.{is, last, is_itself, is_same, get-collected}
-use Rattle.fx_walk.proofs.TierLists.{AllInTiers, tiers_all, tiers-map}
+use Rattle.fx_walk.proofs.TierLists.{AllHeads, AllInTiers, tiers_all, tiers_heads, tiers-map}
 
 module _ (dg : Digest) (R : Resources) (apart : (a b : PolicyId) (p q : Policy) → maps.get R.policies a ≡ Some p → maps.get R.policies b ≡ Some q → policy_key dg a ≡ policy_key dg b → a ≡ b) where
   abbrev key : PolicyId × Policy → List ℕ
@@ -132,11 +132,19 @@ module _ (dg : Digest) (R : Resources) (apart : (a b : PolicyId) (p q : Policy) 
           ap (λ (l : List MetRule). l ++ flat_map (λ k. rules_of_policy (view_of dg R).sets d a (maps.get (view_of dg R).policies k)) (map key xs)) h.0
           ∙ ap (λ (l : List MetRule). met_policy R d a x ++ l) (policies_say xs h.1)
 
-      tiers_say : (ts : List (List ℕ × List (PolicyId × Policy))) → AllInTiers SaysSo ts → map (view_tier (view_of dg R) d a) (map order.view_tier (map (λ t. (t.0, map key t.1)) ts)) ≡ map (met_tier R d a) ts
-      tiers_say [] h = refl
-      tiers_say (t ∷ ts) h =
-          let head : view_tier (view_of dg R) d a (order.view_tier (t.0, map key t.1)) ≡ met_tier R d a t = λ i. record { name = t.0; rules = policies_say t.1 h.0 i } in
-          let tail : map (view_tier (view_of dg R) d a) (map order.view_tier (map (λ (u : List ℕ × List (PolicyId × Policy)). (u.0, map key u.1)) ts)) ≡ map (met_tier R d a) ts = tiers_say ts h.1 in
+      -- what the places say of a tier's end is what the tier of that name says
+      abbrev EndsSo : TierHead → Type 0
+      EndsSo t = t.pass_at_end ≡ passes_at_end (maps.get R.tiers t.name)
+
+      ends_so : (xs : List (PolicyId × Policy)) → AllByRecursion (λ (y : PolicyPlace × (PolicyId × Policy)). EndsSo (head_of y.0)) (map in_place xs)
+      ends_so [] = tt
+      ends_so (x ∷ xs) = (refl, ends_so xs)
+
+      tiers_say : (ts : List (TierHead × List (PolicyId × Policy))) → AllHeads EndsSo ts → AllInTiers SaysSo ts → map (view_tier (view_of dg R) d a) (map order.view_tier (map (λ t. (t.0, map key t.1)) ts)) ≡ map (met_tier R d a) ts
+      tiers_say [] e h = refl
+      tiers_say (t ∷ ts) e h =
+          let head : view_tier (view_of dg R) d a (order.view_tier (t.0, map key t.1)) ≡ met_tier R d a t = λ i. record { name = t.0.name; pass_at_end = e.0 i; rules = policies_say t.1 h.0 i } in
+          let tail : map (view_tier (view_of dg R) d a) (map order.view_tier (map (λ (u : TierHead × List (PolicyId × Policy)). (u.0, map key u.1)) ts)) ≡ map (met_tier R d a) ts = tiers_say ts e.1 h.1 in
           λ i. head i ∷ tail i
 
       keyed : (xs : List (PolicyId × Policy)) → map (key_in_place dg R) xs ≡ map with_key (map in_place xs)
@@ -150,5 +158,5 @@ module _ (dg : Digest) (R : Resources) (apart : (a b : PolicyId) (p q : Policy) 
           let all = says xs (kept (maps.entries R.policies) (entries_found policy_total R.policies)) (among_applying (λ (x : PolicyId × Policy). AreSo (rules_of d x.1)) (maps.entries R.policies) so) in
           let pairs = map in_place xs in
           ap (λ (es : List (PolicyPlace × List ℕ)). map (view_tier (view_of dg R) d a) (map order.view_tier (tiers_of es))) (keyed xs)
-          ∙ ap (λ (ts : List (List ℕ × List (List ℕ))). map (view_tier (view_of dg R) d a) (map order.view_tier ts)) (tiers-map key pairs)
-          ∙ tiers_say (tiers_of pairs) (tiers_all SaysSo pairs (says_placed xs all))
+          ∙ ap (λ (ts : List (TierHead × List (List ℕ))). map (view_tier (view_of dg R) d a) (map order.view_tier ts)) (tiers-map key pairs)
+          ∙ tiers_say (tiers_of pairs) (tiers_heads EndsSo pairs (ends_so xs)) (tiers_all SaysSo pairs (says_placed xs all))

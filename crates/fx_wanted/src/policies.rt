@@ -14,7 +14,7 @@ use crate::labels::effective_labels;
 use crate::view_rules::view_rules;
 use fx_base::{Counter, Memory, NameKey, NameMap, Seq};
 use fx_model::{
-    Endpoint, Order, PlaceMap, Policy, PolicyId, PolicyPlace, Resources, SetUse, ViewPolicy,
+    Endpoint, PlaceMap, Policy, PolicyId, PolicyPlace, Resources, SetUse, TierStand, ViewPolicy,
     ViewTier, push_both, tiers_in_order,
 };
 use fx_names::{DigestFunction, DigestRule, Namer, Prefix};
@@ -142,8 +142,8 @@ fn put_key<R: DigestRule, F: DigestFunction<R> + Drop>(
 ) -> Result<(), Memory>
     ensures { OnOk result (keys.new ≡ extended keys.old (map (key_in_place R.digest_of resources.now) ((id.now, policy.now) ∷ []))) }
 {
-    let tier_order = Order::of_tier(resources.tiers.get(&policy.tier));
-    let place = PolicyPlace::new(alloc, tier_order, &policy.tier, policy.order, id)?;
+    let stand = TierStand::of_tier(resources.tiers.get(&policy.tier));
+    let place = PolicyPlace::new(alloc, stand, &policy.tier, policy.order, id)?;
     let key = namer.key(Prefix::PolicyIn, place.text.bytes());
     keys.insert(place, key)?;
     Ok(())

@@ -4,14 +4,14 @@ use Rattle.std.specs.FinMap as map
 use Rattle.fx_model.specs.declared.ids.ItemKey.{ItemKey}
 use Rattle.fx_resolver.specs.Indexes.{has_key}
 use Rattle.fx_resolver.specs.Lists.{item_lists, moved}
-use Rattle.fx_resolver.specs.Placed.{orders_of, placed}
+use Rattle.fx_resolver.specs.Placed.{stands_of, placed}
 use Rattle.fx_resolver.proofs.Keeping.{policy_untold, policy_kept}
 use Rattle.fx_resolver.proofs.changes.change_policy.Goals as goal
 
 pub tell_items-requires-clause-told : goal.tell_items-requires-clause-told
 tell_items-requires-clause-told g c =
     let n = c.args.inputs.now in
-    let place = placed (orders_of n.tiers) c.args.id.now in
+    let place = placed (stands_of n.tiers) c.args.id.now in
     let keys = has_key (option_copied c.items-items.result) in
     let from : option_copied c.as_ref.result ≡ place (map.get n.policies c.args.id.now) = c.as_ref.ensures.value ∙ c.in_ok-from.ensures ∙ ap place c.get.ensures in
     let to : option_copied c.as_ref-2.result ≡ place (option_copied c.args.after) = c.as_ref-2.ensures.value ∙ c.in_ok-to.ensures in
@@ -21,7 +21,7 @@ tell_items-requires-clause-told g c =
 pub returns-clause-kept : goal.returns-clause-kept
 returns-clause-kept g c =
     let n = c.args.inputs.now in
-    let place = placed (orders_of n.tiers) c.args.id.now in
+    let place = placed (stands_of n.tiers) c.args.id.now in
     let keys = has_key (option_copied c.items-items.result) in
     let from : option_copied c.as_ref.result ≡ place (map.get n.policies c.args.id.now) = c.as_ref.ensures.value ∙ c.in_ok-from.ensures ∙ ap place c.get.ensures in
     let to : option_copied c.as_ref-2.result ≡ place (option_copied c.args.after) = c.as_ref-2.ensures.value ∙ c.in_ok-to.ensures in
