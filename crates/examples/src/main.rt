@@ -14,11 +14,12 @@ use std::{fs, io};
 const NODE: &str = "--node n1";
 
 // The name and the words of each.
-const EXAMPLES: [(&str, &str); 11] = [
+const EXAMPLES: [(&str, &str); 12] = [
     ("first", NODE),
     ("packets", NODE),
     ("rules", NODE),
     ("policies", NODE),
+    ("tiers", NODE),
     ("sets", NODE),
     ("endpoints", NODE),
     ("kubernetes", NODE),

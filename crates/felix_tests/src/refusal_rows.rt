@@ -300,6 +300,7 @@ pub const ROWS: &str = r##"# lines
 {"put":{"apiVersion":"projectcalico.org/v3","kind":"Tier","metadata":{"name":"t"},"spec":[]}} => refused 1 3 BadField spec
 {"put":{"apiVersion":"projectcalico.org/v3","kind":"Tier","metadata":{"name":"t"},"spec":{"order":null,"defaultAction":null,"x":7}}}
 {"put":{"apiVersion":"projectcalico.org/v3","kind":"Tier","metadata":{"name":"t"},"spec":{"order":-9223372036854775808,"defaultAction":"Deny"}}}
+{"put":{"apiVersion":"projectcalico.org/v3","kind":"Tier","metadata":{"name":"t"},"spec":{"defaultAction":"Pass"}}}
 {"put":{"apiVersion":"projectcalico.org/v3","kind":"Tier","metadata":{"name":"t"},"spec":{"order":9223372036854775807}}}
 {"put":{"apiVersion":"projectcalico.org/v3","kind":"Tier","metadata":{"name":"t"},"spec":{"order":9223372036854775808}}} => refused 1 3 BadField spec.order
 {"put":{"apiVersion":"projectcalico.org/v3","kind":"Tier","metadata":{"name":"t"},"spec":{"order":-9223372036854775809}}} => refused 1 3 BadField spec.order
@@ -309,7 +310,7 @@ pub const ROWS: &str = r##"# lines
 {"put":{"apiVersion":"projectcalico.org/v3","kind":"Tier","metadata":{"name":"t"},"spec":{"order":-0}}} => refused 1 3 BadField spec.order
 {"put":{"apiVersion":"projectcalico.org/v3","kind":"Tier","metadata":{"name":"t"},"spec":{"order":"1"}}} => refused 1 3 BadField spec.order
 {"put":{"apiVersion":"projectcalico.org/v3","kind":"Tier","metadata":{"name":"t"},"spec":{"order":false,"defaultAction":"Pass"}}} => refused 1 3 BadField spec.order
-{"put":{"apiVersion":"projectcalico.org/v3","kind":"Tier","metadata":{"name":"t"},"spec":{"defaultAction":"Pass"}}} => refused 1 5 Unsupported spec.defaultAction
+{"put":{"apiVersion":"projectcalico.org/v3","kind":"Tier","metadata":{"name":"t"},"spec":{"defaultAction":"pass"}}} => refused 1 3 BadField spec.defaultAction
 {"put":{"apiVersion":"projectcalico.org/v3","kind":"Tier","metadata":{"name":"t"},"spec":{"defaultAction":"Allow"}}} => refused 1 3 BadField spec.defaultAction
 {"put":{"apiVersion":"projectcalico.org/v3","kind":"Tier","metadata":{"name":"t"},"spec":{"defaultAction":"deny"}}} => refused 1 3 BadField spec.defaultAction
 {"put":{"apiVersion":"projectcalico.org/v3","kind":"Tier","metadata":{"name":"t"},"spec":{"defaultAction":["Deny"]}}} => refused 1 3 BadField spec.defaultAction

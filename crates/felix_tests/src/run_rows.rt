@@ -187,6 +187,40 @@ pub const RUNS: &str = r#"
 < path cali-FORWARD:3 cali-to-wl-dispatch:1 cali-tw-cali1:5 cali-pi-gnp/p:1 cali-tw-cali1:9 cali-pi-gnp/q:1
 < ingress cali1 policy gnp/q 1
 < verdict allow
+= a tier with the default action Pass goes on at its end, and denies again once it has none
+> {"put":{"apiVersion":"projectcalico.org/v3","kind":"Profile","metadata":{"name":"open"},"spec":{"ingress":[{"action":"Allow"}],"egress":[{"action":"Allow"}]}}}
+> {"put":{"apiVersion":"projectcalico.org/v3","kind":"WorkloadEndpoint","metadata":{"name":"w1","namespace":"a","labels":{"role":"a"}},"spec":{"node":"n1","interfaceName":"cali1","ipNetworks":["10.0.0.1/32"],"profiles":["open"]}}}
+> {"inSync":true}
+> {"flush":{}}
+> {"put":{"apiVersion":"projectcalico.org/v3","kind":"Tier","metadata":{"name":"t1"},"spec":{"order":1,"defaultAction":"Pass"}}}
+> {"put":{"apiVersion":"projectcalico.org/v3","kind":"GlobalNetworkPolicy","metadata":{"name":"p"},"spec":{"tier":"t1"}}}
+> {"flush":{}}
+> {"packet":{"in":"eth0","out":"cali1","src":"192.0.2.1","dst":"10.0.0.1","proto":"TCP","sport":40000,"dport":80}}
+> {"put":{"apiVersion":"projectcalico.org/v3","kind":"Tier","metadata":{"name":"t1"},"spec":{"order":1}}}
+> {"flush":{}}
+> {"packet":{"in":"eth0","out":"cali1","src":"192.0.2.1","dst":"10.0.0.1","proto":"TCP","sport":40000,"dport":80}}
+> {"put":{"apiVersion":"projectcalico.org/v3","kind":"Tier","metadata":{"name":"t1"},"spec":{"defaultAction":"Pass"}}}
+> {"flush":{}}
+> {"delete":{"apiVersion":"projectcalico.org/v3","kind":"Tier","metadata":{"name":"t1"}}}
+> {"flush":{}}
+< profile open open in 1 out 1
+< endpoint cali1 a/w1 in - out - profiles open
+< flushed 2
+< policy gnp/p gnp/p in 0 out 0
+< endpoint cali1 a/w1 in t1/pass(gnp/p) out - profiles open
+< flushed 2
+< path cali-FORWARD:3 cali-to-wl-dispatch:1 cali-tw-cali1:5 cali-tw-cali1:7 cali-pri-open:1
+< ingress cali1 profile open 1
+< verdict allow
+< endpoint cali1 a/w1 in t1(gnp/p) out - profiles open
+< flushed 1
+< path cali-FORWARD:3 cali-to-wl-dispatch:1 cali-tw-cali1:5 cali-tw-cali1:7
+< ingress cali1 end-of-tier t1
+< verdict deny
+< endpoint cali1 a/w1 in t1/pass(gnp/p) out - profiles open
+< flushed 1
+< endpoint cali1 a/w1 in t1(gnp/p) out - profiles open
+< flushed 1
 = a tier without a deciding rule denies at its end
 > {"put":{"apiVersion":"projectcalico.org/v3","kind":"Profile","metadata":{"name":"open"},"spec":{"ingress":[{"action":"Allow"}],"egress":[{"action":"Allow"}]}}}
 > {"put":{"apiVersion":"projectcalico.org/v3","kind":"WorkloadEndpoint","metadata":{"name":"w1","namespace":"a","labels":{"role":"a"}},"spec":{"node":"n1","interfaceName":"cali1","ipNetworks":["10.0.0.1/32"],"profiles":["open"]}}}

@@ -17,6 +17,7 @@ fn tier(alloc: Global, name: &[u8], keys: &[&[u8]]) -> Result<ViewTier, Memory> 
     }
     Ok(ViewTier {
         name: Text::new(alloc, name)?,
+        pass_at_end: false,
         policies,
     })
 }

@@ -80,10 +80,10 @@ const READ_GLOBAL_SET: &str = "Put { key: Item(NetSet { ns: None, name: Text { h
 item: NetSet(NetSet { labels: Labels { alloc: Global, held: {[97]: Text { held: [98] }} }, nets: Seq { held: [] } }) }";
 
 const TIER: &str =
-    r#"{"apiVersion":"projectcalico.org/v3","kind":"Tier","metadata":{"name":"t"},"spec":{"order":-9223372036854775808,"defaultAction":"Deny"}}"#;
+    r#"{"apiVersion":"projectcalico.org/v3","kind":"Tier","metadata":{"name":"t"},"spec":{"order":-9223372036854775808,"defaultAction":"Pass"}}"#;
 
 const READ_TIER: &str =
-    "Put { key: Tier { name: Text { held: [116] } }, item: Tier(Tier { order: Some(-9223372036854775808) }) }";
+    "Put { key: Tier { name: Text { held: [116] } }, item: Tier(Tier { order: Some(-9223372036854775808), pass_at_end: true }) }";
 
 #[test]
 fn resources_are_read(rt: HostRuntime) -> Result<(), Fail> {

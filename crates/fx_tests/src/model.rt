@@ -200,7 +200,10 @@ const POLICIES: [(&[u8], &[u8], &[u8], Option<i64>); 5] = [
 
 fn put_tier(alloc: Global, all: &mut Resources, name: &[u8], order: i64) -> Result<(), Fail> {
     let name = Text::new(alloc, name)?;
-    let item = Item::Tier(Tier { order: Some(order) });
+    let item = Item::Tier(Tier {
+        order: Some(order),
+        pass_at_end: false,
+    });
     let key = Key::Tier { name };
     all.apply(Update::Put { key, item })?;
     Ok(())

@@ -314,9 +314,15 @@ fn profiles(rt: HostRuntime) -> Result<(), Fail> {
     Ok(())
 }
 
-fn tier(alloc: Global, name: &[u8], keys: &[NameKey]) -> Result<ViewTier, Memory> {
+fn tier(
+    alloc: Global,
+    name: &[u8],
+    pass_at_end: bool,
+    keys: &[NameKey],
+) -> Result<ViewTier, Memory> {
     Ok(ViewTier {
         name: text(alloc, name)?,
+        pass_at_end,
         policies: Seq::from_vec(Vec::from_slice(alloc, keys)?),
     })
 }
@@ -324,8 +330,8 @@ fn tier(alloc: Global, name: &[u8], keys: &[NameKey]) -> Result<ViewTier, Memory
 fn tiers(alloc: Global) -> Result<Seq<ViewTier>, Memory> {
     let keys = [NameKey::new(b"gnp/a"), NameKey::new(b"gnp/b")];
     let mut tiers = Seq::new(alloc);
-    tiers.push(tier(alloc, b"t1", &keys)?)?;
-    tiers.push(tier(alloc, b"aa", &[NameKey::new(b"gnp/d")])?)?;
+    tiers.push(tier(alloc, b"t1", false, &keys)?)?;
+    tiers.push(tier(alloc, b"aa", true, &[NameKey::new(b"gnp/d")])?)?;
     Ok(tiers)
 }
 
@@ -345,7 +351,7 @@ fn endpoints(rt: HostRuntime) -> Result<(), Fail> {
     let alloc = rt.alloc();
     let iface = &text(alloc, b"cali1")?;
     let endpoint = &endpoint(alloc)?;
-    let expected = b"endpoint cali1 a/w1 in t1(gnp/a,gnp/b);aa(gnp/d) out - profiles open,shut\n";
+    let expected = b"endpoint cali1 a/w1 in t1(gnp/a,gnp/b);aa/pass(gnp/d) out - profiles open,shut\n";
     message_reads(
         &rt,
         alloc,

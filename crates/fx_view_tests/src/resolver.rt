@@ -52,6 +52,24 @@ fn tiers_are_in_order(rt: HostRuntime) -> Result<(), Fail> {
     Ok(())
 }
 
+// A change of what a tier does at its end alone tells the endpoints in whose lists the tier stands, and no other.
+#[test]
+fn tiers_pass_at_their_ends(rt: HostRuntime) -> Result<(), Fail> {
+    let table = [
+        (Step::Endpoint("cali1"), "cali1 |;", 1),
+        (Step::Pair(0), "cali1 |;", 1),
+        (Step::On(0, "s", None), "cali1 s(0)|s(0);", 2),
+        (Step::PassingTier("t", None), "cali1 s(0)|s(0);", 2),
+        (Step::PassingTier("s", None), "cali1 s/pass(0)|s/pass(0);", 3),
+        (Step::PassingTier("s", Some(7)), "cali1 s/pass(0)|s/pass(0);", 3),
+        (Step::Tier("s", Some(7)), "cali1 s(0)|s(0);", 4),
+        (Step::PassingTier("s", Some(7)), "cali1 s/pass(0)|s/pass(0);", 5),
+        (Step::NoTier("s"), "cali1 s(0)|s(0);", 6),
+    ];
+    run(&rt, Bench::new(rt.alloc())?, &table)?;
+    Ok(())
+}
+
 #[test]
 fn what_goes_is_listed_no_more(rt: HostRuntime) -> Result<(), Fail> {
     let table = [

@@ -62,6 +62,8 @@ impl ViewSink for CountView {
 #[derive(Drop)]
 pub enum Step {
     Tier(&'static str, Option<i64>),
+    /// With its order, and the default action Pass.
+    PassingTier(&'static str, Option<i64>),
     NoTier(&'static str),
     /// With its tier and its order.
     On(u8, &'static str, Option<i64>),
@@ -130,7 +132,8 @@ impl Bench {
 
     pub fn after(self, step: &Step) -> Result<Bench, Memory> {
         match step {
-            Step::Tier(name, order) => self.with_tier(name, *order),
+            Step::Tier(name, order) => self.with_tier(name, *order, false),
+            Step::PassingTier(name, order) => self.with_tier(name, *order, true),
             Step::NoTier(name) => self.without_tier(name),
             Step::On(number, tier, order) => self.with_policy(*number, tier, *order, true),
             Step::ToItOnly(number, tier) => self.with_policy(*number, tier, None, false),
@@ -141,7 +144,12 @@ impl Bench {
         }
     }
 
-    fn with_tier(self, name: &str, order: Option<i64>) -> Result<Bench, Memory> {
+    fn with_tier(
+        self,
+        name: &str,
+        order: Option<i64>,
+        pass_at_end: bool,
+    ) -> Result<Bench, Memory> {
         let Bench {
             alloc,
             item,
@@ -149,7 +157,8 @@ impl Bench {
             pairs,
             mut sink,
         } = self;
-        node.put_tier(&Text::new(alloc, name.as_bytes())?, order, &mut sink)?;
+        let name = Text::new(alloc, name.as_bytes())?;
+        node.put_tier(&name, order, pass_at_end, &mut sink)?;
         Ok(Bench {
             alloc,
             item,
@@ -373,11 +382,16 @@ fn push_row(iface: &Text, endpoint: &ViewEndpoint, shown: &mut Vec<u8>) -> Resul
 fn push_tiers(tiers: &[ViewTier], shown: &mut Vec<u8>) -> Result<(), Memory> {
     for tier in tiers {
         shown.extend_from_slice(tier.name.bytes())?;
+        shown.extend_from_slice(end_word(tier))?;
         shown.push(b'(')?;
         push_keys(tier.policies.as_slice(), shown)?;
         shown.push(b')')?;
     }
     Ok(())
+}
+
+fn end_word(tier: &ViewTier) -> &'static [u8] {
+    if tier.pass_at_end { b"/pass" } else { b"" }
 }
 
 fn push_keys(keys: &[NameKey], shown: &mut Vec<u8>) -> Result<(), Memory> {
