@@ -6,24 +6,24 @@ use Rattle.fx_lines.specs.declared.commands.Command.{Command}
 use Rattle.fx_lines.specs.declared.commands.Command.TheVariants as command
 use Rattle.fx_model.specs.declared.resources.Update.TheVariants as update
 use Rattle.felix_replay.specs.Flushing.{IsUpdate, HaveNoUpdate}
-use Rattle.felix_replay.specs.Output.{State, answer_of, checked}
+use Rattle.felix_replay.specs.Output.{State, checked, next}
 
 -- two blank lines, one of them with a tab
-blank_lines : (s : State) → HaveNoUpdate s ([] ∷ (9 ∷ []) ∷ [])
+pub blank_lines : (s : State) → HaveNoUpdate s ([] ∷ (9 ∷ []) ∷ [])
 unfolding HaveNoUpdate command_of
-blank_lines s = (λ is. is, λ is. is, tt)
+blank_lines s = (λ is. is, (λ is. is, tt))
 
 -- a line that says that the resources are in sync, which clashes with nothing
-in_sync : (s : State) (line : List ℕ) → command_of line ≡ Ok (command.Update update.InSync) → ¬ HaveNoUpdate s (line ∷ [])
+pub in_sync : (s : State) (line : List ℕ) → command_of line ≡ Ok (command.Update update.InSync) → ¬ HaveNoUpdate s (line ∷ [])
 unfolding HaveNoUpdate
 in_sync s line said none =
     none.0 (subst (λ (answer : Result Command Refusal). IsUpdate (checked s.digest s.resources answer)) (sym said) tt)
 
 -- a flush again, and a line that is refused
-flush_and_refusal : (s : State) (flush line : List ℕ) (r : Refusal) → command_of flush ≡ Ok command.Flush → command_of line ≡ Err r → HaveNoUpdate s (flush ∷ line ∷ [])
+pub flush_and_refusal : (s : State) (flush line : List ℕ) (r : Refusal) → command_of flush ≡ Ok command.Flush → command_of line ≡ Err r → HaveNoUpdate s (flush ∷ line ∷ [])
 unfolding HaveNoUpdate
-flush_and_refusal s flush line r said refused = (
-  subst (λ (answer : Result Command Refusal). ¬ IsUpdate (checked s.digest s.resources answer)) (sym said) (λ is. is),
-  subst (λ (answer : Result Command Refusal). ¬ IsUpdate (checked _ _ answer)) (sym refused) (λ is. is),
-  tt,
-)
+flush_and_refusal s flush line r said refused =
+    let quiet : Result Command Refusal → State → Type 0 = λ answer t. ¬ IsUpdate (checked t.digest t.resources answer) in (
+      subst (λ (answer : Result Command Refusal). quiet answer s) (sym said) (λ is. is),
+      (subst (λ (answer : Result Command Refusal). quiet answer (next s flush)) (sym refused) (λ is. is), tt),
+    )
