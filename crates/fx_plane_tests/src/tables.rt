@@ -1,7 +1,10 @@
 //! The operations with ample memory.
-use fx_base::{ChainName, Counter, Ipv4, Proto, Seq, SetKind, SetName};
+ghost use Rattle.std.specs.Prelude.{◌≡◌, IfOk, true};
+
+use fx_base::{ChainName, Counter, Ipv4, Proto, Seq, SetKind, SetName, same};
 use fx_model::{ChainRule, Member, Tag, Target};
 use fx_tables::Tables;
+use std::alloc::AllocError;
 use std::test::Fail;
 
 #[test]
@@ -24,6 +27,14 @@ fn a_set_is_created_and_filled(rt: HostRuntime) -> Result<(), Fail> {
     Ok(())
 }
 
+// Whether a copy of the chains is equal to them.
+fn is_copied(tables: &Tables) -> Result<bool, AllocError>
+    ensures { IfOk result (λ equal. equal ≡ true) }
+{
+    let copy = tables.chains().clone()?;
+    Ok(same(&copy, tables.chains()))
+}
+
 #[test]
 fn a_chain_is_written(rt: HostRuntime) -> Result<(), Fail> {
     let alloc = rt.alloc();
@@ -37,5 +48,6 @@ fn a_chain_is_written(rt: HostRuntime) -> Result<(), Fail> {
     let mut tables = Tables::new(alloc);
     tables.write_chain(name, rules, &mut Counter::new())?;
     assert!(rt; tables.chain(name).is_some());
+    assert!(rt; is_copied(&tables)?);
     Ok(())
 }
