@@ -63,10 +63,10 @@ foreign_rank = refl
 -- ---- a third rule
 
 -- one policy for packets to it, and no profile
-eth0 : ViewEndpoint
-eth0 = record { ns = []; name = codes "h1"; ingress = record { name = codes "default"; policies = codes "gnp/s" ∷ [] } ∷ []; egress = []; profiles = [] }
+abbrev eth0 : ViewEndpoint
+eth0 = record { ns = []; name = codes "h1"; ingress = record { name = codes "default"; pass_at_end = false; policies = codes "gnp/s" ∷ [] } ∷ []; egress = []; profiles = [] }
 
-failsafe : ChainRule
+abbrev failsafe : ChainRule
 failsafe = plain [] (target.Jump (codes "cali-failsafe-in"))
 
 third_before_the_policies : endpoint_rules_with (failsafe ∷ []) Ingress eth0 ≡
