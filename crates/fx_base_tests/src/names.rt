@@ -166,6 +166,10 @@ fn all_texts_have_one_name_under_the_zero_rule(rt: HostRuntime) {
     let namer = Namer::<ZeroRule, ZeroRule>::new(ZeroRule);
     for text in ["", r#"role == "b""#, r#"role == "c""#] {
         let name = namer.set_name(SetKind::Nets, text.as_bytes());
-        assert_eq!(rt; name.bytes(), b"cali40s:AAAAAAAAAAAAAAAAAAAAAAA".as_slice(), "at {text}");
+        assert_eq!(rt;
+            name.bytes(),
+            b"cali40s:AAAAAAAAAAAAAAAAAAAAAAA".as_slice(),
+            "at {text}"
+        );
     }
 }
