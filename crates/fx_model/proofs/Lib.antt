@@ -8,3 +8,4 @@ pub mod ChainWrites
 pub mod UseLemmas
 pub mod KnownTrees
 pub mod HostChains
+pub mod TestBounds
