@@ -450,6 +450,21 @@ pub const RUNS: &str = r#"
 < profile open open missing
 < endpoint cali1 a/w1 in - out default(gnp/e) profiles open
 < flushed 4
+= a set's members stand by address before length or number, and each protocol has a set of its own
+> {"put":{"apiVersion":"projectcalico.org/v3","kind":"WorkloadEndpoint","metadata":{"name":"w1","namespace":"a","labels":{"role":"a"}},"spec":{"node":"n1","interfaceName":"cali1","ipNetworks":["10.0.0.1/32"],"profiles":["open"]}}}
+> {"put":{"apiVersion":"projectcalico.org/v3","kind":"WorkloadEndpoint","metadata":{"name":"db","namespace":"a"},"spec":{"node":"n2","interfaceName":"cali7","ipNetworks":["10.0.0.10","10.0.0.9"],"ports":[{"name":"pg","port":80},{"name":"pg","protocol":"UDP","port":53}]}}}
+> {"put":{"apiVersion":"projectcalico.org/v3","kind":"WorkloadEndpoint","metadata":{"name":"more","namespace":"a"},"spec":{"node":"n3","interfaceName":"cali8","ipNetworks":["10.0.0.9"],"ports":[{"name":"pg","port":9000},{"name":"pg","protocol":"UDP","port":1000}]}}}
+> {"put":{"apiVersion":"projectcalico.org/v3","kind":"GlobalNetworkSet","metadata":{"name":"s","labels":{"role":"b"}},"spec":{"nets":["10.0.0.0/30","10.0.0.0/8","9.0.0.0/24"]}}}
+> {"put":{"apiVersion":"projectcalico.org/v3","kind":"GlobalNetworkPolicy","metadata":{"name":"e"},"spec":{"ingress":[{"action":"Allow","source":{"selector":"role == 'b'"}}],"egress":[{"action":"Allow","protocol":"UDP","destination":{"ports":["pg"]}},{"action":"Allow","protocol":"TCP","destination":{"ports":["pg"]}}]}}}
+> {"inSync":true}
+> {"flush":{}}
+< set-add cali40n:dGNwLHBnLGFsbCgpAAAAAAA hash:ip,port 10.0.0.9,tcp:80 10.0.0.9,tcp:9000 10.0.0.10,tcp:80
+< set-add cali40n:dWRwLHBnLGFsbCgpAAAAAAA hash:ip,port 10.0.0.9,udp:53 10.0.0.9,udp:1000 10.0.0.10,udp:53
+< set-add cali40s:cm9sZSA9PSAiYiIAAAAAAAA hash:net 9.0.0.0/24 10.0.0.0/8 10.0.0.0/30
+< policy gnp/e gnp/e in 1 out 2
+< profile open open missing
+< endpoint cali1 a/w1 in default(gnp/e) out default(gnp/e) profiles open
+< flushed 6
 = a policy of Kubernetes with a named port, beside one that denies all
 > {"put":{"apiVersion":"v1","kind":"Namespace","metadata":{"name":"prod"}}}
 > {"put":{"apiVersion":"projectcalico.org/v3","kind":"WorkloadEndpoint","metadata":{"name":"web","namespace":"prod"},"spec":{"node":"n1","orchestrator":"k8s","interfaceName":"cali1","ipNetworks":["10.0.0.1"],"profiles":["kns.prod"]}}}

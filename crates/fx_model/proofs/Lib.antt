@@ -9,3 +9,4 @@ pub mod UseLemmas
 pub mod KnownTrees
 pub mod HostChains
 pub mod TestBounds
+pub mod KnownBatches

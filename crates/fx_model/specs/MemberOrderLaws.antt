@@ -1,10 +1,10 @@
 -- The order of members is total, and only members that `==` holds for stand at one place.
-use Rattle.std.specs.Prelude.{◌≡◌, ℕ, Bool, ◌&&◌, Some, refl}
+use Rattle.std.specs.Prelude.{◌≡◌, ℕ, ◌&&◌, Some, refl}
 use Rattle.std.specs.Ordering.{nat_cmp, ordering_then, eq_by_cmp, is_eq}
 use Rattle.std.specs.declared.cmp.Ordering.{Ordering}
 use Rattle.std.specs.declared.cmp.Ordering.TheVariants.{Less, Equal, Greater}
 use Rattle.std.specs.Cmp.{IsTotalOrder, IsPartialOrder, nat_cmp_total, unsigned_ties, po}
-use Rattle.std.proofs.Common.{sym, ap, subst, ◌∙◌}
+use Rattle.std.proofs.Common.{ap, subst, ◌∙◌}
 use Rattle.std.proofs.lemmas.Cmp.{on_total, then_total}
 use Rattle.fx_model.specs.MemberOrder.{members_compared}
 use Rattle.fx_model.specs.declared.member.Member.{Member}
