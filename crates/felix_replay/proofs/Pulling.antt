@@ -2,11 +2,9 @@
 use Rattle.std.proofs.Common.{◌≡◌, ◌⊎◌, inl, inr, ◌<◌, ◌≤◌, ℕ, List, [], Bool, true, false, Option, Some, None, is_some, Result, Ok, Err, sym, ap, subst, arith}
 use Rattle.std.proofs.lemmas.List.{append-nil}
 use Rattle.std.specs.Io.KnownBytes.{Appends}
-use Rattle.fx_base.specs.Streams.{SinkState, AppendsPrefix}
+use Rattle.fx_base.specs.Streams.{SinkState, AppendsPrefix, Rose}
 use Rattle.fx_model.specs.Messages.{Change}
 use Rattle.fx_model.specs.MessageTexts.{message_line}
-use Rattle.fx_agent.specs.declared.faults.PullFault.TheVariants as pull
-use Rattle.fx_agent.specs.Answers.{IsPullCause, OutLeaves}
 use Rattle.felix_replay.specs.Output.{first_text}
 use Rattle.felix_replay.specs.declared.run_fault.RunFault.TheVariants as fault
 use Rattle.felix_replay.proofs.Writings.{Writes-none}
@@ -38,35 +36,19 @@ module _ (before now : SinkState) (o : Option Change) where
   written-prefix : (c : Change) → o ≡ Some c → HasWritten before now (message_line c) → AppendsPrefix before.held now.held (first_text o)
   written-prefix c is wrote = rw is (whole-prefix before.held now.held (message_line c) wrote.whole)
 
-  -- what the out took of a message, and that something else stays
-  module _ (Name Same : Type 0) where
-    abbrev Handed : Change → Type 0
-    Handed c = HasWritten before now (message_line c) × Name
+  -- a message could not be written
+  pub torn-writes : (c : Change) → o ≡ Some c → HasTorn before now (message_line c) → Rose before.faults now.faults → Writes {T = Bool} before now (first_text o) (Err fault.WriteFault)
+  torn-writes c is wrote rose = record { whole = tt; prefix = torn-prefix c is wrote; later = wrote.later; cause = rose }
 
-    abbrev Torn : Change → Type 0
-    Torn c = HasTorn before now (message_line c) × Name
+  -- Memory ran out, and the out took the message or a part of it. Of either something else is known.
+  module _ {Name : Type 0} (c : Change) (is : o ≡ Some c) where
+    pub memory-writes : (HasWritten before now (message_line c) × Name) ⊎ (HasTorn before now (message_line c) × Name) → Writes {T = Bool} before now (first_text o) (Err fault.Memory)
+    memory-writes (inl (wrote, name)) = record { whole = tt; prefix = written-prefix c is wrote; later = wrote.later; cause = tt }
+    memory-writes (inr (wrote, name)) = record { whole = tt; prefix = torn-prefix c is wrote; later = wrote.later; cause = tt }
 
-    -- a pull whose message could not be written
-    pub write-fault : (failed : Bool) → IsPullCause failed before.faults now.faults pull.Write → OutLeaves o Handed Torn Same pull.Write
-        → Writes {T = Bool} before now (first_text o) (Err fault.WriteFault)
-    write-fault failed cause left = record {
-      whole = tt;
-      prefix = torn-prefix left.0 left.1.0 left.1.1.0;
-      later = left.1.1.0.later;
-      cause = cause.1;
-    }
-
-    pub write-name : OutLeaves o Handed Torn Same pull.Write → Name
-    write-name left = left.1.1.1
-
-    -- one for which there was no memory
-    pub memory-fault : OutLeaves o Handed Torn Same pull.Memory → Writes {T = Bool} before now (first_text o) (Err fault.Memory)
-    memory-fault (c, (is, inl (wrote, name))) = record { whole = tt; prefix = written-prefix c is wrote; later = wrote.later; cause = tt }
-    memory-fault (c, (is, inr (wrote, name))) = record { whole = tt; prefix = torn-prefix c is wrote; later = wrote.later; cause = tt }
-
-    pub memory-name : OutLeaves o Handed Torn Same pull.Memory → Name
-    memory-name (c, (is, inl (wrote, name))) = name
-    memory-name (c, (is, inr (wrote, name))) = name
+    pub memory-name : (HasWritten before now (message_line c) × Name) ⊎ (HasTorn before now (message_line c) × Name) → Name
+    memory-name (inl (wrote, name)) = name
+    memory-name (inr (wrote, name)) = name
 
 -- an agent whose memory never ran out
 pub no_resync : {A : Type 0} (failed : Bool) → failed ≡ false → failed ≡ true → A

@@ -1,5 +1,5 @@
 -- Calls that write, one after another.
-use Rattle.std.proofs.Common.{◌≡◌, ◌<◌, ◌≤◌, ◌+◌, ℕ, List, [], ◌∷◌, ◌++◌, length, get_or, take, drop, Result, Ok, Err, refl, sym, ◌∙◌, ap, subst, arith, take-append-drop}
+use Rattle.std.proofs.Common.{◌≡◌, ◌<◌, ◌≤◌, ◌+◌, ℕ, List, [], ◌∷◌, ◌++◌, length, get_or, take, drop, None, Result, Ok, Err, refl, sym, ◌∙◌, ap, subst, arith, take-append-drop}
 use Rattle.std.specs.List.{concat}
 use Rattle.std.proofs.lemmas.List.{drop_more, take_more, append-nil}
 use Rattle.std.proofs.lemmas.List.Folds.{concat-append}
@@ -17,12 +17,16 @@ cause_wider a b c fault.WriteFault le h = omega (arith, h)
 cause_wider a b c fault.ReadFault le h = h
 cause_wider a b c fault.InputTooLong le h = h
 
--- where a sink never fails, memory alone can be wanting
-pub only_memory : (before now : SinkState) (f : RunFault) → now.faults ≡ 0 → IsWritingFault before now f → f ≡ fault.Memory
-only_memory before now fault.Memory none h = refl
-only_memory before now fault.WriteFault none h = absurd (omega (arith, h, none))
-only_memory before now fault.ReadFault none h = absurd h
-only_memory before now fault.InputTooLong none h = absurd h
+-- a sink that only counts, as a contract sees it
+abbrev counting : SinkState
+counting = record { held = None; faults = 0 }
+
+-- it never fails, so memory alone can be wanting
+pub only_memory : (f : RunFault) → IsWritingFault counting counting f → f ≡ fault.Memory
+only_memory fault.Memory h = refl
+only_memory fault.WriteFault h = absurd (omega (arith, h))
+only_memory fault.ReadFault h = absurd h
+only_memory fault.InputTooLong h = absurd h
 
 module _ {T : Type 0} where
   -- nothing was written, for want of memory

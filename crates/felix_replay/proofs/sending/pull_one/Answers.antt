@@ -1,5 +1,5 @@
 use Rattle.std.proofs.Common.{◌≡◌, ap}
-use Rattle.felix_replay.proofs.Pulling.{sent-writes, sent-found, quiet-found, quiet-writes, write-fault, write-name, memory-fault, memory-name, no_resync}
+use Rattle.felix_replay.proofs.Pulling.{sent-writes, sent-found, quiet-found, quiet-writes, torn-writes, memory-writes, memory-name, no_resync}
 use Rattle.felix_replay.proofs.Ready.{agent-ready, ready-agent}
 use Rattle.felix_replay.proofs.sending.pull_one.Goals as goal
 
@@ -45,23 +45,23 @@ returns-in-Ok-Nothing-clause-writes g c =
 pub returns-in-Err-Write-clause-same_sink : goal.returns-in-Err-Write-clause-same_sink
 returns-in-Err-Write-clause-same_sink g c =
     let left = rw c.in-Err-Write.field-0-is at c.in-Err-Write.ensures.out in
-    write-name (g.K.Sink.state c.args.out.now.sink.now) (g.K.Sink.state c.pull.new.out.sink.now) _ _ _ left
+    left.1.1.1
 
 pub returns-in-Err-Write-clause-writes : goal.returns-in-Err-Write-clause-writes
 returns-in-Err-Write-clause-writes g c =
     let left = rw c.in-Err-Write.field-0-is at c.in-Err-Write.ensures.out in
     let cause = rw c.in-Err-Write.field-0-is at c.in-Err-Write.ensures.cause in
-    write-fault (g.K.Sink.state c.args.out.now.sink.now) (g.K.Sink.state c.pull.new.out.sink.now) _ _ _ _ cause left
+    torn-writes (g.K.Sink.state c.args.out.now.sink.now) (g.K.Sink.state c.pull.new.out.sink.now) _ left.0 left.1.0 left.1.1.0 cause.1
 
 pub returns-in-Err-Memory-clause-same_sink : goal.returns-in-Err-Memory-clause-same_sink
 returns-in-Err-Memory-clause-same_sink g c =
     let left = rw c.in-Err-Memory.field-0-is at c.in-Err-Memory.ensures.out in
-    memory-name (g.K.Sink.state c.args.out.now.sink.now) (g.K.Sink.state c.pull.new.out.sink.now) _ _ _ left
+    memory-name (g.K.Sink.state c.args.out.now.sink.now) (g.K.Sink.state c.pull.new.out.sink.now) _ left.0 left.1.0 left.1.1
 
 pub returns-in-Err-Memory-clause-writes : goal.returns-in-Err-Memory-clause-writes
 returns-in-Err-Memory-clause-writes g c =
     let left = rw c.in-Err-Memory.field-0-is at c.in-Err-Memory.ensures.out in
-    memory-fault (g.K.Sink.state c.args.out.now.sink.now) (g.K.Sink.state c.pull.new.out.sink.now) _ _ _ left
+    memory-writes (g.K.Sink.state c.args.out.now.sink.now) (g.K.Sink.state c.pull.new.out.sink.now) _ left.0 left.1.0 left.1.1
 
 pub unreachable-requires : goal.unreachable-requires
 unreachable-requires g c =
