@@ -8,14 +8,7 @@ use Rattle.std.specs.FinMap.{get, insert, remove}
 use Rattle.fx_base.proofs.AtKey.{get_insert, get_remove}
 use Rattle.fx_base.proofs.KeyCases.{bytes_exact}
 use Rattle.fx_active.specs.Indexes.{Counts, count_at}
-
-either : (b : Bool) (x y : Option ℕ) → unwrap_or (cond b x y) 0 ≡ cond b (unwrap_or x 0) (unwrap_or y 0)
-either true x y = refl
-either false x y = refl
-
-hidden : {A : Type 0} (b : Bool) (x y z : A) → cond b x (cond b y z) ≡ cond b x z
-hidden true x y z = refl
-hidden false x y z = refl
+use Rattle.fx_base.proofs.Cases.{either, hidden}
 
 -- names that tie by their order are those that `==` doesn't tell apart
 pub tied_names : (q k : List ℕ) → eq_by_cmp (slice_cmp nat_cmp) q k ≡ pointwise nat_eq k q

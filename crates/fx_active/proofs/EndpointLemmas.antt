@@ -18,13 +18,9 @@ use Rattle.fx_model.proofs.Orders.{item_total, exact_item}
 use Rattle.fx_active.specs.Inputs.{Endpoints, Named}
 use Rattle.fx_active.specs.Active.{is_in, is_listed, AreProfiles}
 use Rattle.fx_active.specs.Indexes.{Counts, count_at, times_in, times_listed, AreCounts, AreCounted}
-use Rattle.fx_active.proofs.MapLemmas.{insert_back, remove_absent, get_removed}
-
-moved : (a b n : ℕ) → a + (b + n) ≡ b + (a + n)
-moved a b n = omega arith
-
-none_more : (n : ℕ) → n ≡ 0 + n
-none_more n = omega arith
+use Rattle.fx_active.proofs.MapLemmas.{insert_back}
+use Rattle.fx_base.proofs.Cases.{moved, none_more}
+use Rattle.fx_base.proofs.Keyed.{remove_absent, get_removed}
 
 -- a key that is new adds its weight
 sum_by-put : {K X : Type 0} (R : K → K → Ordering) (f : K × X → ℕ) (k : K) (v : X) (es : List (K × X)) → find R k es ≡ None → sum_by f (put R k v es) ≡ f (k, v) + sum_by f es

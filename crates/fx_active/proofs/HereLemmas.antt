@@ -7,6 +7,7 @@ use Rattle.std.specs.FinMap as map
 use Rattle.std.specs.FinMap.{get, insert, remove, empty, contains_key, keys, entries, get-remove, get-entries}
 use Rattle.fx_base.specs.Set as set
 use Rattle.fx_base.specs.Same.{both_pass}
+use Rattle.fx_base.specs.Grouped.{has_key}
 use Rattle.fx_base.proofs.AnyIn.{same_truth, any_key, any_from_key}
 use Rattle.fx_base.proofs.AtKey.{get_empty}
 use Rattle.fx_base.proofs.Walk.{found}
@@ -17,16 +18,12 @@ use Rattle.fx_model.proofs.Orders.{item_total, exact_item}
 use Rattle.fx_model.proofs.PairAt.{contains_put_pair}
 use Rattle.fx_active.specs.Inputs.{Endpoints}
 use Rattle.fx_active.specs.Active.{holds_somewhere}
-use Rattle.fx_active.specs.Indexes.{has_key}
 use Rattle.fx_active.specs.Rows.{Rows, AreHere, has_some}
 use Rattle.fx_active.specs.Steps.{same_item}
 use Rattle.fx_active.proofs.CountLemmas.{tied_names}
 use Rattle.fx_active.proofs.Larger.{more_pairs, again_pairs}
 use Rattle.fx_active.proofs.Updates.{item_same}
-
-never : (b : Bool) → (b && false) ≡ false
-never true = refl
-never false = refl
+use Rattle.fx_base.proofs.Cases.{never}
 
 abbrev no_row : Rows
 no_row = empty

@@ -4,11 +4,11 @@ use Rattle.std.specs.Ordering.{nat_cmp}
 use Rattle.std.specs.Cmp.Lexicographic.{slice_cmp, pointwise, nat_list_cmp_total}
 use Rattle.std.specs.FinMap.{get, entries, get-entries}
 use Rattle.fx_base.specs.Set as set
+use Rattle.fx_base.specs.Grouped.{has_key, Texts}
 use Rattle.fx_base.proofs.KeyCases.{bytes_exact}
 use Rattle.fx_base.proofs.Walk.{IsRest, IsHalf, IsRest-start, IsRest-next, IsRest-head, IsHalf-head, IsHalf-next}
 use Rattle.fx_model.specs.declared.ids.ItemKey.{ItemKey}
-use Rattle.fx_active.specs.Indexes.{has_key}
-use Rattle.fx_active.specs.Rows.{Texts, Rows}
+use Rattle.fx_active.specs.Rows.{Rows}
 use Rattle.fx_active.specs.Steps.{same_item}
 use Rattle.fx_active.proofs.CountLemmas.{tied_names, own_name}
 

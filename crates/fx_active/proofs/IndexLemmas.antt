@@ -5,6 +5,7 @@ use Rattle.std.specs.Ordering.{is_eq}
 use Rattle.std.specs.Cmp.Lexicographic.{pointwise}
 use Rattle.std.specs.FinMap as map
 use Rattle.fx_base.specs.Set as set
+use Rattle.fx_base.specs.Grouped.{has_key}
 use Rattle.fx_base.proofs.AtKey.{get_empty}
 use Rattle.fx_model.specs.Sinks.{Policies}
 use Rattle.fx_model.specs.declared.ids.PolicyId.{PolicyId}
@@ -13,9 +14,10 @@ use Rattle.fx_model.specs.contracts.ids.PolicyIdOrd.TheImpl.{cmp-value}
 use Rattle.fx_model.proofs.Orders.{policy_total, exact_policy}
 use Rattle.fx_active.specs.Active.{text_of}
 use Rattle.fx_active.specs.Steps.{same_id}
-use Rattle.fx_active.specs.Indexes.{ByText, has_key, has_text, AreByText}
+use Rattle.fx_active.specs.Indexes.{ByText, has_text, AreByText}
 use Rattle.fx_active.proofs.KeysByText.{key_there}
 use Rattle.fx_active.proofs.CountLemmas.{own_name}
+use Rattle.fx_base.proofs.Cases.{shown, gone_both}
 
 pub by_text_empty : AreByText map.empty map.empty
 by_text_empty t id = ap (λ (o : Option (set.Set cmp-value.it)). has_key o id) (get_empty t) ∙ sym (ap (has_text t) (map.get-empty cmp-value.it id))
@@ -38,18 +40,6 @@ at_id f k q x h =
       | Greater ↦ λ e. refl
     ] refl
 
-shown : (a b : Bool) (x : Bool) → cond b false x ≡ x → cond (a && b) true x ≡ cond b a x
-shown true true x h = refl
-shown false true x h = sym h
-shown true false x h = refl
-shown false false x h = refl
-
-gone : (a b : Bool) (x : Bool) → cond b a x ≡ x → cond (a && b) false x ≡ cond b false x
-gone true true x h = refl
-gone false true x h = sym h
-gone true false x h = refl
-gone false false x h = refl
-
 module _ (m : ByText) (policies : Policies) (are : AreByText m policies) (id : PolicyId) (p : Policy) (now : ByText) where
   pub by_text_added : map.get policies id ≡ None → ((t : List ℕ) (q : PolicyId) → has_key (map.get now t) q ≡ cond (pointwise nat_eq (text_of p) t && same_id q id) true (has_key (map.get m t) q)) → AreByText now (map.insert policies id p)
   by_text_added none is t q =
@@ -60,7 +50,7 @@ module _ (m : ByText) (policies : Policies) (are : AreByText m policies) (id : P
   pub by_text_removed : map.get policies id ≡ Some p → ((t : List ℕ) (q : PolicyId) → has_key (map.get now t) q ≡ cond (pointwise nat_eq (text_of p) t && same_id q id) false (has_key (map.get m t) q)) → AreByText now (map.remove policies id)
   by_text_removed there is t q =
       is t q ∙ ap (cond (pointwise nat_eq (text_of p) t && same_id q id) false) (are t q)
-      ∙ gone (pointwise nat_eq (text_of p) t) (same_id q id) (has_text t (map.get policies q)) (at_id (λ u. has_text t (map.get policies u)) id q (pointwise nat_eq (text_of p) t) (ap (has_text t) there))
+      ∙ gone_both (pointwise nat_eq (text_of p) t) (same_id q id) (has_text t (map.get policies q)) (at_id (λ u. has_text t (map.get policies u)) id q (pointwise nat_eq (text_of p) t) (ap (has_text t) there))
       ∙ sym (ap (has_text t) (map.get-remove policy_total policies id q) ∙ no_text (same_id q id) t (map.get policies q))
 
 -- the text of a policy that is there has ids

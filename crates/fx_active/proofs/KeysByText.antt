@@ -6,15 +6,15 @@ use Rattle.std.specs.Cmp.{IsTotalOrder}
 use Rattle.std.specs.Cmp.Lexicographic.{slice_cmp, pointwise, nat_list_cmp_total}
 use Rattle.std.specs.FinMap as map
 use Rattle.fx_base.specs.Set as set
-use Rattle.fx_base.proofs.AtKey.{insert_twice_bytes}
+use Rattle.fx_base.specs.Grouped.{Grouped, has_key}
+use Rattle.fx_base.proofs.AtKey.{insert_twice_bytes, insert_removed}
 use Rattle.fx_base.proofs.KeyCases.{bytes_exact}
-use Rattle.fx_active.specs.Indexes.{SetsByText, has_key}
 use Rattle.fx_active.proofs.CountLemmas.{tied_names}
-use Rattle.fx_active.proofs.Keyed as keyed
-use Rattle.fx_active.proofs.MapLemmas.{insert_removed, remove_inserted}
+use Rattle.fx_base.proofs.Keyed as keyed
+use Rattle.fx_active.proofs.MapLemmas.{remove_inserted}
 
 module _ {K : Type 0} {R : K → K → Ordering} (total : IsTotalOrder R) where
-  module _ (m now : SetsByText R) (k : List ℕ) (id : K) (keys : set.Set R) where
+  module _ (m now : Grouped (slice_cmp nat_cmp) R) (k : List ℕ) (id : K) (keys : set.Set R) where
     by_name : (b : Bool) → ((t : List ℕ) (q : K) → has_key (map.get now t) q ≡ cond (eq_by_cmp (slice_cmp nat_cmp) t k && eq_by_cmp R q id) b (has_key (map.get m t) q)) → (t : List ℕ) (q : K) → has_key (map.get now t) q ≡ cond (pointwise nat_eq k t && eq_by_cmp R q id) b (has_key (map.get m t) q)
     by_name b at t q = at t q ∙ ap (λ x. cond (x && eq_by_cmp R q id) b (has_key (map.get m t) q)) (tied_names t k)
 

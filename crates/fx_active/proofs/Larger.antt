@@ -14,6 +14,7 @@ use Rattle.fx_active.specs.Inputs.{Endpoints}
 use Rattle.fx_active.specs.Active.{text_of, holds_somewhere}
 use Rattle.fx_active.specs.Steps.{same_item, selects, has_typed_text, holds_of}
 use Rattle.fx_active.proofs.Updates.{IsLarger, IsTest, item_same, own_item}
+use Rattle.fx_base.proofs.Cases.{never}
 
 some_cond : {A : Type 0} (b : Bool) (x : A) (o : Option A) → is_some (cond b (Some x) o) ≡ cond b true (is_some o)
 some_cond true x o = refl
@@ -34,10 +35,6 @@ either false b h f g = g h
 whether : {C : Type 0} (b : Bool) → (b ≡ true → C) → (b ≡ false → C) → C
 whether true f g = f refl
 whether false f g = g refl
-
-pub never : (b : Bool) → (b && false) ≡ false
-never true = refl
-never false = refl
 
 both_ways : (b : Bool) → cond b true true ≡ true
 both_ways true = refl

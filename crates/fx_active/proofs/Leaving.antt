@@ -2,6 +2,7 @@
 use Rattle.std.proofs.Common.{◌≡◌, ℕ, true, false, not, ◌&&◌, List, Option, Some, None, is_some, refl, ap, subst}
 use Rattle.std.specs.FinMap.{get, insert, remove, contains_key}
 use Rattle.fx_base.specs.Set as set
+use Rattle.fx_base.proofs.Keyed.{get_removed}
 use Rattle.fx_model.specs.Pairs.{Pairs, PolicyPairs}
 use Rattle.fx_model.specs.Sinks.{Policies}
 use Rattle.fx_model.specs.declared.ids.ItemKey.{ItemKey}
@@ -10,7 +11,7 @@ use Rattle.fx_model.proofs.Orders.{item_total, exact_item}
 use Rattle.fx_active.specs.Inputs.{Endpoints}
 use Rattle.fx_active.specs.Active.{text_of, ArePolicies, ArePairs}
 use Rattle.fx_active.specs.Steps.{selects, holds_of, IsUpdated}
-use Rattle.fx_active.proofs.MapLemmas.{insert_back, get_removed}
+use Rattle.fx_active.proofs.MapLemmas.{insert_back}
 use Rattle.fx_active.proofs.Updates.{pair_there, policy_there, policies_shrunk, pairs_shrunk}
 use Rattle.fx_active.proofs.Larger.{endpoint_more, endpoint_test}
 

@@ -2,14 +2,12 @@ pub mod MapLemmas
 pub mod CountLemmas
 pub mod ListingLemmas
 pub mod EndpointLemmas
-pub mod Keyed
 pub mod KeysByText
 pub mod IndexLemmas
 pub mod UpdateWalk
 pub mod PairWalk
 pub mod Updates
 pub mod Larger
-pub mod Sorted
 pub mod TextWalk
 pub mod RowLemmas
 pub mod HereLemmas

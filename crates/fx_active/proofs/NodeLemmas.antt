@@ -25,6 +25,7 @@ use Rattle.fx_active.specs.Active.{where_active, applies_to, is_in, is_listed, A
 use Rattle.fx_active.specs.Node.{IsActive}
 use Rattle.fx_active.specs.Steps.{same_id, insert_or_remove, IsRowSet}
 use Rattle.fx_active.proofs.UpdateWalk.{get_either}
+use Rattle.fx_base.proofs.Cases.{hidden}
 
 -- what stands of the value at entry stands of what it is inside
 module _ {n m : Inputs} {P : Policies} {Q : Profiles} {S : PolicyPairs} where
@@ -61,10 +62,6 @@ module _ (ps now : Named) (E : Endpoints) (Q then : Profiles) (name : List ℕ) 
   profiles_put at output q = ap (λ m. map.get m q) output ∙ profile_at (is_listed E name) refl q ∙ ap (λ v. cond (is_listed E q) (Some v) None) (sym (at q))
 
 -- ---- another policy at an id, or none
-hidden : {A : Type 0} (b : Bool) (x y z : A) → cond b x (cond b y z) ≡ cond b x z
-hidden true x y z = refl
-hidden false x y z = refl
-
 module _ (E : Endpoints) (M : Pairs) where
   where_either : (b : Bool) (o x : Option Policy) → cond b (where_active E M o) (where_active E M x) ≡ where_active E M (cond b o x)
   where_either true o x = refl

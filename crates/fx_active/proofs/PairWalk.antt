@@ -15,15 +15,12 @@ use Rattle.fx_model.specs.contracts.ids.PolicyIdOrd.TheImpl as policy_cmp
 use Rattle.fx_model.proofs.Orders.{item_total, exact_item, policy_total, exact_policy}
 use Rattle.fx_model.proofs.PairAt.{contains_put_policy_pair}
 use Rattle.fx_active.specs.Steps.{same_id, same_item, IsRowSet}
-use Rattle.fx_active.proofs.MapLemmas.{remove_absent}
-
-not_there : {A : Type 0} (o : Option A) → is_some o ≡ false → o ≡ None
-not_there None h = refl
-not_there (Some x) h = cc
+use Rattle.fx_base.proofs.Cases.{absent_value, never}
+use Rattle.fx_base.proofs.Keyed.{remove_absent}
 
 -- what isn't there stays away
 pub gone_already : (m : Policies) (id : PolicyId) → is_some (get m id) ≡ false → m ≡ remove m id
-gone_already m id h = sym (remove_absent policy_total exact_policy m id (not_there (get m id) h))
+gone_already m id h = sym (remove_absent policy_total exact_policy m id (absent_value (get m id) h))
 
 abbrev pub Items : Type 0
 Items = set.Set item_cmp.cmp-value.it
@@ -38,10 +35,6 @@ row_after row after id s i q = cond (same_id q id && row i) (after i) (set.conta
 pub record IsHalfPaired (row after : ItemKey → Bool) (id : PolicyId) (s s' : PolicyPairs) (w : Items) (es : List (ItemKey × Unit {0})) : Type 0 where
   pub rest : IsRest w es
   pub half : IsHalf item_cmp.cmp-value.it (item_row s) (row_after row after id s) (item_row s') es
-
-never : (b : Bool) → (b && false) ≡ false
-never true = refl
-never false = refl
 
 module _ (after : ItemKey → Bool) (id : PolicyId) (s : PolicyPairs) (w : Items) where
   abbrev row : ItemKey → Bool

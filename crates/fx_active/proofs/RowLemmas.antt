@@ -7,25 +7,19 @@ use Rattle.std.specs.List.{list_any}
 use Rattle.std.specs.FinMap as map
 use Rattle.std.specs.FinMap.{find, is_sorted}
 use Rattle.fx_base.specs.Set as set
+use Rattle.fx_base.specs.Grouped.{Texts, has_key, same_text}
 use Rattle.fx_base.proofs.Entries.{entries-empty}
 use Rattle.fx_model.specs.Pairs.{Pairs, pair_cmp, put}
 use Rattle.fx_model.specs.declared.ids.ItemKey.{ItemKey}
 use Rattle.fx_model.specs.contracts.ids.ItemKeyOrd.TheImpl.{cmp-value}
 use Rattle.fx_model.proofs.Orders.{exact_item, pairs_total, exact_pair}
 use Rattle.fx_model.proofs.PairAt.{contains_put_pair}
-use Rattle.fx_active.specs.Indexes.{has_key}
-use Rattle.fx_active.specs.Rows.{Texts, ByItem, with_texts, pairs_in, pairs_of}
+use Rattle.fx_active.specs.Rows.{ByItem, with_texts, pairs_in, pairs_of}
 use Rattle.fx_active.specs.Steps.{same_item}
-use Rattle.fx_active.proofs.Sorted.{gone, rest_sorted}
-
-abbrev same_text : List ℕ → List ℕ → Bool
-same_text u t = eq_by_cmp (slice_cmp nat_cmp) u t
+use Rattle.fx_base.proofs.Cases.{never, none_else, unit_same}
+use Rattle.fx_base.proofs.Sorted.{gone, rest_sorted}
 
 -- ---- the pairs of one item
-never : (b : Bool) → (b && false) ≡ false
-never true = refl
-never false = refl
-
 joined : (a b c d : Bool) → cond (b && a) true ((a && c) || d) ≡ ((a && (b || c)) || d)
 joined true true c d = refl
 joined false true c d = refl
@@ -39,10 +33,6 @@ in_texts k (t ∷ ts) s u i =
     ∙ joined (same_item i k) (same_text u t) (list_any (λ t. same_text u t) ts) (set.contains s (u, i))
 
 -- ---- the pairs of all items
-none_else : (b : Bool) → (b || false) ≡ b
-none_else true = refl
-none_else false = refl
-
 in_rows : (es : List (ItemKey × Texts)) → T (is_sorted cmp-value.it es) → (u : List ℕ) (i : ItemKey) → set.contains (pairs_in es) (u, i) ≡ has_key (find cmp-value.it i es) u
 in_rows [] s u i = ap is_some (map.get-empty pair_cmp (u, i))
 in_rows (e ∷ es) s u i =
@@ -60,12 +50,6 @@ in_pairs m u i = in_rows (map.entries m) (map.entries_sorted m) u i ∙ ap (λ o
 -- ---- a pair more or less
 pub no_rows : pairs_of map.empty ≡ set.empty
 no_rows = ap pairs_in (entries-empty cmp-value.it)
-
-unit_same : (x y : Option (Unit {0})) → is_some x ≡ is_some y → x ≡ y
-unit_same None None h = refl
-unit_same None (Some y) h = cc
-unit_same (Some x) None h = cc
-unit_same (Some x) (Some y) h = refl
 
 same_pairs : (s t : Pairs) → ((u : List ℕ) (i : ItemKey) → set.contains s (u, i) ≡ set.contains t (u, i)) → s ≡ t
 same_pairs s t h = map.same_map pairs_total exact_pair s t (λ p. unit_same (map.get s p) (map.get t p) (h p.0 p.1))

@@ -6,6 +6,7 @@ use Rattle.std.specs.Cmp.Lexicographic.{slice_cmp, pointwise, texts_ties, nat_li
 use Rattle.std.specs.FinMap.{find, get, entries, get-entries}
 use Rattle.fx_base.specs.Set as set
 use Rattle.fx_base.specs.Same.{same_bytes, both_pass}
+use Rattle.fx_base.specs.Grouped.{Texts}
 use Rattle.fx_base.proofs.KeyCases.{bytes_exact}
 use Rattle.fx_base.proofs.Walk.{IsRest, IsRest-start, IsRest-next, IsRest-head, found}
 use Rattle.fx_model.specs.Active.{has_types}
@@ -16,9 +17,9 @@ use Rattle.fx_model.specs.declared.ids.PolicyId.{PolicyId}
 use Rattle.fx_model.specs.declared.policy.Policy.{Policy}
 use Rattle.fx_active.specs.Inputs.{Endpoints}
 use Rattle.fx_active.specs.Active.{text_of, holds_somewhere}
-use Rattle.fx_active.specs.Rows.{Texts}
 use Rattle.fx_active.specs.Steps.{same_item, selects, has_typed_text, holds_of, IsUpdated}
-use Rattle.fx_active.proofs.Sorted.{gone}
+use Rattle.fx_base.proofs.Cases.{never, always, none_else}
+use Rattle.fx_base.proofs.Sorted.{gone}
 
 -- ---- two walks, one after the other
 again : {A : Type 0} (c a : Bool) (v x : A) → cond (not a) v (cond (c && not a) v x) ≡ cond ((c || true) && not a) v x
@@ -78,18 +79,6 @@ pub record IsHalfTold (policies : Policies) (E : Endpoints) (M : Pairs) (item : 
   pub rest : IsRest w es
   pub updated : IsUpdated policies (λ id. is_reached M item es (get policies id)) (λ id. holds_of E M (get policies id)) item added m s m' s'
 
-never : (b : Bool) → (b && false) ≡ false
-never true = refl
-never false = refl
-
-always : (b : Bool) → (b && true) ≡ b
-always true = refl
-always false = refl
-
-or_none : (b : Bool) → (b || false) ≡ b
-or_none true = refl
-or_none false = refl
-
 out : (a b : Bool) → ((a && b) && not b) ≡ false
 out true true = refl
 out true false = refl
@@ -132,8 +121,8 @@ module _ (E : Endpoints) (M : Pairs) (item : ItemKey) (w : Texts) (covers : (t :
         let t = text_of p in
         let sel = has_types p && set.contains M (t, item) in
         elim (slice_cmp nat_cmp t e.0) as (λ r. slice_cmp nat_cmp t e.0 ≡ r → (sel && not (is_some (find (slice_cmp nat_cmp) t es))) ≡ ((sel && not (is_some (cond (is_eq r) (Some e.1) (find (slice_cmp nat_cmp) t es)))) || (has_types p && is_eq r))) [
-          | Less ↦ λ q. sym (ap (λ b. (sel && not (is_some (find (slice_cmp nat_cmp) t es))) || b) (never (has_types p)) ∙ or_none _)
-          | Greater ↦ λ q. sym (ap (λ b. (sel && not (is_some (find (slice_cmp nat_cmp) t es))) || b) (never (has_types p)) ∙ or_none _)
+          | Less ↦ λ q. sym (ap (λ b. (sel && not (is_some (find (slice_cmp nat_cmp) t es))) || b) (never (has_types p)) ∙ none_else _)
+          | Greater ↦ λ q. sym (ap (λ b. (sel && not (is_some (find (slice_cmp nat_cmp) t es))) || b) (never (has_types p)) ∙ none_else _)
           | Equal ↦ λ q.
               ap (λ x. sel && not (is_some x)) (gone (slice_cmp nat_cmp) bytes_exact e es rest.sorted t q) ∙ always sel
               ∙ ap (λ b. has_types p && b) (ap (λ k. set.contains M (k, item)) (bytes_exact t e.0 q) ∙ holds_on)

@@ -15,6 +15,7 @@ use Rattle.fx_model.proofs.Orders.{policy_total, exact_policy}
 use Rattle.fx_model.proofs.PairAt.{contains_put_policy_pair}
 use Rattle.fx_model.specs.Active.{has_types}
 use Rattle.fx_active.specs.Steps.{same_id, same_item, insert_or_remove, selects, typed, is_typed, IsUpdated}
+use Rattle.fx_base.proofs.Cases.{first_true, both_true}
 
 abbrev pub own_policy : Policies → PolicyId → Unit {0} → Option Policy
 own_policy m id u = get m id
@@ -146,13 +147,6 @@ typed_not (Some q) h = elim (has_types q) as (λ b. has_types q ≡ b → None �
   | true ↦ λ e g. cc
   | false ↦ λ e g. e
 ] refl h
-
-pub in_first : (a b : Bool) → (a && b) ≡ true → a ≡ true
-in_first true b h = refl
-in_first false b h = h
-
-pub in_both : (a b : Bool) → a ≡ true → b ≡ true → (a && b) ≡ true
-in_both a b h k = ap (λ x. x && b) h ∙ k
 
 pub not_second : (a b : Bool) → b ≡ false → (a && b) ≡ false
 not_second true b h = h

@@ -17,6 +17,7 @@ use Rattle.fx_model.proofs.Orders.{item_total, exact_item}
 use Rattle.fx_active.specs.Inputs.{Endpoints}
 use Rattle.fx_active.specs.Active.{text_of, holds_somewhere, where_active, applies_to, ArePolicies, ArePairs}
 use Rattle.fx_active.specs.Steps.{same_item, IsUpdated}
+use Rattle.fx_base.proofs.Cases.{never, surely, opposite}
 
 -- ---- the same endpoints and matches, as far as policies are concerned
 module _ (E E' : Endpoints) (M M' : Pairs) (holds : (t : List ℕ) → holds_somewhere E' M' t ≡ holds_somewhere E M t) (pairs : (t : List ℕ) (i : ItemKey) → (contains_key E' i && set.contains M' (t, i)) ≡ (contains_key E i && set.contains M (t, i))) where
@@ -63,18 +64,6 @@ unless_concerned : {A : Type 0} (t c : Bool) (a b : Bool) (x y : A) → (c ≡ t
 unless_concerned false c a b x y h = refl
 unless_concerned true false a b x y h = refl
 unless_concerned true true a b x y h = ap (λ z. cond (not z) x y) (h refl)
-
-never : (b : Bool) → (b && false) ≡ false
-never true = refl
-never false = refl
-
-surely : (b : Bool) → (b || true) ≡ true
-surely true = refl
-surely false = refl
-
-pub is_false : (b : Bool) → not b ≡ true → b ≡ false
-is_false true h = sym h
-is_false false h = refl
 
 pub is_true : (b : Bool) → not b ≡ false → b ≡ true
 is_true true h = refl
@@ -149,7 +138,7 @@ module _ (E : Endpoints) (M : Pairs) (E' : Endpoints) (M' : Pairs) (item : ItemK
   policy_small (Some p) h =
       let parts = both_pass (concerned (Some p)) (not (others (Some p))) h in
       let both = both_pass (has_types p) (c p) (sym (t.some p) ∙ parts.0) in
-      ap (λ b. is_some (cond (has_types p && b) (Some p) None)) (sym (t.other p both.1) ∙ is_false (others (Some p)) parts.1)
+      ap (λ b. is_some (cond (has_types p && b) (Some p) None)) (sym (t.other p both.1) ∙ opposite (others (Some p)) parts.1)
       ∙ ap (λ b. is_some (cond b (Some p) None)) (never (has_types p))
 
   policy_large : (o : Option Policy) → (concerned o && not (others o)) ≡ true → is_some (where_active E' M' o) ≡ true

@@ -1,11 +1,10 @@
 -- What the node holds beside its inputs, so as to find things.
 use Rattle.std.specs.Prelude.{◌≡◌, ◌==◌, ℕ, Bool, false, cond, nat_eq, List, Option, Some, None, unwrap_or}
-use Rattle.std.specs.declared.cmp.Ordering.{Ordering}
 use Rattle.std.specs.Ordering.{nat_cmp}
 use Rattle.std.specs.Cmp.Lexicographic.{slice_cmp, pointwise}
 use Rattle.std.specs.List.{count_by, sum_by}
 use Rattle.std.specs.FinMap as map
-use Rattle.fx_base.specs.Set as set
+use Rattle.fx_base.specs.Grouped.{Grouped, has_key}
 use Rattle.fx_model.specs.Sinks.{Policies, Profiles}
 use Rattle.fx_model.specs.declared.ids.ItemKey.{ItemKey}
 use Rattle.fx_model.specs.declared.ids.PolicyId.{PolicyId}
@@ -16,17 +15,8 @@ use Rattle.fx_active.specs.Active.{text_of}
 
 -- ---- policies by their selectors' texts
 
--- sets of keys by a selector's text
-abbrev pub SetsByText : {K : Type 0} → (K → K → Ordering) → Type 0
-SetsByText R = map.FinMap (slice_cmp nat_cmp) (set.Set R)
-
--- the key is in the set, if there is one
-abbrev pub has_key : {K : Type 0} {R : K → K → Ordering} → Option (set.Set R) → K → Bool
-has_key None k = false
-has_key (Some keys) k = set.contains keys k
-
 abbrev pub ByText : Type 0
-ByText = SetsByText cmp-value.it
+ByText = Grouped (slice_cmp nat_cmp) cmp-value.it
 
 -- a policy that is there has this selector
 abbrev pub has_text : List ℕ → Option Policy → Bool

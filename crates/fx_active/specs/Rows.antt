@@ -4,19 +4,16 @@ use Rattle.std.specs.Ordering.{nat_cmp}
 use Rattle.std.specs.Cmp.Lexicographic.{slice_cmp}
 use Rattle.std.specs.FinMap as map
 use Rattle.fx_base.specs.Set as set
+use Rattle.fx_base.specs.Grouped.{Grouped, Texts, has_key}
 use Rattle.fx_model.specs.Pairs.{Pairs}
 use Rattle.fx_model.specs.declared.ids.ItemKey.{ItemKey}
 use Rattle.fx_model.specs.contracts.ids.ItemKeyOrd.TheImpl.{cmp-value}
 use Rattle.fx_active.specs.Inputs.{Endpoints}
-use Rattle.fx_active.specs.Indexes.{SetsByText, has_key}
 
 -- ---- the texts of each item
 
-abbrev pub Texts : Type 0
-Texts = set.Set (slice_cmp nat_cmp)
-
 abbrev pub ByItem : Type 0
-ByItem = map.FinMap cmp-value.it Texts
+ByItem = Grouped cmp-value.it (slice_cmp nat_cmp)
 
 -- with the pairs of some texts and an item
 abbrev pub with_texts : ItemKey → List (List ℕ) → Pairs → Pairs
@@ -33,7 +30,7 @@ pairs_of by_item = pairs_in (map.entries by_item)
 -- ---- the endpoints of each text
 
 abbrev pub Rows : Type 0
-Rows = SetsByText cmp-value.it
+Rows = Grouped (slice_cmp nat_cmp) cmp-value.it
 
 -- below each text stand the endpoints that are there and on which the selector holds
 abbrev pub AreHere : Rows → Endpoints → Pairs → Type 0

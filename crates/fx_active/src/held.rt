@@ -3,9 +3,9 @@ ghost use Rattle.std.specs.Prelude.{◌≡◌, ℕ, List, OnOk, true, ◌&&◌};
 ghost use Rattle.std.specs.Option.{option_copied};
 ghost use Rattle.std.specs.FinMap as map;
 ghost use Rattle.fx_base.specs.Set as set;
+ghost use Rattle.fx_base.specs.Grouped.{has_key};
 ghost use Rattle.fx_model.specs.declared.ids.ItemKey.{ItemKey};
 ghost use Rattle.fx_active.specs.Active.{AreProfiles};
-ghost use Rattle.fx_active.specs.Indexes.{has_key};
 
 use crate::endpoints::Endpoints;
 use crate::here::Here;

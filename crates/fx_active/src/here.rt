@@ -4,8 +4,8 @@ ghost use Rattle.std.specs.Option.{option_copied};
 ghost use Rattle.std.specs.Cmp.Lexicographic.{pointwise};
 ghost use Rattle.std.specs.FinMap as map;
 ghost use Rattle.fx_base.specs.Set as set;
+ghost use Rattle.fx_base.specs.Grouped.{has_key};
 ghost use Rattle.fx_model.specs.declared.ids.ItemKey.{ItemKey};
-ghost use Rattle.fx_active.specs.Indexes.{has_key};
 ghost use Rattle.fx_active.specs.Steps.{same_item};
 
 use crate::endpoints::Endpoints;
@@ -125,7 +125,7 @@ impl Here {
         let mut items = ItemMap::new(self.alloc);
         self.by_text.swap(text, &mut items);
         items.remove(item);
-        if is_empty(&items) {
+        if items.is_empty() {
             self.by_text.remove(text);
         } else {
             self.by_text.swap(text, &mut items);
@@ -151,10 +151,4 @@ impl Here {
             self.remove(text, item);
         }
     }
-}
-
-fn is_empty(items: &ItemMap<()>) -> bool
-    ensures { IsTrue result → map.entries items.now ≡ [] }
-{
-    items.iter().next().is_none()
 }

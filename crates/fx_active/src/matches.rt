@@ -3,7 +3,7 @@ ghost use Rattle.std.specs.Prelude.{◌≡◌, ℕ, List, OnOk, [], IsTrue};
 ghost use Rattle.std.specs.Option.{option_copied};
 ghost use Rattle.std.specs.FinMap as map;
 ghost use Rattle.fx_base.specs.Set as set;
-ghost use Rattle.fx_active.specs.Indexes.{has_key};
+ghost use Rattle.fx_base.specs.Grouped.{has_key};
 
 use fx_base::{Memory, Text, TextMap};
 use fx_model::{ItemKey, ItemMap};
@@ -71,16 +71,10 @@ impl Matches {
             .remove(item)
             .unwrap_or(TextMap::new(self.alloc));
         texts.remove(text);
-        if is_empty(&texts) {
+        if texts.is_empty() {
             return Ok(());
         }
         self.by_item.insert(item.clone()?, texts)?;
         Ok(())
     }
-}
-
-fn is_empty(texts: &TextMap<()>) -> bool
-    ensures { IsTrue result → map.entries texts.now ≡ [] }
-{
-    texts.iter().next().is_none()
 }

@@ -4,11 +4,11 @@ ghost use Rattle.std.specs.Prelude.{◌≡◌, ℕ, List, OnOk, is_some, true, f
 ghost use Rattle.std.specs.Option.{option_copied};
 ghost use Rattle.std.specs.FinMap as map;
 ghost use Rattle.fx_base.specs.Set as set;
+ghost use Rattle.fx_base.specs.Grouped.{has_key};
 ghost use Rattle.fx_model.specs.Pairs.{put};
 ghost use Rattle.fx_model.specs.declared.ids.ItemKey.{ItemKey};
 ghost use Rattle.fx_model.specs.declared.ids.PolicyId.{PolicyId};
 ghost use Rattle.fx_active.specs.Active.{applies_to};
-ghost use Rattle.fx_active.specs.Indexes.{has_key};
 ghost use Rattle.fx_active.specs.Steps.{insert_or_remove, same_id, selects, is_typed, has_typed_text, holds_of, IsRowSet, IsUpdated};
 
 use crate::held::Held;

@@ -4,9 +4,10 @@ ghost use Rattle.std.specs.Option.{option_copied};
 ghost use Rattle.std.specs.Cmp.Lexicographic.{pointwise};
 ghost use Rattle.std.specs.FinMap as map;
 ghost use Rattle.fx_base.specs.Set as set;
+ghost use Rattle.fx_base.specs.Grouped.{has_key};
 ghost use Rattle.fx_model.specs.declared.ids.PolicyId.{PolicyId};
 ghost use Rattle.fx_active.specs.Steps.{same_id, typed};
-ghost use Rattle.fx_active.specs.Indexes.{has_key, has_text};
+ghost use Rattle.fx_active.specs.Indexes.{has_text};
 
 use crate::indexed_policy::IndexedPolicy;
 use fx_base::{Memory, Text, TextMap};
@@ -130,15 +131,9 @@ fn remove_id(alloc: Global, by_text: &mut TextMap<PolicyMap<()>>, text: &Text, i
     let mut ids = PolicyMap::new(alloc);
     by_text.swap(text, &mut ids);
     ids.remove(id);
-    if is_empty(&ids) {
+    if ids.is_empty() {
         by_text.remove(text);
     } else {
         by_text.swap(text, &mut ids);
     }
-}
-
-fn is_empty(ids: &PolicyMap<()>) -> bool
-    ensures { IsTrue result → map.entries ids.now ≡ [] }
-{
-    ids.iter().next().is_none()
 }

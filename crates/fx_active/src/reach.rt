@@ -4,7 +4,7 @@ ghost use Rattle.std.specs.Option.{option_copied};
 ghost use Rattle.std.specs.FinMap as map;
 ghost use Rattle.fx_model.specs.declared.ids.ItemKey.{ItemKey};
 ghost use Rattle.fx_active.specs.Active.{applies_to, holds_somewhere, where_active};
-ghost use Rattle.fx_active.specs.Indexes.{has_key};
+ghost use Rattle.fx_base.specs.Grouped.{has_key};
 ghost use Rattle.fx_active.specs.Rows.{has_some};
 
 use crate::held::Held;

@@ -13,12 +13,10 @@ use Rattle.fx_parts.specs.Noted.{Before, AreNoted, AreFormed}
 use Rattle.fx_feed.specs.Fed.{raised_at, raised_by, lowered_at, lowered_by}
 use Rattle.fx_feed.specs.Used.{weight_at, used_in}
 use Rattle.fx_feed.proofs.Sums.{coming_among, leaving_among, balance}
+use Rattle.fx_base.proofs.Cases.{none_more}
 
 recounted : (s : Selectors) (n m : List ℕ → ℕ) → IsCounted s n → ((t : List ℕ) → n t ≡ m t) → IsCounted s m
 recounted s n m h e = record { trees = h.trees; some = h.some; count = λ t. h.count t ∙ e t }
-
-none_more : (n : ℕ) → n ≡ 0 + n
-none_more n = omega arith
 
 one_of_all : (c w n : ℕ) → c + (w + n) ≡ (w + c) + n
 one_of_all c w n = omega arith

@@ -12,6 +12,7 @@ use Rattle.fx_parts.specs.Noted.{Before, AreNoted}
 use Rattle.fx_told.proofs.Brought.{IsBrought, begun, head_touched, head_before, put, off, ended}
 use Rattle.fx_parts.proofs.NotedLemmas.{unnoted, noted_was}
 use Rattle.fx_feed.specs.Used.{weight_of_use, weight_at, used_among, used_in}
+use Rattle.fx_base.proofs.Cases.{none_more}
 
 abbrev pub coming_among : Uses → List ℕ → List (List ℕ × Option SetUse) → ℕ
 coming_among uses t [] = 0
@@ -20,9 +21,6 @@ coming_among uses t (e ∷ es) = weight_at t (map.get uses e.0) + coming_among u
 abbrev pub leaving_among : List ℕ → List (List ℕ × Option SetUse) → ℕ
 leaving_among t [] = 0
 leaving_among t (e ∷ es) = weight_at t e.1 + leaving_among t es
-
-none_more : (n : ℕ) → n ≡ 0 + n
-none_more n = omega arith
 
 one_on : (wn c wb l r s x n : ℕ) → s ≡ wb + r → x ≡ wn + r → c + x ≡ l + n → (wn + c) + s ≡ (wb + l) + n
 one_on wn c wb l r s x n a b i = omega (arith, a, b, i)

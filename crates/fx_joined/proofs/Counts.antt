@@ -25,12 +25,10 @@ use Rattle.fx_label_index.proofs.Canonicals.{one_canonical, canonical_more, cano
 use Rattle.fx_active.specs.Active.{text_of}
 use Rattle.fx_active.proofs.MapLemmas.{insert_back, remove_absent, get_removed, insert_removed}
 use Rattle.fx_joined.specs.Counting.{weight, weight_of, times_among, times, total, with_one, IsCounted}
+use Rattle.fx_base.proofs.Cases.{same_some, moved, none_more}
 
 not_some : {A : Type 0} (x : A) → None ≡ Some x → ⊥
 not_some x e = cc
-
-the_one : {A : Type 0} (x y : A) → Some x ≡ Some y → x ≡ y
-the_one x y e = cc
 
 plus_none : (a b : ℕ) → a ≡ b → a ≡ 0 + b
 plus_none a b e = omega arith
@@ -51,7 +49,7 @@ module _ (s : Selectors) (uses : List ℕ → ℕ) (h : IsCounted s uses) (text 
     trees = raised_canonical s text tree h.trees is at;
     some = λ t c e.
         elim (eq_by_cmp (slice_cmp nat_cmp) t text) as (λ b. cond b (Some more) (get s t) ≡ Some c → 0 < c.uses) [
-          | true ↦ λ p. subst (λ (d : Counted). 0 < d.uses) (the_one more c p) (some_more (uses_in (get s text)))
+          | true ↦ λ p. subst (λ (d : Counted). 0 < d.uses) (same_some more c p) (some_more (uses_in (get s text)))
           | false ↦ λ p. h.some t c p
         ] (sym (get-insert nat_list_cmp_total s text more t) ∙ e);
     count = λ t.
@@ -84,7 +82,7 @@ still_some n h = grind (arith, nat_tests, h)
 some_lowered : (o : Option Counted) (c : Counted) → lowered_in o ≡ Some c → 0 < c.uses
 some_lowered None c e = absurd (not_some c e)
 some_lowered (Some d) c e = elim (nat_lt 1 d.uses) as (λ b. nat_lt 1 d.uses ≡ b → cond b (Some (record d { uses = d.uses - 1 })) None ≡ Some c → 0 < c.uses) [
-  | true ↦ λ q p. subst (λ (x : Counted). 0 < x.uses) (the_one (record d { uses = d.uses - 1 }) c p) (still_some d.uses q)
+  | true ↦ λ q p. subst (λ (x : Counted). 0 < x.uses) (same_some (record d { uses = d.uses - 1 }) c p) (still_some d.uses q)
   | false ↦ λ q p. absurd (not_some c p)
 ] refl e
 
@@ -131,12 +129,6 @@ module _ (s : Selectors) (uses : List ℕ → ℕ) (h : IsCounted s uses) (tree 
   counted_tests p labels = at_text (get s (canonical_text tree)) refl (subst (λ n. 0 < n) (sym (h.count (canonical_text tree))) p) labels
 
 -- ---- the policies of a selector, as one comes or goes
-moved : (a b n : ℕ) → a + (b + n) ≡ b + (a + n)
-moved a b n = omega arith
-
-none_more : (n : ℕ) → n ≡ 0 + n
-none_more n = omega arith
-
 among_put : (t : List ℕ) (id : PolicyId) (p : Policy) (es : List (PolicyId × Policy)) → find cmp-value.it id es ≡ None → times_among t (put cmp-value.it id p es) ≡ weight t p + times_among t es
 among_put t id p [] h = refl
 among_put t id p (e ∷ es) h =

@@ -10,12 +10,7 @@ use Rattle.fx_label_index.specs.declared.held.Inputs as index
 use Rattle.fx_label_index.specs.Canonicals.{Selectors}
 use Rattle.fx_active.specs.declared.inputs.Inputs as active
 use Rattle.fx_joined.specs.Composed.{IsComposed}
-
-unit_same : (x y : Option (Unit {0})) → is_some x ≡ is_some y → x ≡ y
-unit_same None None e = refl
-unit_same None (Some b) e = cc
-unit_same (Some a) None e = cc
-unit_same (Some a) (Some b) e = refl
+use Rattle.fx_base.proofs.Cases.{unit_same}
 
 pub record IsSame (P P' : Policies) (Q Q' : Profiles) (S S' : PolicyPairs) : Type 0 where
   pub policies : P' ≡ P

@@ -24,15 +24,10 @@ use Rattle.fx_joined.specs.Counting.{weight, weight_of, times_among, times, tota
 use Rattle.fx_joined.specs.Joining.{IsJoined}
 use Rattle.fx_joined.specs.Uppers.{IsUpper}
 use Rattle.fx_joined.proofs.Counts.{raised_counted, lowered_counted, times_apart, times_insert}
+use Rattle.fx_base.proofs.Cases.{moved, none_more}
 
 recounted : (s : Selectors) (uses others : List ℕ → ℕ) → IsCounted s uses → ((t : List ℕ) → uses t ≡ others t) → IsCounted s others
 recounted s uses others h e = record { trees = h.trees; some = h.some; count = λ t. h.count t ∙ e t }
-
-moved : (w n u : ℕ) → w + (n + u) ≡ n + (w + u)
-moved w n u = omega arith
-
-none_more : (n : ℕ) → n ≡ 0 + n
-none_more n = omega arith
 
 comes : (w v r u : ℕ) → w + ((v + r) + u) ≡ (w + r) + (v + u)
 comes w v r u = omega arith

@@ -16,15 +16,12 @@ use Rattle.fx_selector.proofs.Spelling.{canonical_spells}
 use Rattle.fx_label_index.specs.Canonicals.{Selectors, AreCanonical}
 use Rattle.fx_label_index.specs.Counts.{uses_in, selector_in, raised, lowered_in, lowered}
 use Rattle.fx_label_index.specs.declared.counted.Counted.{Counted}
+use Rattle.fx_base.proofs.Cases.{hidden, same_some}
 
 -- ---- a selector that was taken out
-shadow : {A : Type 0} (b : Bool) (x y z : A) → cond b x (cond b y z) ≡ cond b x z
-shadow true x y z = refl
-shadow false x y z = refl
-
 -- and put again
 pub again : (m : Selectors) (text : List ℕ) (c : Counted) (t : List ℕ) → get (insert (remove m text) text c) t ≡ cond (eq_by_cmp (slice_cmp nat_cmp) t text) (Some c) (get m t)
-again m text c t = get-insert nat_list_cmp_total (remove m text) text c t ∙ ap (cond (eq_by_cmp (slice_cmp nat_cmp) t text) (Some c)) (get-remove nat_list_cmp_total m text t) ∙ shadow (eq_by_cmp (slice_cmp nat_cmp) t text) (Some c) None (get m t)
+again m text c t = get-insert nat_list_cmp_total (remove m text) text c t ∙ ap (cond (eq_by_cmp (slice_cmp nat_cmp) t text) (Some c)) (get-remove nat_list_cmp_total m text t) ∙ hidden (eq_by_cmp (slice_cmp nat_cmp) t text) (Some c) None (get m t)
 
 pub insert_again : (m : Selectors) (text : List ℕ) (c : Counted) → insert (remove m text) text c ≡ insert m text c
 insert_again m text c = same_by_get _ _ (λ t. again m text c t ∙ sym (get-insert nat_list_cmp_total m text c t))
@@ -47,16 +44,13 @@ canonical_less m text h = λ t counted e.
       | false ↦ λ p. h t counted p
     ] (sym (get-remove nat_list_cmp_total m text t) ∙ e)
 
-the_one : {A : Type 0} (x y : A) → Some x ≡ Some y → x ≡ y
-the_one x y e = cc
-
 pub canonical_more : (m : Selectors) (text : List ℕ) (counted : Counted) → AreCanonical m → IsSelector counted.selector → text ≡ canonical_text counted.selector → AreCanonical (insert m text counted)
 canonical_more m text counted h is at = λ t other e.
     elim (slice_cmp nat_cmp t text) as (λ r. slice_cmp nat_cmp t text ≡ r → cond (is_eq r) (Some counted) (get m t) ≡ Some other → IsSelector other.selector × (t ≡ canonical_text other.selector)) [
       | Less ↦ λ _ p. h t other p
       | Greater ↦ λ _ p. h t other p
       | Equal ↦ λ q p.
-          let same = the_one counted other p in
+          let same = same_some counted other p in
           (subst (λ (c : Counted). IsSelector c.selector) same is, bytes_exact t text q ∙ at ∙ ap (λ (c : Counted). canonical_text c.selector) same)
     ] refl (sym (get-insert nat_list_cmp_total m text counted t) ∙ e)
 
@@ -97,7 +91,7 @@ lowered_some : (o : Option Counted) (counted : Counted) → lowered_in o ≡ Som
 lowered_some None counted e = absurd (not_some counted e)
 lowered_some (Some c) counted e =
     elim (nat_lt 1 c.uses) as (λ b. cond b (Some (record c { uses = c.uses - 1 })) None ≡ Some counted → (d : Counted) × ((Some c ≡ Some d) × (d.selector ≡ counted.selector))) [
-      | true ↦ λ p. (c, (refl, ap (λ (d : Counted). d.selector) (the_one (record c { uses = c.uses - 1 }) counted p)))
+      | true ↦ λ p. (c, (refl, ap (λ (d : Counted). d.selector) (same_some (record c { uses = c.uses - 1 }) counted p)))
       | false ↦ λ p. absurd (not_some counted p)
     ] e
 

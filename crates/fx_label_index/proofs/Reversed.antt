@@ -20,18 +20,11 @@ use Rattle.fx_label_index.specs.Matched.{labels_of, holds_on, item_eq, text_eq}
 use Rattle.fx_label_index.specs.declared.held.Held.{Held}
 use Rattle.fx_label_index.specs.declared.held.Inputs.{Inputs}
 use Rattle.fx_label_index.proofs.Listed.{held_row}
+use Rattle.fx_base.proofs.Cases.{never, always}
 
 and_false : (b : Bool) → (b && false) ≡ (not b && false)
 and_false true = refl
 and_false false = refl
-
-never : (b : Bool) → (b && false) ≡ false
-never true = refl
-never false = refl
-
-always : (b : Bool) → (b && true) ≡ b
-always true = refl
-always false = refl
 
 -- where the selector holds
 abbrev pub holds_at : Inputs → Tree → Option Held → Bool

@@ -15,7 +15,9 @@ use Rattle.fx_model.specs.contracts.member.MemberOrd.TheImpl as member_cmp
 use Rattle.fx_model.specs.contracts.member.MemberOrd.TheImpl.Laws as member_laws
 use Rattle.fx_model.proofs.Orders.{exact_member}
 use Rattle.fx_members.specs.Counts.{Counts, place_cmp, count_at, is_place, same_member, shifted}
-use Rattle.fx_members.proofs.Keyed.{one_key, own_key, at_key, insert_removed}
+use Rattle.fx_base.proofs.Cases.{either}
+use Rattle.fx_base.proofs.AtKey.{insert_removed}
+use Rattle.fx_base.proofs.Keyed.{one_key, own_key, at_key}
 
 pub member_total : IsTotalOrder member_cmp.cmp-value.it
 member_total = member_laws.total-law
@@ -39,10 +41,6 @@ own_place name member = λ j. own_key nat_list_cmp_total name j && own_key membe
 pub unmoved : (more : Bool) (n : ℕ) → shifted more 0 n ≡ n
 unmoved true n = omega arith
 unmoved false n = omega arith
-
-either : (b : Bool) (x y : Option ℕ) → unwrap_or (cond b x y) 0 ≡ cond b (unwrap_or x 0) (unwrap_or y 0)
-either true x y = refl
-either false x y = refl
 
 by_place : (more b : Bool) (x n : ℕ) → cond b x n ≡ n → cond b (shifted more 1 x) n ≡ shifted more (cond b 1 0) n
 by_place more true x n h = ap (shifted more 1) h

@@ -1,5 +1,3 @@
-pub mod Sorted
-pub mod Keyed
 pub mod PairLemmas
 pub mod CountLemmas
 pub mod TellLemmas

@@ -5,9 +5,10 @@ use Rattle.fx_model.specs.declared.member.Member.{Member}
 use Rattle.fx_model.specs.declared.resources.Item.{Item}
 use Rattle.fx_model.specs.declared.set_use.SetUse.{SetUse}
 use Rattle.fx_members.specs.Counts.{Counts, count_at, gives, is_place, same_member, shifted, times}
-use Rattle.fx_members.specs.Indexes.{Texts, has_text_of, same_text}
+use Rattle.fx_base.specs.Grouped.{Texts, same_text}
+use Rattle.fx_base.proofs.Keyed.{own_key}
+use Rattle.fx_members.specs.Indexes.{has_text_of}
 use Rattle.fx_members.proofs.CountLemmas.{member_total, unmoved}
-use Rattle.fx_members.proofs.Keyed.{own_key}
 
 one_of : (more b e : Bool) (t n : ℕ) → shifted more (cond b t 0) (shifted more (cond (b && e) 1 0) n) ≡ shifted more (cond b (cond e 1 0 + t) 0) n
 one_of true true true t n = omega arith

@@ -26,11 +26,9 @@ use Rattle.fx_members.specs.UseText.{text_of}
 use Rattle.fx_members.specs.declared.inputs.Inputs.{Inputs}
 use Rattle.fx_members.specs.declared.state.State.{State}
 use Rattle.fx_members.proofs.CountLemmas.{member_total}
+use Rattle.fx_base.proofs.Cases.{none_more, none_else, unit_same, absent_value}
 
 -- ---- among a list, and how often
-none_more : (n : ℕ) → n ≡ 0 + n
-none_more n = omega arith
-
 grouped : (a b c : ℕ) → a + (b + c) ≡ (a + b) + c
 grouped a b c = omega arith
 
@@ -69,10 +67,6 @@ in_extended s (x ∷ xs) m =
     in_extended (set.insert s x) xs m ∙ ap (λ b. list_any (same_member m) xs || b) (contains_insert member_total s x m)
     ∙ moved (same_member m x) (list_any (same_member m) xs) (set.contains s m)
 
-none_else : (b : Bool) → (b || false) ≡ b
-none_else true = refl
-none_else false = refl
-
 no_member : (m : Member) → set.contains {R = member_cmp.cmp-value.it} set.empty m ≡ false
 no_member m = ap is_some (map.get-empty member_cmp.cmp-value.it m)
 
@@ -86,12 +80,6 @@ in_members items matched u m =
     in_collected (contributions u (matched_items items matched (text_of u))) m
     ∙ ap (λ n. not (n == 0)) (times_contributed (λ i. set.contains matched (text_of u, i)) u (map.entries items) m)
 
-unit_same : (x y : Option (Unit {0})) → is_some x ≡ is_some y → x ≡ y
-unit_same None None h = refl
-unit_same None (Some y) h = cc
-unit_same (Some x) None h = cc
-unit_same (Some x) (Some y) h = refl
-
 pub same_members : (s t : Members) → ((m : Member) → set.contains s m ≡ set.contains t m) → s ≡ t
 same_members s t h = map.same_map member_total exact_member s t (λ m. unit_same (map.get s m) (map.get t m) (h m))
 
@@ -100,10 +88,6 @@ pub no_members : (s : Members) → ((m : Member) → set.contains s m ≡ false)
 no_members s h = same_members s set.empty (λ m. h m ∙ sym (no_member m))
 
 -- ---- the sink's sets
-absent : {A : Type 0} (o : Option A) → is_some o ≡ false → o ≡ None
-absent None h = refl
-absent (Some x) h = cc
-
 present : (o : Option Members) → is_some o ≡ true → o ≡ Some (members_of o)
 present None h = cc
 present (Some s) h = refl
@@ -118,7 +102,7 @@ module _ (items : Items) (matched : Pairs) where
   counted_members (Some u) m = in_members items matched u m
 
   told_members : (o : Option SetUse) (s : Option Members) → is_some s ≡ is_some o → ((m : Member) → set.contains (members_of s) m ≡ not (due items matched o m == 0)) → s ≡ option_map (members_for items matched) o
-  told_members None s there are = absent s there
+  told_members None s there are = absent_value s there
   told_members (Some u) s there are =
       present s there ∙ ap Some (same_members (members_of s) (members_for items matched u) (λ m. are m ∙ sym (in_members items matched u m)))
 

@@ -4,6 +4,7 @@ use Rattle.std.specs.Cmp.{eq_by_cmp_equiv}
 use Rattle.std.specs.Cmp.Lexicographic.{nat_list_cmp_total}
 use Rattle.std.specs.FinMap as map
 use Rattle.fx_base.specs.Set as set
+use Rattle.fx_base.specs.Grouped.{Texts, has_key, same_text}
 use Rattle.fx_base.proofs.AtKey.{get_insert, get_remove}
 use Rattle.fx_base.proofs.KeyCases.{bytes_exact}
 use Rattle.fx_model.specs.Pairs.{Pairs, put}
@@ -14,12 +15,13 @@ use Rattle.fx_model.specs.declared.resources.Item.{Item}
 use Rattle.fx_model.specs.declared.set_use.SetUse.{SetUse}
 use Rattle.fx_model.proofs.PairAt.{contains_put_pair}
 use Rattle.fx_members.specs.Counts.{Counts, count_at, due, gives, shifted}
-use Rattle.fx_members.specs.Indexes.{NamesByText, TextsByItem, Texts, has_key, has_text, has_text_of, same_text, same_item, AreByText, AreByItem}
+use Rattle.fx_members.specs.Indexes.{NamesByText, TextsByItem, has_text, has_text_of, same_item, AreByText, AreByItem}
 use Rattle.fx_members.specs.Inputs.{Items}
 use Rattle.fx_members.specs.UseText.{text_of}
 use Rattle.fx_members.proofs.CountLemmas.{unmoved}
-use Rattle.fx_members.proofs.Keyed.{one_key, at_key}
 use Rattle.fx_members.proofs.TotalLemmas.{total_apart, total_insert, total_put_if, total_within}
+use Rattle.fx_base.proofs.Cases.{shown, gone_both}
+use Rattle.fx_base.proofs.Keyed.{one_key, at_key}
 
 least : (n : ℕ) → 0 ≤ n
 least n = omega arith
@@ -41,18 +43,6 @@ turned true true = refl
 turned true false = refl
 turned false true = refl
 turned false false = refl
-
-shown : (a b : Bool) (x : Bool) → cond b false x ≡ x → cond (a && b) true x ≡ cond b a x
-shown true true x h = refl
-shown false true x h = sym h
-shown true false x h = refl
-shown false false x h = refl
-
-hidden : (a b : Bool) (x : Bool) → cond b a x ≡ x → cond (a && b) false x ≡ cond b false x
-hidden true true x h = refl
-hidden false true x h = sym h
-hidden true false x h = refl
-hidden false false x h = refl
 
 -- ---- items
 
@@ -187,5 +177,5 @@ module _ (names now : NamesByText) (uses : Uses) (are : AreByText names uses) (n
       → AreByText now (map.remove uses name)
   by_text_removed there is t q =
       is t q ∙ ap (cond (same_text t (text_of u) && same_text q name) false) (are t q)
-      ∙ hidden (same_text t (text_of u)) (same_text q name) (has_text t (map.get uses q)) (at_key bytes_exact (λ k. has_text t (map.get uses k)) name q (same_text t (text_of u)) (ap (has_text t) there))
+      ∙ gone_both (same_text t (text_of u)) (same_text q name) (has_text t (map.get uses q)) (at_key bytes_exact (λ k. has_text t (map.get uses k)) name q (same_text t (text_of u)) (ap (has_text t) there))
       ∙ sym (ap (has_text t) (get_remove uses name q) ∙ text_either (same_text q name) t None (map.get uses q))

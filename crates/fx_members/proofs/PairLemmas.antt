@@ -7,20 +7,18 @@ use Rattle.std.specs.List.{list_any}
 use Rattle.std.specs.FinMap as map
 use Rattle.std.specs.FinMap.{find, is_sorted}
 use Rattle.fx_base.specs.Set as set
+use Rattle.fx_base.specs.Grouped.{has_key, same_text}
 use Rattle.fx_base.proofs.Entries.{entries-empty}
 use Rattle.fx_base.proofs.KeyCases.{bytes_exact}
 use Rattle.fx_model.specs.Pairs.{Pairs, pair_cmp, put}
 use Rattle.fx_model.specs.declared.ids.ItemKey.{ItemKey}
 use Rattle.fx_model.proofs.Orders.{pairs_total, exact_pair}
 use Rattle.fx_model.proofs.PairAt.{contains_put_pair}
-use Rattle.fx_members.specs.Indexes.{Keys, ItemsByText, has_key, same_text, same_item, with_items, pairs_in, pairs_of}
-use Rattle.fx_members.proofs.Sorted.{gone, rest_sorted}
+use Rattle.fx_members.specs.Indexes.{Keys, ItemsByText, same_item, with_items, pairs_in, pairs_of}
+use Rattle.fx_base.proofs.Cases.{never, none_else, unit_same}
+use Rattle.fx_base.proofs.Sorted.{gone, rest_sorted}
 
 -- ---- the pairs of one text
-never : (b : Bool) → (b && false) ≡ false
-never true = refl
-never false = refl
-
 joined : (a b c d : Bool) → cond (a && b) true ((a && c) || d) ≡ ((a && (b || c)) || d)
 joined false b c d = refl
 joined true true c d = refl
@@ -34,10 +32,6 @@ in_items t (k ∷ is) s u i =
     ∙ joined (same_text u t) (same_item i k) (list_any (λ k. same_item i k) is) (set.contains s (u, i))
 
 -- ---- the pairs of all texts
-none_else : (b : Bool) → (b || false) ≡ b
-none_else true = refl
-none_else false = refl
-
 in_rows : (es : List (List ℕ × Keys)) → T (is_sorted (slice_cmp nat_cmp) es) → (u : List ℕ) (i : ItemKey) → set.contains (pairs_in es) (u, i) ≡ has_key (find (slice_cmp nat_cmp) u es) i
 in_rows [] s u i = ap is_some (map.get-empty pair_cmp (u, i))
 in_rows (e ∷ es) s u i =
@@ -55,12 +49,6 @@ in_pairs m u i = in_rows (map.entries m) (map.entries_sorted m) u i ∙ ap (λ o
 -- ---- a pair more or less
 pub no_pairs : pairs_of map.empty ≡ set.empty
 no_pairs = ap pairs_in (entries-empty (slice_cmp nat_cmp))
-
-unit_same : (x y : Option (Unit {0})) → is_some x ≡ is_some y → x ≡ y
-unit_same None None h = refl
-unit_same None (Some y) h = cc
-unit_same (Some x) None h = cc
-unit_same (Some x) (Some y) h = refl
 
 same_pairs : (s t : Pairs) → ((u : List ℕ) (i : ItemKey) → set.contains s (u, i) ≡ set.contains t (u, i)) → s ≡ t
 same_pairs s t h = map.same_map pairs_total exact_pair s t (λ p. unit_same (map.get s p) (map.get t p) (h p.0 p.1))

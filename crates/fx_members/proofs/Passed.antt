@@ -8,7 +8,8 @@ use Rattle.std.specs.FinMap as map
 use Rattle.std.specs.FinMap.{IsAntisymmetric, find}
 use Rattle.fx_base.specs.Set as set
 use Rattle.fx_base.proofs.Walk.{IsRest, IsRest-head, found}
-use Rattle.fx_members.proofs.Sorted.{gone}
+use Rattle.fx_base.proofs.Cases.{never, always}
+use Rattle.fx_base.proofs.Sorted.{gone}
 
 -- these are left
 abbrev pub passed : {K : Type 0} {R : K → K → Ordering} → set.Set R → List (K × Unit {0}) → K → Bool
@@ -16,14 +17,6 @@ passed {R = R} s es k = set.contains s k && not (is_some (find R k es))
 
 abbrev pub left : {K : Type 0} {R : K → K → Ordering} → set.Set R → List (K × Unit {0}) → K → Bool
 left {R = R} s es k = set.contains s k && is_some (find R k es)
-
-never : (b : Bool) → (b && false) ≡ false
-never true = refl
-never false = refl
-
-always : (b : Bool) → (b && true) ≡ b
-always true = refl
-always false = refl
 
 not_both : (b : Bool) → (b && not b) ≡ false
 not_both true = refl

@@ -5,17 +5,17 @@ use Rattle.std.specs.Ordering.{nat_cmp}
 use Rattle.std.specs.Cmp.Lexicographic.{slice_cmp}
 use Rattle.std.specs.FinMap as map
 use Rattle.fx_base.specs.Set as set
+use Rattle.fx_base.specs.Grouped.{same_text}
 use Rattle.fx_base.proofs.AtKey.{get_insert, get_remove}
 use Rattle.fx_base.proofs.KeyCases.{bytes_exact}
 use Rattle.fx_base.proofs.SetAt.{contains_put}
+use Rattle.fx_base.proofs.Keyed.{at_key}
 use Rattle.fx_model.specs.Messages.{Members, members_of}
 use Rattle.fx_model.specs.Pairs.{put}
 use Rattle.fx_model.specs.Tables.{Sets}
 use Rattle.fx_model.specs.declared.member.Member.{Member}
 use Rattle.fx_members.specs.Counts.{Counts, count_at, is_place, same_member, shifted, AreTold, HaveSameKeys}
-use Rattle.fx_members.specs.Indexes.{same_text}
 use Rattle.fx_members.proofs.CountLemmas.{member_total, place_same, unmoved}
-use Rattle.fx_members.proofs.Keyed.{at_key}
 
 -- ---- names
 some_either : {X : Type 0} (b : Bool) (o p : Option X) → is_some (cond b o p) ≡ cond b (is_some o) (is_some p)

@@ -3,6 +3,7 @@ use Rattle.std.proofs.Common.{◌≡◌, ◌≤◌, ℕ, ◌+◌, Bool, true, fa
 use Rattle.std.specs.Cmp.{eq_by_cmp_equiv}
 use Rattle.std.specs.FinMap as map
 use Rattle.fx_base.proofs.SumOver.{sum_over, sum_at, sum-insert, sum-remove}
+use Rattle.fx_base.proofs.Keyed.{own_key, get_removed}
 use Rattle.fx_model.specs.Sets.{contributed}
 use Rattle.fx_model.specs.declared.ids.ItemKey.{ItemKey}
 use Rattle.fx_model.specs.declared.member.Member.{Member}
@@ -14,7 +15,6 @@ use Rattle.fx_members.specs.Counts.{gives, shifted, times, total}
 use Rattle.fx_members.specs.Indexes.{same_item}
 use Rattle.fx_members.specs.Inputs.{Items}
 use Rattle.fx_members.proofs.CountLemmas.{unmoved}
-use Rattle.fx_members.proofs.Keyed.{own_key, get_removed}
 
 nothing : (b : Bool) → ◌≡◌ {A = ℕ} 0 (cond b 0 0)
 nothing true = refl

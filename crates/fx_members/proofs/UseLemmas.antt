@@ -3,7 +3,9 @@ use Rattle.std.proofs.Common.{◌≡◌, ℕ, ◌==◌, true, false, cond, not, 
 use Rattle.std.specs.Cmp.Lexicographic.{nat_list_cmp_total}
 use Rattle.std.specs.FinMap as map
 use Rattle.fx_base.specs.Set as set
+use Rattle.fx_base.specs.Grouped.{Texts, has_key, same_text}
 use Rattle.fx_base.proofs.AtKey.{get_empty, get_insert_same}
+use Rattle.fx_base.proofs.Keyed.{own_key}
 use Rattle.fx_model.specs.Messages.{Members, members_of}
 use Rattle.fx_model.specs.Pairs.{pair_cmp}
 use Rattle.fx_model.specs.Sinks.{Uses}
@@ -12,9 +14,8 @@ use Rattle.fx_model.specs.declared.member.Member.{Member}
 use Rattle.fx_model.specs.declared.set_use.SetUse.{SetUse}
 use Rattle.fx_model.specs.contracts.ids.ItemKeyOrd.TheImpl as item_cmp
 use Rattle.fx_members.specs.Counts.{Counts, place_cmp, count_at, due, HaveSameKeys, AreTold}
-use Rattle.fx_members.specs.Indexes.{Texts, has_key, has_text, same_text}
+use Rattle.fx_members.specs.Indexes.{has_text}
 use Rattle.fx_members.specs.Kept.{IsKept}
-use Rattle.fx_members.proofs.Keyed.{own_key}
 use Rattle.fx_members.proofs.MemberLemmas.{no_members}
 use Rattle.fx_members.proofs.TellLemmas.{key_insert, key_remove}
 

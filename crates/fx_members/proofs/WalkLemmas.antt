@@ -4,8 +4,10 @@ use Rattle.std.specs.Cmp.{eq_by_cmp_equiv}
 use Rattle.std.specs.Cmp.Lexicographic.{nat_list_cmp_total}
 use Rattle.std.specs.FinMap as map
 use Rattle.fx_base.specs.Set as set
+use Rattle.fx_base.specs.Grouped.{Texts, has_key, same_text}
 use Rattle.fx_base.proofs.KeyCases.{bytes_exact}
 use Rattle.fx_base.proofs.Walk.{IsRest}
+use Rattle.fx_base.proofs.Keyed.{one_key, own_key, at_key}
 use Rattle.fx_model.specs.Pairs.{Pairs}
 use Rattle.fx_model.specs.Sinks.{Uses}
 use Rattle.fx_model.specs.declared.ids.ItemKey.{ItemKey}
@@ -14,11 +16,10 @@ use Rattle.fx_model.specs.declared.resources.Item.{Item}
 use Rattle.fx_model.specs.declared.set_use.SetUse.{SetUse}
 use Rattle.fx_model.proofs.Orders.{item_total, exact_item}
 use Rattle.fx_members.specs.Counts.{Counts, count_at, due, gives, shifted, total}
-use Rattle.fx_members.specs.Indexes.{Texts, Keys, has_key, has_text, has_text_of, same_text, same_item}
+use Rattle.fx_members.specs.Indexes.{Keys, has_text, has_text_of, same_item}
 use Rattle.fx_members.specs.Inputs.{Items}
 use Rattle.fx_members.specs.UseText.{text_of}
 use Rattle.fx_members.proofs.CountLemmas.{unmoved}
-use Rattle.fx_members.proofs.Keyed.{one_key, own_key, at_key}
 use Rattle.fx_members.proofs.Passed.{passed, left, passed_start, passed_end, passed_head, passed_next, left_start, left_end, left_head, left_next, there}
 use Rattle.fx_members.proofs.TotalLemmas.{total_put, total_within, total_same, total_none}
 

@@ -4,7 +4,7 @@ ghost use Rattle.std.specs.Option.{option_copied};
 ghost use Rattle.std.specs.FinMap as map;
 ghost use Rattle.fx_model.specs.declared.member.Member.{Member};
 ghost use Rattle.fx_members.specs.Counts.{count_at, gives, is_place, shifted, times, AreTold, HaveSameKeys};
-ghost use Rattle.fx_members.specs.Indexes.{same_text};
+ghost use Rattle.fx_base.specs.Grouped.{same_text};
 
 use crate::counts::MemberCounts;
 use fx_base::{Memory, SetName};

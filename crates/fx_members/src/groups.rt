@@ -2,7 +2,8 @@
 ghost use Rattle.std.specs.Prelude.{◌≡◌, ℕ, List, [], OnOk, IsTrue, cond, true, false, ◌&&◌};
 ghost use Rattle.std.specs.FinMap as map;
 ghost use Rattle.fx_model.specs.declared.ids.ItemKey.{ItemKey};
-ghost use Rattle.fx_members.specs.Indexes.{has_key, same_item, same_text};
+ghost use Rattle.fx_base.specs.Grouped.{has_key, same_text};
+ghost use Rattle.fx_members.specs.Indexes.{same_item};
 
 use fx_base::{Memory, SetMap, SetName, Text, TextMap};
 use fx_model::{ItemKey, ItemMap};

@@ -3,8 +3,8 @@ ghost use Rattle.std.specs.Prelude.{◌≡◌, [], OnOk, IsTrue};
 ghost use Rattle.std.specs.Option.{option_copied};
 ghost use Rattle.std.specs.FinMap as map;
 ghost use Rattle.fx_base.specs.Set as set;
+ghost use Rattle.fx_base.specs.Grouped.{has_key};
 ghost use Rattle.fx_model.specs.declared.ids.ItemKey.{ItemKey};
-ghost use Rattle.fx_members.specs.Indexes.{has_key};
 
 use fx_base::{Memory, Text, TextMap};
 use fx_model::{ItemKey, ItemMap};
@@ -72,16 +72,10 @@ impl Matches {
             .remove(text)
             .unwrap_or(ItemMap::new(self.alloc));
         items.remove(item);
-        if is_empty(&items) {
+        if items.is_empty() {
             return Ok(());
         }
         self.by_text.insert(text.clone()?, items)?;
         Ok(())
     }
-}
-
-fn is_empty(items: &ItemMap<()>) -> bool
-    ensures { IsTrue result → map.entries items.now ≡ [] }
-{
-    items.iter().next().is_none()
 }

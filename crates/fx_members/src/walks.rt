@@ -3,9 +3,10 @@ ghost use Rattle.std.specs.Prelude.{◌≡◌, ◌≤◌, ℕ, List, OnOk, IsSom
 ghost use Rattle.std.specs.Option.{option_copied};
 ghost use Rattle.std.specs.FinMap as map;
 ghost use Rattle.fx_base.specs.Set as key_sets;
+ghost use Rattle.fx_base.specs.Grouped.{has_key, same_text};
 ghost use Rattle.fx_model.specs.declared.member.Member.{Member};
 ghost use Rattle.fx_members.specs.Counts.{count_at, due, gives, shifted, total, AreTold, HaveSameKeys};
-ghost use Rattle.fx_members.specs.Indexes.{has_key, has_text_of, same_text, AreByText};
+ghost use Rattle.fx_members.specs.Indexes.{has_text_of, AreByText};
 ghost use Rattle.fx_members.specs.UseText.{text_of};
 
 use crate::changes::change_item;

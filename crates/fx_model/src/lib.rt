@@ -28,6 +28,7 @@ pub use view_rule::{ViewPort, ViewRule, ViewSide};
 
 mod chain;
 mod contributions;
+mod emptiness;
 mod ids;
 mod item_keys;
 mod item_map;

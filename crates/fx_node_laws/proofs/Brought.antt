@@ -9,19 +9,7 @@ use Rattle.std.specs.FinMap.{FinMap, IsAntisymmetric, find, is_sorted, entries, 
 use Rattle.std.specs.FinMap.Entries.{below_all}
 use Rattle.fx_base.specs.Extended.{extended}
 use Rattle.fx_node_laws.proofs.OneKey.{here_inserted, there_inserted}
-
-first : (a b : Bool) → T (a && b) → T a
-first true b h = tt
-first false b h = h
-
-second : (a b : Bool) → T (a && b) → T b
-second true b h = h
-second false b h = absurd h
-
-less : (r : Ordering) → T (is_lt r) → r ≡ Less
-less Less h = refl
-less Equal h = absurd h
-less Greater h = absurd h
+use Rattle.fx_base.proofs.Cases.{first, second, less}
 
 -- the first one, if it is there, or else the second
 abbrev either : {A : Type 0} → Option A → Option A → Option A

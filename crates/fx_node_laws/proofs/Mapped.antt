@@ -7,23 +7,7 @@ use Rattle.std.specs.Ordering.{is_lt, is_eq}
 use Rattle.std.specs.Cmp.{IsTotalOrder}
 use Rattle.std.specs.FinMap.{FinMap, IsAntisymmetric, find, is_sorted, entries, entries_sorted, get, get-entries}
 use Rattle.std.specs.FinMap.Entries.{below_all, same_entries}
-
-first : (a b : Bool) → T (a && b) → T a
-first true b h = tt
-first false b h = h
-
-second : (a b : Bool) → T (a && b) → T b
-second true b h = h
-second false b h = absurd h
-
-both : (a b : Bool) → T a → T b → T (a && b)
-both true b g h = h
-both false b g h = absurd g
-
-less : (r : Ordering) → T (is_lt r) → r ≡ Less
-less Less h = refl
-less Equal h = absurd h
-less Greater h = absurd h
+use Rattle.fx_base.proofs.Cases.{first, second, both, less}
 
 -- what is made of a value that may be absent
 abbrev pub value_at : {K X Y : Type 0} → (K → X → Option Y) → K → Option X → Option Y

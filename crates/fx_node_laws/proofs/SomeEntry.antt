@@ -8,10 +8,7 @@ use Rattle.std.specs.Cmp.{IsTotalOrder}
 use Rattle.std.specs.FinMap.{FinMap, IsAntisymmetric, find, entries, get, get-entries}
 use Rattle.std.proofs.lemmas.List.Folds.{list_any-append}
 use Rattle.fx_base.proofs.Found.{entries_found}
-
-later : (b : Bool) → (b || true) ≡ true
-later true = refl
-later false = refl
+use Rattle.fx_base.proofs.Cases.{surely}
 
 -- every item passes
 unfiltered : {A : Type 0} (t : A → Bool) (xs : List A) → list_any t (filter (λ _. true) xs) ≡ list_any t xs
@@ -51,7 +48,7 @@ module _ {K X : Type 0} {R : K → K → Ordering} (o : IsTotalOrder R) (exact :
         ] refl f
       where
         passed : (b : Bool) (ys : List (K × X)) → list_any t ys ≡ true → list_any t (cond b (x ∷ ys) ys) ≡ true
-        passed true ys h = ap (λ c. t x || c) h ∙ later (t x)
+        passed true ys h = ap (λ c. t x || c) h ∙ surely (t x)
         passed false ys h = h
 
         the_value : (a b : X) → Some a ≡ Some b → b ≡ a

@@ -11,10 +11,7 @@ use Rattle.fx_parts.specs.Kept.{IsKeptSince}
 use Rattle.fx_parts.specs.Noted.{Before, IsFormed}
 use Rattle.fx_parts.specs.declared.scan_log.Scanned.{Scanned}
 use Rattle.fx_parts.proofs.NotedLemmas.{formed_more, formed_fewer, noted_before, noted_now}
-
-not_there : {A : Type 0} (o : Option A) → is_some o ≡ false → o ≡ None
-not_there None h = refl
-not_there (Some x) h = cc
+use Rattle.fx_base.proofs.Cases.{absent_value}
 
 module _ (start s : Scanned) (h : IsKeptSince start s) (name : List ℕ) where
   -- one that was noted before comes into use
@@ -29,7 +26,7 @@ module _ (start s : Scanned) (h : IsKeptSince start s) (name : List ℕ) where
   pub on_now : (before : Before) (uses : Uses) (u : SetUse) → is_some (map.get s.before name) ≡ false → is_some (map.get s.uses name) ≡ false → before ≡ map.insert s.before name None → uses ≡ map.insert s.uses name u → IsFormed name u → IsKeptSince start (record s { uses = uses; before = before })
   on_now before uses u new unused made put is = record {
     view = h.view;
-    noted = noted_now s.before start.uses s.uses h.noted name before uses (Some u) (not_there (map.get s.before name) new) (made ∙ ap (map.insert s.before name) (sym (not_there (map.get s.uses name) unused))) (λ q. ap (λ m. map.get m q) put ∙ map.get-insert nat_list_cmp_total s.uses name u q);
+    noted = noted_now s.before start.uses s.uses h.noted name before uses (Some u) (absent_value (map.get s.before name) new) (made ∙ ap (map.insert s.before name) (sym (absent_value (map.get s.uses name) unused))) (λ q. ap (λ m. map.get m q) put ∙ map.get-insert nat_list_cmp_total s.uses name u q);
     formed = formed_more s.uses uses name u h.formed is put;
   }
 
@@ -37,7 +34,7 @@ module _ (start s : Scanned) (h : IsKeptSince start s) (name : List ℕ) where
   pub on_failed : (before : Before) → is_some (map.get s.before name) ≡ false → is_some (map.get s.uses name) ≡ false → before ≡ map.insert s.before name None → IsKeptSince start (record s { before = before })
   on_failed before new unused made = record {
     view = h.view;
-    noted = noted_now s.before start.uses s.uses h.noted name before s.uses None (not_there (map.get s.before name) new) (made ∙ ap (map.insert s.before name) (sym (not_there (map.get s.uses name) unused)))
+    noted = noted_now s.before start.uses s.uses h.noted name before s.uses None (absent_value (map.get s.before name) new) (made ∙ ap (map.insert s.before name) (sym (absent_value (map.get s.uses name) unused)))
         (λ q. same_at q);
     formed = h.formed;
   }
@@ -46,7 +43,7 @@ module _ (start s : Scanned) (h : IsKeptSince start s) (name : List ℕ) where
       same_at q = elim (slice_cmp nat_cmp q name) as (λ r. slice_cmp nat_cmp q name ≡ r → map.get s.uses q ≡ cond (is_eq r) None (map.get s.uses q)) [
         | Less ↦ λ _. refl
         | Greater ↦ λ _. refl
-        | Equal ↦ λ p. ap (map.get s.uses) (bytes_exact q name p) ∙ not_there (map.get s.uses name) unused
+        | Equal ↦ λ p. ap (map.get s.uses) (bytes_exact q name p) ∙ absent_value (map.get s.uses name) unused
       ] refl
 
   -- one that was noted goes out of use
@@ -61,7 +58,7 @@ module _ (start s : Scanned) (h : IsKeptSince start s) (name : List ℕ) where
   pub off_now : (before : Before) (uses : Uses) → is_some (map.get s.before name) ≡ false → before ≡ map.insert s.before name (map.get s.uses name) → uses ≡ map.remove s.uses name → IsKeptSince start (record s { uses = uses; before = before })
   off_now before uses new made put = record {
     view = h.view;
-    noted = noted_now s.before start.uses s.uses h.noted name before uses None (not_there (map.get s.before name) new) made (λ q. ap (λ m. map.get m q) put ∙ map.get-remove nat_list_cmp_total s.uses name q);
+    noted = noted_now s.before start.uses s.uses h.noted name before uses None (absent_value (map.get s.before name) new) made (λ q. ap (λ m. map.get m q) put ∙ map.get-remove nat_list_cmp_total s.uses name q);
     formed = formed_fewer s.uses uses name h.formed put;
   }
 

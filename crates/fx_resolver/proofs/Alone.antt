@@ -8,14 +8,12 @@ use Rattle.fx_resolver.specs.declared.known.KnownEndpoint.{KnownEndpoint}
 use Rattle.fx_resolver.specs.Indexes.{same_item}
 use Rattle.fx_resolver.specs.Known.{KnownEndpoints}
 use Rattle.fx_resolver.specs.Resolved.{HaveOwnInterfaces}
-use Rattle.fx_resolver.proofs.Keyed.{one_key}
+use Rattle.fx_base.proofs.Cases.{none_some}
+use Rattle.fx_base.proofs.Keyed.{one_key}
 
 -- what is there is this item
 abbrev pub OnlyAt : ItemKey → KnownEndpoints → Type 0
 OnlyAt item endpoints = (i : ItemKey) (e : KnownEndpoint) → map.get endpoints i ≡ Some e → i ≡ item
-
-none_some : {A B : Type 0} (x : A) → None ≡ Some x → B
-none_some x h = cc
 
 pub only_empty : (item : ItemKey) (endpoints : KnownEndpoints) → endpoints ≡ map.empty → OnlyAt item endpoints
 only_empty item endpoints is i e h = none_some e (sym (ap (λ m. map.get m i) is ∙ map.get-empty cmp-value.it i) ∙ h)

@@ -4,25 +4,21 @@ use Rattle.std.specs.Str.{bytes_eq}
 use Rattle.std.specs.Cmp.Lexicographic.{nat_list_cmp_total}
 use Rattle.std.specs.FinMap as maps
 use Rattle.fx_base.specs.Same.{same_bytes}
-use Rattle.fx_base.proofs.AtKey.{get_remove}
+use Rattle.fx_base.specs.Grouped.{same_text}
+use Rattle.fx_base.proofs.AtKey.{get_remove, insert_removed}
 use Rattle.fx_base.proofs.KeyCases.{bytes_exact}
 use Rattle.fx_model.specs.declared.ids.ItemKey.{ItemKey}
 use Rattle.fx_model.specs.declared.view.ViewEndpoint.{ViewEndpoint}
 use Rattle.fx_model.specs.Messages.{Named}
 use Rattle.fx_model.proofs.Orders.{item_total, exact_item}
 use Rattle.fx_resolver.specs.declared.known.KnownEndpoint.{KnownEndpoint}
-use Rattle.fx_resolver.specs.Indexes.{same_text, same_item}
+use Rattle.fx_resolver.specs.Indexes.{same_item}
 use Rattle.fx_resolver.specs.Known.{KnownEndpoints}
 use Rattle.fx_resolver.specs.Resolved.{HaveOwnInterfaces}
 use Rattle.fx_resolver.specs.Rows.{RowFor, rows_by, with_row, without_row, if_other, IsToldBut}
-use Rattle.fx_resolver.proofs.Keyed.{one_key, own_key, get_inserted, get_removed, insert_removed, remove_absent}
 use Rattle.fx_resolver.proofs.RowLemmas.{rows_there, rows_others, rows_are, told_item}
-
-same_some : {A : Type 0} (x y : A) → Some x ≡ Some y → x ≡ y
-same_some x y e = cc
-
-none_some : {A B : Type 0} (x : A) → None ≡ Some x → B
-none_some x h = cc
+use Rattle.fx_base.proofs.Cases.{same_some, none_some}
+use Rattle.fx_base.proofs.Keyed.{one_key, own_key, get_inserted, get_removed, remove_absent}
 
 -- an item that compares alike is the one
 this_or : (i item : ItemKey) → (i ≡ item) ⊎ (same_item i item ≡ false)

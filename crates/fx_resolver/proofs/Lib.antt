@@ -1,5 +1,3 @@
-pub mod Sorted
-pub mod Keyed
 pub mod SameKnown
 pub mod TierIndex
 pub mod PairLemmas

@@ -12,7 +12,8 @@ use Rattle.fx_resolver.specs.declared.lists.ItemLists.{ItemLists}
 use Rattle.fx_resolver.specs.declared.placed.PlacedPolicy.{PlacedPolicy}
 use Rattle.fx_resolver.specs.Indexes.{Items, same_item}
 use Rattle.fx_resolver.specs.Lists.{AllLists, no_lists, item_lists, moved}
-use Rattle.fx_resolver.proofs.Keyed.{no_entries, hidden, at_key, by_key}
+use Rattle.fx_base.proofs.Cases.{hidden}
+use Rattle.fx_base.proofs.Keyed.{no_entries, at_key, by_key}
 
 pub are_empty : (l : ItemLists) → map.entries l.ingress ≡ [] → map.entries l.egress ≡ [] → l ≡ no_lists
 are_empty l h g = λ j. record { ingress = no_entries l.ingress h j; egress = no_entries l.egress g j }

@@ -10,7 +10,8 @@ use Rattle.fx_resolver.specs.declared.placed.PlacedPolicy.{PlacedPolicy}
 use Rattle.fx_resolver.specs.Indexes.{same_id}
 use Rattle.fx_resolver.specs.Lists.{Keys, keys_without, keys_with, list_of, moved}
 use Rattle.fx_resolver.specs.Placed.{same_place, is_placed_on, shown}
-use Rattle.fx_resolver.proofs.Keyed.{one_key, own_key}
+use Rattle.fx_base.proofs.Cases.{never}
+use Rattle.fx_base.proofs.Keyed.{one_key, own_key}
 
 -- a policy that may be absent has this id
 abbrev pub HasId : PolicyId → Option PlacedPolicy → Type 0
@@ -37,10 +38,6 @@ unless_id q r other =
 elsewhere : (id : PolicyId) (o : Option PlacedPolicy) → HasId id o → (q : PolicyPlace) → same_id q.id id ≡ false → stands_at q o ≡ false
 elsewhere id None own q other = refl
 elsewhere id (Some p) own q other = unless_id q p.place (ap (same_id q.id) own ∙ other)
-
-never : (b : Bool) → (b && false) ≡ false
-never true = refl
-never false = refl
 
 pub not_shown : (d : Direction) (id : PolicyId) (o : Option PlacedPolicy) → HasId id o → (q : PolicyPlace) → same_id q.id id ≡ false → shown d o q ≡ None
 not_shown d id None own q other = refl

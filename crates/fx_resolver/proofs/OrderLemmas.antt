@@ -6,9 +6,12 @@ use Rattle.std.specs.Cmp.{eq_by_cmp_equiv}
 use Rattle.std.specs.Cmp.Lexicographic.{nat_list_cmp_total}
 use Rattle.std.specs.FinMap as map
 use Rattle.fx_base.specs.Set as set
+use Rattle.fx_base.specs.Grouped.{same_text}
 use Rattle.fx_base.proofs.KeyCases.{bytes_exact}
 use Rattle.fx_base.proofs.SetAt.{contains_insert}
 use Rattle.fx_base.proofs.Walk.{IsRest, IsRest-start, IsRest-next, IsRest-head, found}
+use Rattle.fx_base.proofs.Keyed.{one_key, own_key, at_key}
+use Rattle.fx_base.proofs.Sorted.{gone}
 use Rattle.fx_model.specs.Pairs.{PolicyPairs}
 use Rattle.fx_model.specs.declared.ids.ItemKey.{ItemKey}
 use Rattle.fx_model.specs.declared.ids.PolicyId.{PolicyId}
@@ -21,14 +24,12 @@ use Rattle.fx_model.proofs.Orders.{policy_total, exact_policy, item_total, exact
 use Rattle.fx_resolver.specs.declared.known.KnownPolicy.{KnownPolicy}
 use Rattle.fx_resolver.specs.declared.lists.ItemLists.{ItemLists}
 use Rattle.fx_resolver.specs.declared.placed.PlacedPolicy.{PlacedPolicy}
-use Rattle.fx_resolver.specs.Indexes.{Ids, Items, same_id, same_item, same_text, is_in_tier}
+use Rattle.fx_resolver.specs.Indexes.{Ids, Items, same_id, same_item, is_in_tier}
 use Rattle.fx_resolver.specs.Known.{KnownPolicies}
 use Rattle.fx_resolver.specs.Lists.{AllLists, AreLists, item_lists, list_of, moved}
 use Rattle.fx_resolver.specs.Placed.{TierStands, placed, shown, at_place, with_stand}
-use Rattle.fx_resolver.proofs.Keyed.{one_key, own_key, at_key}
 use Rattle.fx_resolver.proofs.Moves.{get_moved}
 use Rattle.fx_resolver.proofs.Placing.{own_place, at_own}
-use Rattle.fx_resolver.proofs.Sorted.{gone}
 
 -- lists with the same at each place are one
 pub same_lists : (l l' : ItemLists) → ((d : Direction) (q : PolicyPlace) → map.get (list_of d l) q ≡ map.get (list_of d l') q) → l ≡ l'

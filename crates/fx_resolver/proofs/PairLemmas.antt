@@ -6,6 +6,7 @@ use Rattle.std.specs.List.{list_any}
 use Rattle.std.specs.FinMap as map
 use Rattle.std.specs.FinMap.{find, is_sorted}
 use Rattle.fx_base.specs.Set as set
+use Rattle.fx_base.specs.Grouped.{has_key}
 use Rattle.fx_base.proofs.Entries.{entries-empty}
 use Rattle.fx_model.specs.Pairs.{PolicyPairs, policy_pair_cmp, put}
 use Rattle.fx_model.specs.declared.ids.ItemKey.{ItemKey}
@@ -14,14 +15,11 @@ use Rattle.fx_model.specs.contracts.ids.ItemKeyOrd.TheImpl as item_cmp
 use Rattle.fx_model.specs.contracts.ids.PolicyIdOrd.TheImpl as policy_cmp
 use Rattle.fx_model.proofs.Orders.{exact_policy, policy_pairs_total, exact_policy_pair}
 use Rattle.fx_model.proofs.PairAt.{contains_put_policy_pair}
-use Rattle.fx_resolver.specs.Indexes.{Items, ItemsByPolicy, has_key, same_id, same_item, with_items, pairs_in, pairs_of}
-use Rattle.fx_resolver.proofs.Sorted.{gone, rest_sorted}
+use Rattle.fx_resolver.specs.Indexes.{Items, ItemsByPolicy, same_id, same_item, with_items, pairs_in, pairs_of}
+use Rattle.fx_base.proofs.Cases.{never, none_else, unit_same}
+use Rattle.fx_base.proofs.Sorted.{gone, rest_sorted}
 
 -- ---- the pairs of one policy
-never : (b : Bool) → (b && false) ≡ false
-never true = refl
-never false = refl
-
 joined : (a b c d : Bool) → cond (a && b) true ((a && c) || d) ≡ ((a && (b || c)) || d)
 joined false b c d = refl
 joined true true c d = refl
@@ -35,10 +33,6 @@ in_items id (k ∷ is) s u i =
     ∙ joined (same_id u id) (same_item i k) (list_any (λ k. same_item i k) is) (set.contains s (u, i))
 
 -- ---- the pairs of all policies
-none_else : (b : Bool) → (b || false) ≡ b
-none_else true = refl
-none_else false = refl
-
 in_rows : (es : List (PolicyId × Items)) → T (is_sorted policy_cmp.cmp-value.it es) → (u : PolicyId) (i : ItemKey) → set.contains (pairs_in es) (u, i) ≡ has_key (find policy_cmp.cmp-value.it u es) i
 in_rows [] s u i = ap is_some (map.get-empty policy_pair_cmp (u, i))
 in_rows (e ∷ es) s u i =
@@ -56,12 +50,6 @@ in_pairs m u i = in_rows (map.entries m) (map.entries_sorted m) u i ∙ ap (λ o
 -- ---- a pair more or less
 pub no_pairs : pairs_of map.empty ≡ set.empty
 no_pairs = ap pairs_in (entries-empty policy_cmp.cmp-value.it)
-
-unit_same : (x y : Option (Unit {0})) → is_some x ≡ is_some y → x ≡ y
-unit_same None None h = refl
-unit_same None (Some y) h = cc
-unit_same (Some x) None h = cc
-unit_same (Some x) (Some y) h = refl
 
 same_pairs : (s t : PolicyPairs) → ((u : PolicyId) (i : ItemKey) → set.contains s (u, i) ≡ set.contains t (u, i)) → s ≡ t
 same_pairs s t h = map.same_map policy_pairs_total exact_policy_pair s t (λ p. unit_same (map.get s p) (map.get t p) (h p.0 p.1))

@@ -3,6 +3,8 @@ use Rattle.std.proofs.Common.{◌≡◌, ℕ, Bool, true, false, cond, not, ◌&
 use Rattle.std.specs.FinMap as map
 use Rattle.fx_base.specs.Extended.{put_or_removed}
 use Rattle.fx_base.specs.Set as set
+use Rattle.fx_base.specs.Grouped.{has_key}
+use Rattle.fx_base.proofs.Keyed.{one_key, at_key}
 use Rattle.fx_model.specs.Pairs.{PolicyPairs, put}
 use Rattle.fx_model.specs.declared.ids.ItemKey.{ItemKey}
 use Rattle.fx_model.specs.declared.ids.PolicyId.{PolicyId}
@@ -14,11 +16,10 @@ use Rattle.fx_model.proofs.PairAt.{contains_put_policy_pair}
 use Rattle.fx_resolver.specs.declared.known.KnownPolicy.{KnownPolicy}
 use Rattle.fx_resolver.specs.declared.lists.ItemLists.{ItemLists}
 use Rattle.fx_resolver.specs.declared.placed.PlacedPolicy.{PlacedPolicy}
-use Rattle.fx_resolver.specs.Indexes.{same_id, same_item, has_key}
+use Rattle.fx_resolver.specs.Indexes.{same_id, same_item}
 use Rattle.fx_resolver.specs.Known.{KnownPolicies}
 use Rattle.fx_resolver.specs.Lists.{AllLists, AreLists, item_lists, list_of, moved}
 use Rattle.fx_resolver.specs.Placed.{TierStands, placed, shown, at_place}
-use Rattle.fx_resolver.proofs.Keyed.{one_key, at_key}
 use Rattle.fx_resolver.proofs.Moves.{HasId, get_moved, not_shown}
 
 pub own_place : (orders : TierStands) (id : PolicyId) (o : Option KnownPolicy) → HasId id (placed orders id o)

@@ -7,6 +7,7 @@ use Rattle.std.specs.Cmp.Lexicographic.{nat_list_cmp_total}
 use Rattle.std.specs.FinMap as maps
 use Rattle.fx_base.specs.Extended.{extended, collected}
 use Rattle.fx_base.specs.Set as set
+use Rattle.fx_base.specs.Grouped.{same_text}
 use Rattle.fx_base.proofs.AtKey.{get_insert, get_remove}
 use Rattle.fx_base.proofs.Entries.{entries-empty}
 use Rattle.fx_model.specs.Messages.{Named}
@@ -28,17 +29,18 @@ use Rattle.fx_resolver.specs.declared.known.KnownEndpoint.{KnownEndpoint}
 use Rattle.fx_resolver.specs.declared.known.KnownPolicy.{KnownPolicy}
 use Rattle.fx_resolver.specs.declared.rows.Rows.{Rows}
 use Rattle.fx_resolver.specs.declared.state.State.{State}
-use Rattle.fx_resolver.specs.Indexes.{same_id, same_text}
+use Rattle.fx_resolver.specs.Indexes.{same_id}
 use Rattle.fx_resolver.specs.Kept.{IsKept, IsKeptState}
 use Rattle.fx_resolver.specs.Known.{KnownPolicies}
 use Rattle.fx_resolver.specs.Lists.{AllLists, AreLists, Keys, no_lists, item_lists, list_of, row_in}
 use Rattle.fx_resolver.specs.Placed.{TierStands, same_place, stands_of, with_stand, placed, shown, at_place}
 use Rattle.fx_resolver.specs.Resolved.{is_on, applies_to, key_in_place, keys_for, endpoint_row, endpoint_entry, wanted_endpoints, IsResolved}
 use Rattle.fx_resolver.specs.Rows.{rows_by}
-use Rattle.fx_resolver.proofs.Keyed.{one_key}
 use Rattle.fx_resolver.proofs.Moves.{over, some_over, unless_id}
 use Rattle.fx_resolver.proofs.RowLemmas.{rows_same}
-use Rattle.fx_resolver.proofs.Sorted.{gone, rest_sorted}
+use Rattle.fx_base.proofs.Cases.{none_some}
+use Rattle.fx_base.proofs.Keyed.{one_key}
+use Rattle.fx_base.proofs.Sorted.{gone, rest_sorted}
 
 no_key : (b : Bool) → ◌≡◌ {A = Option (List ℕ)} (cond b None None) None
 no_key true = refl
@@ -158,9 +160,6 @@ module _ (tiers : Tiers) (name : List ℕ) where
 no_list : (d : Direction) (q : PolicyPlace) → maps.get (list_of d no_lists) q ≡ None
 no_list Ingress q = maps.get-empty place_cmp.cmp-value.it q
 no_list Egress q = maps.get-empty place_cmp.cmp-value.it q
-
-none_some : {A B : Type 0} (x : A) → None ≡ Some x → B
-none_some x h = cc
 
 pub nothing_kept : IsKept (stands_of maps.empty) maps.empty set.empty maps.empty (record { lists = maps.empty; told = maps.empty })
 nothing_kept = record {

@@ -9,6 +9,7 @@ use Rattle.std.specs.FinMap as maps
 use Rattle.fx_base.specs.Extended.{extended}
 use Rattle.fx_base.specs.Set as set
 use Rattle.fx_base.specs.Same.{same_bytes}
+use Rattle.fx_base.specs.Grouped.{same_text}
 use Rattle.fx_base.proofs.AtKey.{get_insert, get_remove, get_empty, same_by_get}
 use Rattle.fx_base.proofs.Found.{each, of_found, found_passes, all_fail, entries_found, of_entries}
 use Rattle.fx_base.proofs.KeyCases.{bytes_exact}
@@ -18,14 +19,12 @@ use Rattle.fx_model.specs.contracts.ids.ItemKeyOrd.TheImpl as item_cmp
 use Rattle.fx_model.specs.Messages.{Named}
 use Rattle.fx_model.proofs.Orders.{item_total, exact_item}
 use Rattle.fx_resolver.specs.declared.known.KnownEndpoint.{KnownEndpoint}
-use Rattle.fx_resolver.specs.Indexes.{Items, same_text}
+use Rattle.fx_resolver.specs.Indexes.{Items}
 use Rattle.fx_resolver.specs.Known.{KnownEndpoints}
 use Rattle.fx_resolver.specs.Resolved.{HaveOwnInterfaces}
 use Rattle.fx_resolver.specs.Rows.{RowFor, entry_by, rows_by, with_row, without_row, if_other, IsToldBut}
-use Rattle.fx_resolver.proofs.Keyed.{one_key, own_key, at_key}
-
-same_some : {A : Type 0} (x y : A) → Some x ≡ Some y → x ≡ y
-same_some x y e = cc
+use Rattle.fx_base.proofs.Cases.{same_some}
+use Rattle.fx_base.proofs.Keyed.{one_key, own_key, at_key}
 
 other_text : (t u : List ℕ) → (u ≡ t → ⊥) → same_text t u ≡ false
 other_text t u other =

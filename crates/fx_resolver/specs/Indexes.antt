@@ -1,9 +1,9 @@
 -- What the node holds beside its inputs, so as to find things: sets of keys under keys.
 use Rattle.std.specs.Prelude.{◌≡◌, ℕ, Bool, false, List, [], ◌∷◌, Option, Some, None}
-use Rattle.std.specs.declared.cmp.Ordering.{Ordering}
 use Rattle.std.specs.Ordering.{nat_cmp, eq_by_cmp}
 use Rattle.std.specs.Cmp.Lexicographic.{slice_cmp}
 use Rattle.std.specs.FinMap as maps
+use Rattle.fx_base.specs.Grouped.{Grouped, has_key, same_text}
 use Rattle.fx_base.specs.Set as set
 use Rattle.fx_model.specs.Pairs.{PolicyPairs}
 use Rattle.fx_model.specs.declared.ids.ItemKey.{ItemKey}
@@ -19,23 +19,11 @@ same_id q id = eq_by_cmp policy_cmp.cmp-value.it q id
 abbrev pub same_item : ItemKey → ItemKey → Bool
 same_item i k = eq_by_cmp item_cmp.cmp-value.it i k
 
-abbrev pub same_text : List ℕ → List ℕ → Bool
-same_text t u = eq_by_cmp (slice_cmp nat_cmp) t u
-
 abbrev pub Items : Type 0
 Items = set.Set item_cmp.cmp-value.it
 
 abbrev pub Ids : Type 0
 Ids = set.Set policy_cmp.cmp-value.it
-
--- sets of keys of one kind under keys of another
-abbrev pub Grouped : {K L : Type 0} → (K → K → Ordering) → (L → L → Ordering) → Type 0
-Grouped R Q = maps.FinMap R (set.Set Q)
-
--- the key is in the set, if there is one
-abbrev pub has_key : {L : Type 0} {Q : L → L → Ordering} → Option (set.Set Q) → L → Bool
-has_key None k = false
-has_key (Some keys) k = set.contains keys k
 
 -- ---- the policies of each tier
 

@@ -3,6 +3,7 @@ use Rattle.std.specs.Prelude.{ℕ, Bool, cond, ◌&&◌, List, Option, Some, Non
 use Rattle.std.specs.Ordering.{eq_by_cmp}
 use Rattle.std.specs.FinMap as maps
 use Rattle.fx_base.specs.Set as set
+use Rattle.fx_base.specs.Grouped.{same_text}
 use Rattle.fx_model.specs.Pairs.{PolicyPairs}
 use Rattle.fx_model.specs.declared.ids.ItemKey.{ItemKey}
 use Rattle.fx_model.specs.declared.ids.PolicyId.{PolicyId}
@@ -13,7 +14,6 @@ use Rattle.fx_model.specs.Directions.{Direction, Ingress, Egress}
 use Rattle.fx_model.specs.TierOrder.{Tiers, tier_stand, policy_place}
 use Rattle.fx_resolver.specs.declared.known.KnownPolicy.{KnownPolicy}
 use Rattle.fx_resolver.specs.declared.placed.PlacedPolicy.{PlacedPolicy}
-use Rattle.fx_resolver.specs.Indexes.{same_text}
 use Rattle.fx_resolver.specs.Known.{KnownPolicies}
 
 abbrev pub same_place : PolicyPlace → PolicyPlace → Bool

@@ -3,8 +3,9 @@ ghost use Rattle.std.specs.Prelude.{◌≡◌, [], None, IsTrue, OnOk, cond};
 ghost use Rattle.std.specs.Option.{option_copied};
 ghost use Rattle.std.specs.FinMap as map;
 ghost use Rattle.fx_base.specs.Set as set;
+ghost use Rattle.fx_base.specs.Grouped.{has_key};
 ghost use Rattle.fx_model.specs.declared.ids.ItemKey.{ItemKey};
-ghost use Rattle.fx_resolver.specs.Indexes.{has_key, same_item};
+ghost use Rattle.fx_resolver.specs.Indexes.{same_item};
 ghost use Rattle.fx_resolver.specs.Lists.{no_lists, item_lists, without, with_policy, moved};
 
 use crate::placed::PlacedPolicy;
@@ -32,7 +33,7 @@ impl ItemLists {
     fn is_empty(&self) -> bool
         ensures { IsTrue result → self.now ≡ no_lists }
     {
-        is_empty(&self.ingress) && is_empty(&self.egress)
+        self.ingress.is_empty() && self.egress.is_empty()
     }
 
     fn take(&mut self, policy: Option<&PlacedPolicy>)
@@ -54,12 +55,6 @@ impl ItemLists {
         put_if(policy.on_egress, policy, &mut self.egress)?;
         Ok(())
     }
-}
-
-fn is_empty(keys: &PlaceMap<NameKey>) -> bool
-    ensures { IsTrue result → map.entries keys.now ≡ [] }
-{
-    keys.iter().next().is_none()
 }
 
 fn put_if(on: bool, policy: &PlacedPolicy, keys: &mut PlaceMap<NameKey>) -> Result<(), Memory>

@@ -3,11 +3,11 @@ ghost use Rattle.std.specs.Prelude.{◌≡◌, IfOk, OnOk, cond, true, ◌||◌}
 ghost use Rattle.std.specs.Option.{option_copied};
 ghost use Rattle.std.specs.FinMap as map;
 ghost use Rattle.fx_base.specs.Set as set;
+ghost use Rattle.fx_base.specs.Grouped.{has_key};
 ghost use Rattle.fx_model.specs.declared.ids.ItemKey.{ItemKey};
 ghost use Rattle.fx_model.specs.declared.ids.PolicyId.{PolicyId};
 ghost use Rattle.fx_model.specs.declared.tier_order.PolicyPlace.{PolicyPlace};
 ghost use Rattle.fx_model.specs.Directions.{Direction};
-ghost use Rattle.fx_resolver.specs.Indexes.{has_key};
 ghost use Rattle.fx_resolver.specs.Kept.{IsKept};
 ghost use Rattle.fx_resolver.specs.Lists.{item_lists, list_of, moved};
 ghost use Rattle.fx_resolver.specs.Placed.{at_place, stands_of, placed, with_stand};

@@ -3,8 +3,8 @@ ghost use Rattle.std.specs.Prelude.{◌≡◌, [], OnOk, IsTrue};
 ghost use Rattle.std.specs.Option.{option_copied};
 ghost use Rattle.std.specs.FinMap as map;
 ghost use Rattle.fx_base.specs.Set as set;
+ghost use Rattle.fx_base.specs.Grouped.{has_key};
 ghost use Rattle.fx_model.specs.declared.ids.ItemKey.{ItemKey};
-ghost use Rattle.fx_resolver.specs.Indexes.{has_key};
 
 use fx_base::Memory;
 use fx_model::{ItemKey, ItemMap, PolicyId, PolicyMap};
@@ -73,16 +73,10 @@ impl PairIndex {
             .remove(id)
             .unwrap_or(ItemMap::new(self.alloc));
         items.remove(item);
-        if is_empty(&items) {
+        if items.is_empty() {
             return Ok(());
         }
         self.by_policy.insert(id.clone()?, items)?;
         Ok(())
     }
-}
-
-fn is_empty(items: &ItemMap<()>) -> bool
-    ensures { IsTrue result → map.entries items.now ≡ [] }
-{
-    items.iter().next().is_none()
 }

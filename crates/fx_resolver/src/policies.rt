@@ -3,7 +3,8 @@ ghost use Rattle.std.specs.Prelude.{◌≡◌, ℕ, List, OnOk, cond, true, fals
 ghost use Rattle.std.specs.Option.{option_copied};
 ghost use Rattle.std.specs.FinMap as map;
 ghost use Rattle.fx_model.specs.declared.ids.PolicyId.{PolicyId};
-ghost use Rattle.fx_resolver.specs.Indexes.{has_key, is_in_tier, same_id, same_text};
+ghost use Rattle.fx_base.specs.Grouped.{has_key, same_text};
+ghost use Rattle.fx_resolver.specs.Indexes.{is_in_tier, same_id};
 
 use crate::known::KnownPolicy;
 use fx_base::{Memory, Text, TextMap};
@@ -125,15 +126,9 @@ fn remove_id(
         .remove(&before.tier)
         .unwrap_or(PolicyMap::new(alloc));
     ids.remove(id);
-    if is_empty(&ids) {
+    if ids.is_empty() {
         return Ok(());
     }
     by_tier.insert(before.tier.clone()?, ids)?;
     Ok(())
-}
-
-fn is_empty(ids: &PolicyMap<()>) -> bool
-    ensures { IsTrue result → map.entries ids.now ≡ [] }
-{
-    ids.iter().next().is_none()
 }

@@ -3,7 +3,7 @@ ghost use Rattle.std.specs.Prelude.{◌≡◌, IfOk, OnOk, IsSome, IsTrue, Some}
 ghost use Rattle.std.specs.Option.{option_copied};
 ghost use Rattle.std.specs.FinMap as map;
 ghost use Rattle.fx_base.specs.Set as set;
-ghost use Rattle.fx_resolver.specs.Indexes.{has_key};
+ghost use Rattle.fx_base.specs.Grouped.{has_key};
 ghost use Rattle.fx_resolver.specs.Lists.{item_lists, no_lists, row_of, row_in};
 ghost use Rattle.fx_resolver.specs.Resolved.{HaveOwnInterfaces};
 ghost use Rattle.fx_resolver.specs.Rows.{IsToldBut, rows_by, with_row, without_row};

@@ -6,6 +6,7 @@ use Rattle.fx_base.specs.Same.{same_numbers}
 use Rattle.fx_model.specs.declared.set_use.SetUse.{SetUse}
 use Rattle.fx_scanner.specs.Uses.{times}
 use Rattle.fx_scanner.proofs.Texts.{not_both, fails}
+use Rattle.fx_base.proofs.Cases.{moved, opposite}
 
 -- one list is the other in another order
 abbrev pub AreSame : List SetUse → List SetUse → Type 0
@@ -21,9 +22,6 @@ zero_right a b h = omega arith
 
 pub both_zero : (a b : ℕ) → a ≡ 0 → b ≡ 0 → a + b ≡ 0
 both_zero a b g h = omega arith
-
-moved : (a b n : ℕ) → a + (b + n) ≡ b + (a + n)
-moved a b n = omega arith
 
 turned : (a b : ℕ) → a + (b + 0) ≡ b + a
 turned a b = omega arith
@@ -52,10 +50,6 @@ not_true false h = cc
 
 pub not_false : (b : Bool) → b ≡ true → not b ≡ false
 not_false b h = ap not h
-
-pub now_false : (b : Bool) → not b ≡ true → b ≡ false
-now_false true h = cc
-now_false false h = refl
 
 -- where q and r hold of none, p does not either
 pub none_by : (p q r : SetUse → Bool) → ((v : SetUse) → p v ≡ true → q v ≡ false → r v ≡ true) → (us : List SetUse) → times q us ≡ 0 → times r us ≡ 0 → times p us ≡ 0

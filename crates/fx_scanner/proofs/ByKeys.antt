@@ -12,7 +12,8 @@ use Rattle.fx_base.proofs.AtKey.{get_insert, get_insert_same, get_remove, get_em
 use Rattle.fx_base.proofs.Found.{each, of_found, found_passes, all_fail, entries_found, of_entries}
 use Rattle.fx_model.specs.Messages.{Named}
 use Rattle.fx_scanner.specs.Uses.{same_text}
-use Rattle.fx_scanner.proofs.Texts.{equal, one_text, from_one, other_text, not_both, whether, same_some, none_some}
+use Rattle.fx_scanner.proofs.Texts.{one_text, from_one, other_text, not_both, whether}
+use Rattle.fx_base.proofs.Cases.{equal, same_some, none_some}
 
 module _ {K : Type 0} {R : K → K → Ordering} (exact : IsAntisymmetric R) where
   pub one_key : (j k : K) → eq_by_cmp R j k ≡ true → j ≡ k

@@ -15,9 +15,10 @@ use Rattle.fx_model.specs.declared.set_use.SetUse.{SetUse}
 use Rattle.fx_scanner.specs.Uses.{same_text, same_use, is_use, use_key, times, by_key, is_among}
 use Rattle.fx_scanner.specs.Told.{has_name, is_told, clashes, AreTold, AreApartFrom}
 use Rattle.fx_scanner.specs.Scanned.{use_entry}
-use Rattle.fx_scanner.proofs.Texts.{one_text, own_text, not_both, absent_value}
+use Rattle.fx_scanner.proofs.Texts.{one_text, own_text, not_both}
 use Rattle.fx_scanner.proofs.Bags.{zero_left, zero_right, is_more, passes_not, not_true, not_false, none_from_all, all_from_none, none_in_first, none_in_second, none_in_both, none_passing}
 use Rattle.fx_scanner.proofs.SameUses.{one_use, from_one_use, value_of, told_value}
+use Rattle.fx_base.proofs.Cases.{absent_value}
 
 -- the first, or else the second
 abbrev or_else : Option SetUse → Option SetUse → Option SetUse

@@ -24,7 +24,8 @@ use Rattle.fx_scanner.proofs.ApartUses.{used_in_whole, less_policy, less_profile
 use Rattle.fx_scanner.proofs.ByKeys.{one_key, get_put, other_put}
 use Rattle.fx_scanner.proofs.InputBags.{no_inputs, without_policy, without_profile}
 use Rattle.fx_scanner.proofs.Scanning.{none_used}
-use Rattle.fx_scanner.proofs.Texts.{whether, same_some, none_some}
+use Rattle.fx_scanner.proofs.Texts.{whether}
+use Rattle.fx_base.proofs.Cases.{same_some, none_some}
 
 module _ (id : PolicyId) (name : List ℕ) (u : SetUse) where
   pub alone_apart : (dg : Digest) (n : Inputs) → IsAlone id name u n → IsApart dg n

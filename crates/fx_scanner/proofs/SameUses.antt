@@ -20,8 +20,9 @@ use Rattle.fx_model.specs.Sinks.{Uses}
 use Rattle.fx_model.specs.declared.set_use.SetUse.{SetUse}
 use Rattle.fx_scanner.specs.Uses.{same_port, same_use, is_use, use_key, has_key}
 use Rattle.fx_scanner.specs.Told.{has_name, is_told, clashes}
-use Rattle.fx_scanner.proofs.Texts.{one_text, from_one, same_some}
+use Rattle.fx_scanner.proofs.Texts.{one_text, from_one}
 use Rattle.fx_scanner.proofs.Bags.{not_true}
+use Rattle.fx_base.proofs.Cases.{same_some}
 
 same_kind : (k l : SetKind) → kinds.eq-value.it k l ≡ true → k ≡ l
 same_kind Nets Nets e = refl

@@ -27,7 +27,7 @@ use Rattle.fx_scanner.proofs.ByKeys.{AreAll, collected_are, are_collected, put_a
 use Rattle.fx_scanner.proofs.FilledUses.{filled_told, told_filled}
 use Rattle.fx_scanner.proofs.InputBags.{no_inputs, no_uses, without_policy, policy_apart, policy_with, without_profile, profile_apart, profile_with}
 use Rattle.fx_scanner.proofs.TellSteps.{held_same}
-use Rattle.fx_scanner.proofs.Texts.{none_some}
+use Rattle.fx_base.proofs.Cases.{none_some}
 
 module _ (dg : Digest) where
   abbrev ArePolicies : Inputs → PoliciesByKey → Type 0

@@ -10,20 +10,17 @@ use Rattle.fx_model.specs.declared.set_use.SetUse.{SetUse}
 use Rattle.fx_scanner.specs.Uses.{same_text, is_use, use_key, has_key, times, Counts, count_at, with_count}
 use Rattle.fx_scanner.specs.Told.{has_name, is_told, clashes, AreCounts, AreTold, AreHeld}
 use Rattle.fx_scanner.proofs.Texts.{one_text, own_text, from_one, not_both, whether, at_text}
-use Rattle.fx_scanner.proofs.Bags.{AreSame, zero_left, zero_right, both_zero, is_more, is_some_number, not_none, passes_not, none_if, not_true, not_false, now_false, none_by, none_with}
+use Rattle.fx_scanner.proofs.Bags.{AreSame, zero_left, zero_right, both_zero, is_more, is_some_number, not_none, passes_not, none_if, not_true, not_false, none_by, none_with}
 use Rattle.fx_scanner.proofs.SameUses.{of_value, key_has_name, one_by_name, told_value, one_told}
+use Rattle.fx_base.proofs.Cases.{opposite, either}
 
 -- ---- counts
 
-picked : (b : Bool) (x y : Option ℕ) → unwrap_or (cond b x y) 0 ≡ cond b (unwrap_or x 0) (unwrap_or y 0)
-picked true x y = refl
-picked false x y = refl
-
 count_put : (counts : Counts) (k : List ℕ) (n : ℕ) (q : List ℕ) → count_at (maps.insert counts k n) q ≡ cond (same_text q k) n (count_at counts q)
-count_put counts k n q = ap (λ o. unwrap_or o 0) (get_insert counts k n q) ∙ picked (same_text q k) (Some n) (maps.get counts q)
+count_put counts k n q = ap (λ o. unwrap_or o 0) (get_insert counts k n q) ∙ either (same_text q k) (Some n) (maps.get counts q)
 
 count_out : (counts : Counts) (k q : List ℕ) → count_at (maps.remove counts k) q ≡ cond (same_text q k) 0 (count_at counts q)
-count_out counts k q = ap (λ o. unwrap_or o 0) (get_remove counts k q) ∙ picked (same_text q k) None (maps.get counts q)
+count_out counts k q = ap (λ o. unwrap_or o 0) (get_remove counts k q) ∙ either (same_text q k) None (maps.get counts q)
 
 count_with : (counts : Counts) (k : List ℕ) (n : ℕ) (q : List ℕ) → count_at (with_count counts k n) q ≡ cond (same_text q k) n (count_at counts q)
 count_with counts k n q =
@@ -92,7 +89,7 @@ module _ (dg : Digest) (uses : Uses) (us : List SetUse) (u : SetUse) where
         (λ same. from_one (use_name dg u) (use_name dg v) (sym (one_text (use_name dg v) (use_name dg u) same)))
         (λ other. not_both (is_told dg uses v) (not_true (is_told dg uses v) e)
         (sym (ap (is_use v) (get_insert uses (use_name dg u) u (use_name dg v) ∙ ap (λ b. cond b (Some u) (maps.get uses (use_name dg v))) other))
-        ∙ now_false (is_told dg (maps.insert uses (use_name dg u) u) v) h))
+        ∙ opposite (is_told dg (maps.insert uses (use_name dg u) u) v) h))
 
     pub told_first : AreTold dg (maps.insert uses (use_name dg u) u) (u ∷ us)
     told_first = record {
@@ -154,7 +151,7 @@ module _ (dg : Digest) (uses : Uses) (us : List SetUse) (u : SetUse) where
           (λ same. from_one (use_name dg u) (use_name dg v) (sym (one_text (use_name dg v) (use_name dg u) same)))
           (λ other. not_both (is_told dg uses v) (not_true (is_told dg uses v) e)
           (sym (ap (is_use v) (get_remove uses (use_name dg u) (use_name dg v) ∙ ap (λ b. cond b None (maps.get uses (use_name dg v))) other))
-          ∙ now_false (is_told dg (maps.remove uses (use_name dg u)) v) h))
+          ∙ opposite (is_told dg (maps.remove uses (use_name dg u)) v) h))
 
       pub told_last : AreTold dg (maps.remove uses (use_name dg u)) us
       told_last = record {

@@ -7,11 +7,7 @@ use Rattle.std.specs.Cmp.{tied_itself}
 use Rattle.std.specs.Cmp.Lexicographic.{slice_cmp, nat_list_cmp_total}
 use Rattle.fx_base.proofs.KeyCases.{bytes_exact}
 use Rattle.fx_scanner.specs.Uses.{same_text}
-
-pub equal : (r : Ordering) → is_eq r ≡ true → r ≡ Equal
-equal Less h = cc
-equal Equal h = refl
-equal Greater h = cc
+use Rattle.fx_base.proofs.Cases.{equal, same_some, none_some, absent_value}
 
 pub one_text : (t u : List ℕ) → same_text t u ≡ true → t ≡ u
 one_text t u h = bytes_exact t u (equal (slice_cmp nat_cmp t u) h)
@@ -37,16 +33,6 @@ other_text t u other = fails (same_text t u) (λ h. other (one_text t u h))
 pub whether : {A : Type 0} (b : Bool) → (b ≡ true → A) → (b ≡ false → A) → A
 whether true f g = f refl
 whether false f g = g refl
-
-pub same_some : {X : Type 0} (x y : X) → Some x ≡ Some y → x ≡ y
-same_some x y e = cc
-
-pub none_some : {X A : Type 0} (x : X) → None ≡ Some x → A
-none_some x e = cc
-
-pub absent_value : {X : Type 0} (o : Option X) → is_some o ≡ false → o ≡ None
-absent_value None h = refl
-absent_value (Some x) h = cc
 
 -- a value at a text
 pub at_text : {A : Type 0} (f : List ℕ → A) (k q : List ℕ) (x : A) → f k ≡ x → cond (same_text q k) x (f q) ≡ f q

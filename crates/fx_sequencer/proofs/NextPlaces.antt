@@ -20,7 +20,8 @@ use Rattle.fx_laws.proofs.Apart.{found_there}
 use Rattle.fx_laws.proofs.NextCases.{Cases, by_cases}
 use Rattle.fx_sequencer.specs.Pending.{places_where, put_places, gone_places, pending_places, set_change, set_put, put_or_gone, change_at}
 use Rattle.fx_sequencer.proofs.PassingEntries.{absent_there}
-use Rattle.fx_sequencer.proofs.PlacesAfter.{first_holds, pending_after}
+use Rattle.fx_sequencer.proofs.PlacesAfter.{pending_after}
+use Rattle.fx_base.proofs.Cases.{first_true}
 
 abbrev first_of : {A : Type 0} → List A → Option A
 first_of [] = None
@@ -88,7 +89,7 @@ told_cases s w =
           ∙ ap (λ h. set_put e.0 h e.1) (absent_there w.sets s.sets e is);
       set_other = λ e is.
           ap (set_change e.0 (maps.get s.sets e.0)) (found_there (is_other members_eq.eq-value.it s.sets) w.sets e is)
-          ∙ has_before e.0 (maps.get s.sets e.0) e.1 (first_holds _ _ (found_passes (is_other members_eq.eq-value.it s.sets) (maps.entries w.sets) e is));
+          ∙ has_before e.0 (maps.get s.sets e.0) e.1 (first_true _ _ (found_passes (is_other members_eq.eq-value.it s.sets) (maps.entries w.sets) e is));
       policy_put = λ none e is. ap (put_or_gone (PolicyPut e.0) (PolicyGone e.0)) (found_there (is_changed policy_eq.eq-value.it s.policies) w.policies e is);
       profile_put = λ none e is. ap (put_or_gone (ProfilePut e.0) (ProfileGone e.0)) (found_there (is_changed profile_eq.eq-value.it s.profiles) w.profiles e is);
       endpoint_put = λ policies profiles e is. ap (put_or_gone (EndpointPut e.0) (EndpointGone e.0)) (found_there (is_changed endpoint_eq.eq-value.it s.endpoints) w.endpoints e is);

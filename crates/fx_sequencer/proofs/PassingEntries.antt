@@ -16,6 +16,7 @@ use Rattle.fx_base.proofs.Found.{each, found_passes, entries_found}
 use Rattle.fx_base.proofs.Taken.{get_taken, put_back}
 use Rattle.fx_model.specs.Messages.{Named, is_absent}
 use Rattle.fx_laws.proofs.Apart.{found_there}
+use Rattle.fx_base.proofs.Cases.{first, second, less}
 
 pub same_first : {A : Type 0} (x y : A) (xs ys : List A) → x ∷ xs ≡ y ∷ ys → x ≡ y
 same_first x y xs ys e = cc
@@ -36,19 +37,6 @@ filter_alike p q [] h = refl
 filter_alike p q (x ∷ xs) h =
     ap (λ b. cond b (x ∷ filter p xs) (filter p xs)) h.0 ∙ ap (λ ys. cond (q x) (x ∷ ys) ys) (filter_alike p q xs h.1)
 
-first : (a b : Bool) → T (a && b) → T a
-first true b h = tt
-first false b h = h
-
-second : (a b : Bool) → T (a && b) → T b
-second true b h = h
-second false b h = absurd h
-
-is_less : (r : Ordering) → T (is_lt r) → r ≡ Less
-is_less Less h = refl
-is_less Equal h = absurd h
-is_less Greater h = absurd h
-
 never : (b : Bool) → cond b false false ≡ false
 never true = refl
 never false = refl
@@ -61,7 +49,7 @@ module _ {K X : Type 0} {R : K → K → Ordering} (o : IsTotalOrder R) where
   behind : (k : K) (p : K × X → Bool) (es : List (K × X)) → T (list.below_all R k es) → AllByRecursion (λ e. without k p e ≡ p e) es
   behind k p [] h = tt
   behind k p (e ∷ es) h =
-      let greater : R e.0 k ≡ Greater = o.antisymm e.0 k ∙ ap ordering_reverse (is_less _ (first _ _ h)) in
+      let greater : R e.0 k ≡ Greater = o.antisymm e.0 k ∙ ap ordering_reverse (less _ (first _ _ h)) in
       (ap (λ r. cond (is_eq r) false (p e)) greater, behind k p es (second _ _ h))
 
   -- without the key of the first entry the others are left

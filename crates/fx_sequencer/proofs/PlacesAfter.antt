@@ -21,6 +21,7 @@ use Rattle.fx_wanted.specs.Places.{taken_at}
 use Rattle.fx_laws.proofs.Apart.{found_there}
 use Rattle.fx_sequencer.specs.Pending.{absent_places, changed_places, other_places, put_places, gone_places, pending_places}
 use Rattle.fx_sequencer.proofs.PassingEntries.{same_first, same_rest, head_found, first_taken, none_taken, absent_there, first_removed, none_removed}
+use Rattle.fx_base.proofs.Cases.{first_true}
 
 -- a list begins with the image of an element
 record Begins {A B : Type 0} (g : A → B) (xs : List A) (y : B) (ys : List B) : Type 0 where
@@ -33,10 +34,6 @@ record Begins {A B : Type 0} (g : A → B) (xs : List A) (y : B) (ys : List B) :
 begins : {A B : Type 0} (g : A → B) (xs : List A) (y : B) (ys : List B) → map g xs ≡ y ∷ ys → Begins g xs y ys
 begins g [] y ys e = cc
 begins g (x ∷ xs) y ys e = record { first = x; others = xs; is = refl; here = same_first (g x) y (map g xs) ys e; later = same_rest (g x) y (map g xs) ys e }
-
-pub first_holds : (a b : Bool) → (a && b) ≡ true → a ≡ true
-first_holds true b e = refl
-first_holds false b e = cc
 
 no_value : {X A : Type 0} (h : Option X) (x : X) → h ≡ None → h ≡ Some x → A
 no_value h x none some = cc
@@ -100,7 +97,7 @@ module _ {X : Type 0} (eq : X → X → Bool) (itself : (x : X) → eq x x ≡ t
   other_first p ps is =
       let b = begins (λ (e : List ℕ × X). at e.0) (filter (is_other eq m) (maps.entries n)) p ps is in
       let found = head_found (is_other eq m) (maps.entries n) b.first b.others b.is in
-      let has : is_some (maps.get m b.first.0) ≡ true = first_holds _ _ (found_passes (is_other eq m) (maps.entries n) b.first found) in
+      let has : is_some (maps.get m b.first.0) ≡ true = first_true _ _ (found_passes (is_other eq m) (maps.entries n) b.first found) in
       record {
         key = b.first.0;
         here = b.here;

@@ -5,8 +5,9 @@ use Rattle.fx_base.proofs.Walk.{IsRest-head}
 use Rattle.fx_model.specs.declared.ids.PolicyId.{PolicyId}
 use Rattle.fx_model.proofs.Orders.{policy_total}
 use Rattle.fx_active.specs.Steps.{is_typed}
-use Rattle.fx_active.proofs.UpdateWalk.{IsHalfUpdated, half_start, half_pass, half_next, half_end, pair_before, policy_before, typed_there, typed_not, in_first, in_both, not_second}
+use Rattle.fx_active.proofs.UpdateWalk.{IsHalfUpdated, half_start, half_pass, half_next, half_end, pair_before, policy_before, typed_there, typed_not, not_second}
 use Rattle.fx_active.proofs.pairs.update_ids.Goals as goal
+use Rattle.fx_base.proofs.Cases.{first_true, both_true}
 
 pub loop-id-init : goal.loop-id-init
 loop-id-init g c =
@@ -19,7 +20,7 @@ loop-id-init g c =
     record {
       half = subst (λ es. IsHalfUpdated policies concerned others c.args.item.now c.args.added m s ids m s es)
           (sym (c.into_iter-id-iterator.ensures.into_iter_gives ∙ c.iter-id-items.ensures))
-          (half_start policies concerned others c.args.item.now c.args.added m s ids (λ id. in_first (set.contains ids id) (is_typed (map.get policies id))));
+          (half_start policies concerned others c.args.item.now c.args.added m s ids (λ id. first_true (set.contains ids id) (is_typed (map.get policies id))));
       profiles = refl;
     }
 
@@ -36,7 +37,7 @@ update_pair-requires-clause-pair g c =
     let half = subst (λ es. IsHalfUpdated policies concerned others c.args.item.now c.args.added m s ids m' s' es) c.in-Some.ensures.steps c.loop-id.invariant.half in
     let there = typed_there (map.get policies c.in-Some.id.now) c.in-Some-typed.policy.now c.in-Some-typed.ensures in
     let yes : concerned c.in-Some.id.now ≡ true =
-    in_both (set.contains ids c.in-Some.id.now) (is_typed (map.get policies c.in-Some.id.now)) (ap is_some (IsRest-head policy_total ids _ _ half.rest)) there.1 in
+    both_true (set.contains ids c.in-Some.id.now) (is_typed (map.get policies c.in-Some.id.now)) (ap is_some (IsRest-head policy_total ids _ _ half.rest)) there.1 in
     pair_before policies concerned others c.args.item.now c.args.added m s ids m' s' _ _ half yes c.requires.pairs
 
 pub update_pair-requires-clause-policy : goal.update_pair-requires-clause-policy
@@ -52,7 +53,7 @@ update_pair-requires-clause-policy g c = λ none.
     let half = subst (λ es. IsHalfUpdated policies concerned others c.args.item.now c.args.added m s ids m' s' es) c.in-Some.ensures.steps c.loop-id.invariant.half in
     let there = typed_there (map.get policies c.in-Some.id.now) c.in-Some-typed.policy.now c.in-Some-typed.ensures in
     let yes : concerned c.in-Some.id.now ≡ true =
-    in_both (set.contains ids c.in-Some.id.now) (is_typed (map.get policies c.in-Some.id.now)) (ap is_some (IsRest-head policy_total ids _ _ half.rest)) there.1 in
+    both_true (set.contains ids c.in-Some.id.now) (is_typed (map.get policies c.in-Some.id.now)) (ap is_some (IsRest-head policy_total ids _ _ half.rest)) there.1 in
     policy_before policies concerned others c.args.item.now c.args.added m s ids m' s' _ _ half yes c.requires.policies none
 
 pub loop-id-preserved-in-Continue-1 : goal.loop-id-preserved-in-Continue-1
@@ -68,7 +69,7 @@ loop-id-preserved-in-Continue-1 g c =
     let half = subst (λ es. IsHalfUpdated policies concerned others c.args.item.now c.args.added m s ids m' s' es) c.in-Some.ensures.steps c.loop-id.invariant.half in
     let there = typed_there (map.get policies c.in-Some.id.now) c.in-Some-typed.policy.now c.in-Some-typed.ensures in
     let yes : concerned c.in-Some.id.now ≡ true =
-    in_both (set.contains ids c.in-Some.id.now) (is_typed (map.get policies c.in-Some.id.now)) (ap is_some (IsRest-head policy_total ids _ _ half.rest)) there.1 in
+    both_true (set.contains ids c.in-Some.id.now) (is_typed (map.get policies c.in-Some.id.now)) (ap is_some (IsRest-head policy_total ids _ _ half.rest)) there.1 in
     record {
       half = half_next policies concerned others c.args.item.now c.args.added m s ids m' s' _ _ half yes c.in-Some-typed.policy.now there.0
           (g.S.ActiveSink.policies c.update_pair.new.sink) (g.S.ActiveSink.pairs c.update_pair.new.sink) c.in_ok-update_pair.ensures.policies c.in_ok-update_pair.ensures.pairs;

@@ -13,7 +13,7 @@ swap-requires-else-is_empty c =
 pub returns-then-is_empty : goal.returns-then-is_empty
 returns-then-is_empty c =
     last_removed policy_total c.args.by_text.now c.remove-then-is_empty.new.self c.args.text.now c.args.id.now c.swap.new.value c.swap.ensures.old
-    (ap map.entries (sym c.remove.ensures.removed) ∙ c.is_empty.ensures c.if-is_empty.true)
+    (ap map.entries (sym c.remove.ensures.removed) ∙ c.is_empty.ensures.0 c.if-is_empty.true)
     (c.remove-then-is_empty.ensures.removed ∙ ap (λ m. map.remove m c.args.text.now) (c.swap.ensures.swapped ∙ ap (map.insert c.args.by_text.now c.args.text.now) c.new-ids.ensures))
 
 pub returns : goal.returns

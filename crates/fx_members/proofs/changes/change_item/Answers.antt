@@ -1,7 +1,7 @@
 use Rattle.std.proofs.Common.{◌≤◌, ℕ, cond, Some, is_some, ap, sym, ◌∙◌, subst}
 use Rattle.std.specs.Option.{option_copied}
 use Rattle.fx_members.specs.Counts.{count_at, gives, shifted, times}
-use Rattle.fx_members.specs.Indexes.{same_text}
+use Rattle.fx_base.specs.Grouped.{same_text}
 use Rattle.fx_members.proofs.ListLemmas.{without_set, without_item}
 use Rattle.fx_members.proofs.changes.change_item.Goals as goal
 

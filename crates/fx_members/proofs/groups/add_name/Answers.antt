@@ -2,7 +2,7 @@ use Rattle.std.proofs.Common.{unwrap_or, ◌∙◌}
 use Rattle.std.specs.Cmp.Lexicographic.{nat_list_cmp_total}
 use Rattle.std.specs.FinMap as map
 use Rattle.fx_base.proofs.KeyCases.{bytes_exact}
-use Rattle.fx_members.proofs.Keyed.{key_added}
+use Rattle.fx_base.proofs.Keyed.{key_added}
 use Rattle.fx_members.proofs.groups.add_name.Goals as goal
 
 pub returns : goal.returns

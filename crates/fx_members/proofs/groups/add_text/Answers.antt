@@ -2,9 +2,9 @@ use Rattle.std.proofs.Common.{unwrap_or, ◌∙◌}
 use Rattle.std.specs.Cmp.Lexicographic.{nat_list_cmp_total}
 use Rattle.std.specs.FinMap as map
 use Rattle.fx_base.specs.Set as set
+use Rattle.fx_base.proofs.Keyed.{key_added}
 use Rattle.fx_model.specs.SameIds.{copies_item}
 use Rattle.fx_model.proofs.Orders.{item_total, exact_item}
-use Rattle.fx_members.proofs.Keyed.{key_added}
 use Rattle.fx_members.proofs.groups.add_text.Goals as goal
 
 pub returns : goal.returns

@@ -3,7 +3,7 @@ use Rattle.std.specs.Cmp.Lexicographic.{nat_list_cmp_total}
 use Rattle.std.specs.FinMap as map
 use Rattle.fx_model.specs.SameIds.{copies_item}
 use Rattle.fx_model.proofs.Orders.{item_total, exact_item}
-use Rattle.fx_members.proofs.Keyed.{key_removed, last_removed}
+use Rattle.fx_base.proofs.Keyed.{key_removed, last_removed}
 use Rattle.fx_members.proofs.groups.remove_text.Goals as goal
 
 pub returns-then-has_no_text : goal.returns-then-has_no_text

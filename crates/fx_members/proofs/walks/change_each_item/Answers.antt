@@ -2,7 +2,7 @@ use Rattle.std.proofs.Common.{◌≤◌, cond, Some, refl, ap, sym, ◌∙◌, s
 use Rattle.fx_base.proofs.Walk.{IsRest, IsRest-start, IsRest-next}
 use Rattle.fx_model.proofs.Orders.{item_total, exact_item}
 use Rattle.fx_members.specs.Counts.{count_at, gives, shifted}
-use Rattle.fx_members.specs.Indexes.{same_text}
+use Rattle.fx_base.specs.Grouped.{same_text}
 use Rattle.fx_members.proofs.WalkLemmas.{ItemsSoFar, items_start, items_left, items_next, items_end}
 use Rattle.fx_members.proofs.walks.change_each_item.Goals as goal
 

@@ -4,7 +4,7 @@ use Rattle.std.specs.Option.{option_copied}
 use Rattle.fx_base.proofs.KeyCases.{bytes_exact}
 use Rattle.fx_base.proofs.Walk.{IsRest, IsRest-start, IsRest-next}
 use Rattle.fx_members.specs.Counts.{count_at, gives, shifted}
-use Rattle.fx_members.specs.Indexes.{same_text}
+use Rattle.fx_base.specs.Grouped.{same_text}
 use Rattle.fx_members.proofs.WalkLemmas.{NamedSoFar, named_start, named_left, named_next, named_end}
 use Rattle.fx_members.proofs.walks.change_each_named.Goals as goal
 

@@ -4,7 +4,8 @@ use Rattle.std.specs.FinMap as map
 use Rattle.std.specs.Option.{option_copied}
 use Rattle.fx_base.proofs.KeyCases.{bytes_exact}
 use Rattle.fx_base.proofs.Walk.{IsRest, IsRest-start, IsRest-next}
-use Rattle.fx_members.specs.Indexes.{has_key, has_text}
+use Rattle.fx_base.specs.Grouped.{has_key}
+use Rattle.fx_members.specs.Indexes.{has_text}
 use Rattle.fx_members.proofs.WalkLemmas.{TextsSoFar, texts_start, texts_left, texts_next, texts_end}
 use Rattle.fx_members.proofs.walks.change_each_text.Goals as goal
 

@@ -3,7 +3,7 @@ use Rattle.std.specs.FinMap as map
 use Rattle.std.specs.Option.{option_copied}
 use Rattle.fx_model.specs.declared.member.Member.{Member}
 use Rattle.fx_members.specs.Counts.{count_at, gives, shifted}
-use Rattle.fx_members.specs.Indexes.{has_key}
+use Rattle.fx_base.specs.Grouped.{has_key}
 use Rattle.fx_members.proofs.CountLemmas.{unmoved}
 use Rattle.fx_members.proofs.walks.change_named.Goals as goal
 

@@ -1,6 +1,6 @@
 use Rattle.std.proofs.Common.{cond, Some, None, refl, ap, sym, ◌∙◌}
 use Rattle.fx_members.specs.Counts.{count_at, due}
-use Rattle.fx_members.specs.Indexes.{same_text}
+use Rattle.fx_base.specs.Grouped.{same_text}
 use Rattle.fx_members.proofs.WalkLemmas.{due_by_keys, due_nowhere, nothing_due}
 use Rattle.fx_members.proofs.walks.change_set.Goals as goal
 

@@ -2,7 +2,7 @@ use Rattle.std.proofs.Common.{◌≡◌, cond, ap, sym, ◌∙◌}
 use Rattle.std.specs.Option.{option_copied}
 use Rattle.std.specs.FinMap as map
 use Rattle.fx_model.specs.declared.ids.ItemKey.{ItemKey}
-use Rattle.fx_resolver.specs.Indexes.{has_key}
+use Rattle.fx_base.specs.Grouped.{has_key}
 use Rattle.fx_resolver.specs.Lists.{item_lists, moved}
 use Rattle.fx_resolver.specs.Placed.{stands_of, placed}
 use Rattle.fx_resolver.proofs.Keeping.{policy_untold, policy_kept}

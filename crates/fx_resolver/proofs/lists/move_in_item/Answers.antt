@@ -5,7 +5,7 @@ use Rattle.fx_model.proofs.Orders.{item_total}
 use Rattle.fx_resolver.specs.declared.lists.ItemLists.{ItemLists}
 use Rattle.fx_resolver.specs.Indexes.{same_item}
 use Rattle.fx_resolver.specs.Lists.{item_lists, moved, without, with_policy}
-use Rattle.fx_resolver.proofs.Keyed.{get_removed}
+use Rattle.fx_base.proofs.Keyed.{get_removed}
 use Rattle.fx_resolver.proofs.ListLemmas.{lists_moved}
 use Rattle.fx_resolver.proofs.lists.move_in_item.Goals as goal
 

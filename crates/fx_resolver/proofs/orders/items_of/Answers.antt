@@ -1,6 +1,6 @@
 use Rattle.std.proofs.Common.{sym, ◌∙◌, subst}
 use Rattle.std.specs.Option.{option_copied}
-use Rattle.fx_resolver.specs.Indexes.{has_key}
+use Rattle.fx_base.specs.Grouped.{has_key}
 use Rattle.fx_resolver.proofs.OrderLemmas.{AreCovered, covered_start, covered_next}
 use Rattle.fx_resolver.proofs.orders.items_of.Goals as goal
 

@@ -3,9 +3,9 @@ use Rattle.std.specs.Cmp.Lexicographic.{nat_list_cmp_total}
 use Rattle.std.specs.FinMap as map
 use Rattle.fx_base.specs.Set as set
 use Rattle.fx_base.proofs.KeyCases.{bytes_exact}
+use Rattle.fx_base.proofs.Keyed.{key_added}
 use Rattle.fx_model.specs.SameIds.{copies_policy_id}
 use Rattle.fx_model.proofs.Orders.{policy_total}
-use Rattle.fx_resolver.proofs.Keyed.{key_added}
 use Rattle.fx_resolver.proofs.policies.add_id.Goals as goal
 
 pub returns : goal.returns

@@ -1,6 +1,6 @@
 use Rattle.std.proofs.Common.{subst}
 use Rattle.std.specs.Option.{option_copied}
-use Rattle.fx_resolver.specs.Indexes.{has_key}
+use Rattle.fx_base.specs.Grouped.{has_key}
 use Rattle.fx_resolver.specs.Lists.{row_in}
 use Rattle.fx_resolver.specs.Rows.{IsToldBut}
 use Rattle.fx_resolver.proofs.RowLemmas.{rows_are}

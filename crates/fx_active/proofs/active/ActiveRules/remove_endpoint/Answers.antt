@@ -7,10 +7,11 @@ use Rattle.fx_active.specs.declared.inputs.Inputs.{Inputs}
 use Rattle.fx_active.specs.Active.{AreProfiles, ArePolicies, ArePairs}
 use Rattle.fx_active.specs.Node.{IsActive}
 use Rattle.fx_active.specs.Steps.{selects, holds_of, IsUpdated}
-use Rattle.fx_active.proofs.MapLemmas.{remove_absent, absent_value}
 use Rattle.fx_active.proofs.Leaving.{leaving_pair, leaving_policy, left_policies, left_pairs}
 use Rattle.fx_active.proofs.NodeLemmas.{at_entry}
 use Rattle.fx_active.proofs.active.ActiveRules.remove_endpoint.Goals as goal
+use Rattle.fx_base.proofs.Cases.{absent_value}
+use Rattle.fx_base.proofs.Keyed.{remove_absent}
 
 pub update_endpoint-requires-clause-pairs : goal.update_endpoint-requires-clause-pairs
 update_endpoint-requires-clause-pairs g c =

@@ -7,9 +7,10 @@ use Rattle.fx_base.proofs.KeyCases.{bytes_exact}
 use Rattle.fx_active.specs.Active.{is_listed}
 use Rattle.fx_active.specs.Node.{IsActive}
 use Rattle.fx_active.specs.declared.inputs.Inputs.{Inputs}
-use Rattle.fx_active.proofs.MapLemmas.{remove_absent, absent_value}
 use Rattle.fx_active.proofs.NodeLemmas.{at_entry, profiles_put}
 use Rattle.fx_active.proofs.active.ActiveRules.remove_profile.Goals as goal
+use Rattle.fx_base.proofs.Cases.{absent_value}
+use Rattle.fx_base.proofs.Keyed.{remove_absent}
 
 pub returns-then-not-remove_profile-clause-active : goal.returns-then-not-remove_profile-clause-active
 returns-then-not-remove_profile-clause-active g c =

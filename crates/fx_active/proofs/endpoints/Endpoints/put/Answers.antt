@@ -4,7 +4,7 @@ use Rattle.fx_model.specs.SameIds.{copies_item}
 use Rattle.fx_model.proofs.Orders.{item_total, exact_item}
 use Rattle.fx_active.specs.Active.{AreProfiles}
 use Rattle.fx_active.specs.Indexes.{count_at, times_listed, AreCounts}
-use Rattle.fx_active.proofs.MapLemmas.{insert_removed}
+use Rattle.fx_base.proofs.AtKey.{insert_removed}
 use Rattle.fx_active.proofs.EndpointLemmas.{counted_from_listed, listed_from_counted, listed_among, counts_put}
 use Rattle.fx_active.proofs.endpoints.Endpoints.put.Goals as goal
 

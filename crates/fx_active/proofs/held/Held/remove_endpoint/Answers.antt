@@ -1,7 +1,7 @@
 use Rattle.std.proofs.Common.{◌≡◌, ◌&&◌, true, ap, subst, sym, ◌∙◌}
 use Rattle.std.specs.FinMap as map
 use Rattle.fx_base.specs.Set as set
-use Rattle.fx_active.specs.Indexes.{has_key}
+use Rattle.fx_base.specs.Grouped.{has_key}
 use Rattle.fx_active.specs.Rows.{AreHere}
 use Rattle.fx_active.specs.declared.inputs.Inputs.{Inputs}
 use Rattle.fx_active.proofs.HereLemmas.{lost_endpoints, endpoint_gone}

@@ -2,9 +2,9 @@ use Rattle.std.proofs.Common.{nat_eq, true, cond, ◌&&◌, unwrap_or, ap, ◌�
 use Rattle.std.specs.Cmp.Lexicographic.{pointwise}
 use Rattle.std.specs.FinMap as map
 use Rattle.fx_base.specs.Set as set
+use Rattle.fx_base.specs.Grouped.{has_key}
 use Rattle.fx_model.specs.SameIds.{copies_item}
 use Rattle.fx_model.proofs.Orders.{item_total}
-use Rattle.fx_active.specs.Indexes.{has_key}
 use Rattle.fx_active.specs.Steps.{same_item}
 use Rattle.fx_active.proofs.KeysByText.{key_added}
 use Rattle.fx_active.proofs.here.Here.insert.Goals as goal

@@ -2,9 +2,9 @@ use Rattle.std.proofs.Common.{unwrap_or, ap, ◌∙◌}
 use Rattle.std.specs.Cmp.Lexicographic.{nat_list_cmp_total}
 use Rattle.std.specs.FinMap as map
 use Rattle.fx_base.specs.Set as set
+use Rattle.fx_base.proofs.Keyed.{key_added}
 use Rattle.fx_model.specs.SameIds.{copies_item}
 use Rattle.fx_model.proofs.Orders.{item_total, exact_item}
-use Rattle.fx_active.proofs.Keyed.{key_added}
 use Rattle.fx_active.proofs.RowLemmas.{pair_put}
 use Rattle.fx_active.proofs.matches.Matches.insert.Goals as goal
 

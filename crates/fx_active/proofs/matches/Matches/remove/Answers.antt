@@ -2,9 +2,9 @@ use Rattle.std.proofs.Common.{unwrap_or, ap, sym, ◌∙◌}
 use Rattle.std.specs.Cmp.Lexicographic.{nat_list_cmp_total}
 use Rattle.std.specs.FinMap as map
 use Rattle.fx_base.specs.Set as set
+use Rattle.fx_base.proofs.Keyed.{key_removed, last_removed}
 use Rattle.fx_model.specs.SameIds.{copies_item}
 use Rattle.fx_model.proofs.Orders.{item_total, exact_item}
-use Rattle.fx_active.proofs.Keyed.{key_removed, last_removed}
 use Rattle.fx_active.proofs.RowLemmas.{pair_out}
 use Rattle.fx_active.proofs.matches.Matches.remove.Goals as goal
 
@@ -15,7 +15,7 @@ returns-then-is_empty c =
     pair_out c.self.inside.by_item c.remove.new.self text item
     (last_removed item_total exact_item nat_list_cmp_total c.self.inside.by_item c.remove.new.self item text c.unwrap_or-texts.result
     (c.unwrap_or-texts.ensures ∙ (λ j. unwrap_or (c.remove.ensures.before j) (c.new.ensures j)))
-    (ap map.entries (sym c.remove-2.ensures.removed) ∙ c.is_empty.ensures c.if-is_empty.true)
+    (ap map.entries (sym c.remove-2.ensures.removed) ∙ c.is_empty.ensures.0 c.if-is_empty.true)
     c.remove.ensures.removed)
     ∙ ap (λ s. set.remove s (text, item)) c.self.view_is
 

@@ -4,8 +4,10 @@ use Rattle.std.specs.FinMap as map
 use Rattle.fx_model.specs.SameIds.{copies_policy_id}
 use Rattle.fx_model.proofs.Orders.{policy_total, exact_policy}
 use Rattle.fx_active.specs.Steps.{same_id}
-use Rattle.fx_active.specs.Indexes.{AreByText, has_key, has_text}
-use Rattle.fx_active.proofs.MapLemmas.{insert_removed, get_removed}
+use Rattle.fx_base.specs.Grouped.{has_key}
+use Rattle.fx_base.proofs.AtKey.{insert_removed}
+use Rattle.fx_base.proofs.Keyed.{get_removed}
+use Rattle.fx_active.specs.Indexes.{AreByText, has_text}
 use Rattle.fx_active.proofs.IndexLemmas.{by_text_added}
 use Rattle.fx_active.proofs.policies.PolicyIndex.put.Goals as goal
 

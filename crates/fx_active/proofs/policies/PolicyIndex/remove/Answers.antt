@@ -3,8 +3,9 @@ use Rattle.std.specs.Cmp.Lexicographic.{pointwise}
 use Rattle.std.specs.FinMap as map
 use Rattle.fx_model.proofs.Orders.{policy_total, exact_policy}
 use Rattle.fx_active.specs.Steps.{same_id}
-use Rattle.fx_active.specs.Indexes.{AreByText, has_key}
-use Rattle.fx_active.proofs.MapLemmas.{remove_absent}
+use Rattle.fx_base.specs.Grouped.{has_key}
+use Rattle.fx_base.proofs.Keyed.{remove_absent}
+use Rattle.fx_active.specs.Indexes.{AreByText}
 use Rattle.fx_active.proofs.IndexLemmas.{by_text_removed, text_there}
 use Rattle.fx_active.proofs.policies.PolicyIndex.remove.Goals as goal
 

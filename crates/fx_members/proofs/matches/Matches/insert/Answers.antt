@@ -3,9 +3,9 @@ use Rattle.std.specs.Cmp.Lexicographic.{nat_list_cmp_total}
 use Rattle.std.specs.FinMap as map
 use Rattle.fx_base.specs.Set as set
 use Rattle.fx_base.proofs.KeyCases.{bytes_exact}
+use Rattle.fx_base.proofs.Keyed.{key_added}
 use Rattle.fx_model.specs.SameIds.{copies_item}
 use Rattle.fx_model.proofs.Orders.{item_total}
-use Rattle.fx_members.proofs.Keyed.{key_added}
 use Rattle.fx_members.proofs.PairLemmas.{pair_put}
 use Rattle.fx_members.proofs.matches.Matches.insert.Goals as goal
 

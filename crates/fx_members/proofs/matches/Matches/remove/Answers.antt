@@ -3,8 +3,8 @@ use Rattle.std.specs.Cmp.Lexicographic.{nat_list_cmp_total}
 use Rattle.std.specs.FinMap as map
 use Rattle.fx_base.specs.Set as set
 use Rattle.fx_base.proofs.KeyCases.{bytes_exact}
+use Rattle.fx_base.proofs.Keyed.{key_removed, last_removed}
 use Rattle.fx_model.proofs.Orders.{item_total}
-use Rattle.fx_members.proofs.Keyed.{key_removed, last_removed}
 use Rattle.fx_members.proofs.PairLemmas.{pair_out}
 use Rattle.fx_members.proofs.matches.Matches.remove.Goals as goal
 
@@ -15,7 +15,7 @@ returns-then-is_empty c =
     pair_out c.self.inside.by_text c.remove.new.self text item
     (last_removed nat_list_cmp_total bytes_exact item_total c.self.inside.by_text c.remove.new.self text item c.unwrap_or-items.result
     (c.unwrap_or-items.ensures ∙ (λ j. unwrap_or (c.remove.ensures.before j) (c.new.ensures j)))
-    (ap map.entries (sym c.remove-2.ensures.removed) ∙ c.is_empty.ensures c.if-is_empty.true)
+    (ap map.entries (sym c.remove-2.ensures.removed) ∙ c.is_empty.ensures.0 c.if-is_empty.true)
     c.remove.ensures.removed)
     ∙ ap (λ s. set.remove s (text, item)) c.self.view_is
 

@@ -2,12 +2,13 @@ use Rattle.std.proofs.Common.{◌≡◌, ◌&&◌, true, cond, None, ap, sym, �
 use Rattle.std.specs.FinMap as map
 use Rattle.fx_model.specs.Sinks.{Uses}
 use Rattle.fx_members.specs.Counts.{due, HaveSameKeys}
-use Rattle.fx_members.specs.Indexes.{has_key, same_text, AreByText}
-use Rattle.fx_members.proofs.Keyed.{absent_value}
+use Rattle.fx_base.specs.Grouped.{has_key, same_text}
+use Rattle.fx_members.specs.Indexes.{AreByText}
 use Rattle.fx_members.proofs.NodeLemmas.{use_counted, use_put, by_text_added}
 use Rattle.fx_members.proofs.TellLemmas.{told_set_on}
 use Rattle.fx_members.proofs.UseLemmas.{set_absent, put_there, named_put}
 use Rattle.fx_members.proofs.state.State.add_use.Goals as goal
+use Rattle.fx_base.proofs.Cases.{absent_value}
 
 pub set_on-requires : goal.set_on-requires
 set_on-requires g c = set_absent c.args.self.now.inputs.uses (g.S.SetSink.sets c.args.sink.now) c.args.name c.requires.told.named c.requires.absent

@@ -2,8 +2,9 @@ use Rattle.std.proofs.Common.{◌≡◌, ◌≤◌, List, ℕ, false, cond, ap, 
 use Rattle.std.specs.FinMap as map
 use Rattle.std.specs.Option.{option_copied}
 use Rattle.fx_base.specs.Set as set
+use Rattle.fx_base.specs.Grouped.{has_key}
 use Rattle.fx_members.specs.Counts.{count_at, due, gives, shifted}
-use Rattle.fx_members.specs.Indexes.{has_key, has_text_of}
+use Rattle.fx_members.specs.Indexes.{has_text_of}
 use Rattle.fx_members.specs.Inputs.{Items}
 use Rattle.fx_members.proofs.NodeLemmas.{item_within, item_gone}
 use Rattle.fx_members.proofs.state.State.remove_item.Goals as goal

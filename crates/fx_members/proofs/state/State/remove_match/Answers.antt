@@ -3,7 +3,8 @@ use Rattle.std.specs.FinMap as map
 use Rattle.std.specs.Option.{option_copied}
 use Rattle.fx_model.specs.Pairs.{Pairs}
 use Rattle.fx_members.specs.Counts.{count_at, due, gives, shifted}
-use Rattle.fx_members.specs.Indexes.{has_key, has_text, AreByItem}
+use Rattle.fx_base.specs.Grouped.{has_key}
+use Rattle.fx_members.specs.Indexes.{has_text, AreByItem}
 use Rattle.fx_members.proofs.NodeLemmas.{match_within, match_put, by_item_put}
 use Rattle.fx_members.proofs.state.State.remove_match.Goals as goal
 

@@ -2,11 +2,12 @@ use Rattle.std.proofs.Common.{◌≡◌, ◌&&◌, false, cond, Some, ap, sym, �
 use Rattle.std.specs.Cmp.Lexicographic.{nat_list_cmp_total}
 use Rattle.std.specs.FinMap as map
 use Rattle.fx_base.specs.Set as set
+use Rattle.fx_base.specs.Grouped.{has_key, same_text}
 use Rattle.fx_base.proofs.KeyCases.{bytes_exact}
+use Rattle.fx_base.proofs.Keyed.{remove_absent}
 use Rattle.fx_model.specs.Sinks.{Uses}
 use Rattle.fx_members.specs.Counts.{count_at, due, HaveSameKeys}
-use Rattle.fx_members.specs.Indexes.{has_key, same_text, AreByText}
-use Rattle.fx_members.proofs.Keyed.{remove_absent}
+use Rattle.fx_members.specs.Indexes.{AreByText}
 use Rattle.fx_members.proofs.NodeLemmas.{use_counted, use_gone, by_text_removed}
 use Rattle.fx_members.proofs.TellLemmas.{told_set_off}
 use Rattle.fx_members.proofs.UseLemmas.{set_there, set_empty, own_counts, named_gone}

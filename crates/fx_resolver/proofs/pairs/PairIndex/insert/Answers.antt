@@ -1,9 +1,9 @@
 use Rattle.std.proofs.Common.{unwrap_or, ap, ◌∙◌}
 use Rattle.std.specs.FinMap as map
 use Rattle.fx_base.specs.Set as set
+use Rattle.fx_base.proofs.Keyed.{key_added}
 use Rattle.fx_model.specs.SameIds.{copies_item, copies_policy_id}
 use Rattle.fx_model.proofs.Orders.{policy_total, exact_policy, item_total}
-use Rattle.fx_resolver.proofs.Keyed.{key_added}
 use Rattle.fx_resolver.proofs.PairLemmas.{pair_put}
 use Rattle.fx_resolver.proofs.pairs.PairIndex.insert.Goals as goal
 

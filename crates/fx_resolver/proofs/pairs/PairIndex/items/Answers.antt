@@ -1,6 +1,6 @@
 use Rattle.std.proofs.Common.{ap, sym, ◌∙◌}
 use Rattle.fx_base.specs.Set as set
-use Rattle.fx_resolver.specs.Indexes.{has_key}
+use Rattle.fx_base.specs.Grouped.{has_key}
 use Rattle.fx_resolver.proofs.PairLemmas.{in_pairs}
 use Rattle.fx_resolver.proofs.pairs.PairIndex.items.Goals as goal
 

@@ -2,8 +2,10 @@ use Rattle.std.proofs.Common.{◌≡◌, None, subst, ap, sym, ◌∙◌}
 use Rattle.std.specs.FinMap as map
 use Rattle.fx_model.specs.SameIds.{copies_policy_id}
 use Rattle.fx_model.proofs.Orders.{policy_total, exact_policy}
-use Rattle.fx_resolver.specs.Indexes.{AreByTier, has_key, is_in_tier}
-use Rattle.fx_resolver.proofs.Keyed.{insert_removed, get_removed}
+use Rattle.fx_base.specs.Grouped.{has_key}
+use Rattle.fx_base.proofs.AtKey.{insert_removed}
+use Rattle.fx_base.proofs.Keyed.{get_removed}
+use Rattle.fx_resolver.specs.Indexes.{AreByTier, is_in_tier}
 use Rattle.fx_resolver.proofs.TierIndex.{by_tier_added}
 use Rattle.fx_resolver.proofs.policies.PolicyIndex.put.Goals as goal
 

@@ -1,6 +1,7 @@
 use Rattle.std.proofs.Common.{false, cond, ◌&&◌, subst, ap, sym, ◌∙◌}
 use Rattle.std.specs.FinMap as map
-use Rattle.fx_resolver.specs.Indexes.{AreByTier, has_key, is_in_tier, same_id}
+use Rattle.fx_base.specs.Grouped.{has_key}
+use Rattle.fx_resolver.specs.Indexes.{AreByTier, is_in_tier, same_id}
 use Rattle.fx_resolver.proofs.TierIndex.{by_tier_removed}
 use Rattle.fx_resolver.proofs.policies.PolicyIndex.remove.Goals as goal
 
