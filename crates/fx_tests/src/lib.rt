@@ -9,5 +9,6 @@ mod kube;
 mod model;
 #[cfg(test)]
 mod needs;
+mod model_parts;
 #[cfg(test)]
 mod selector;
