@@ -1,21 +1,25 @@
 -- What a line says, by what was read of it.
-use Rattle.std.proofs.Common.{◌≡◌, ℕ, List, length, Bool, true, false, cond, Some, None, Result, Ok, Err, IfOk, refl, sym, ◌∙◌, ap, subst}
+use Rattle.std.proofs.Common.{◌≡◌, ◌⊎◌, inl, inr, ℕ, List, length, Bool, true, false, cond, Option, Some, None, Result, Ok, Err, IfOk, refl, sym, ◌∙◌, ap, subst}
 use Rattle.std.specs.Prelude.{nat_lt}
 use Rattle.std.specs.List.{list_all}
 use Rattle.std.specs.Str.{IsUtf8, is_utf8}
 use Rattle.std.proofs.lemmas.Str.{IsUtf8-from_is_utf8, is_utf8-from_IsUtf8}
 use Rattle.serde_json.specs.Data.{Data}
 use Rattle.serde_json.specs.Read.{read}
+use Rattle.fx_model.specs.declared.resources.Update.{Update}
 use Rattle.fx_lines.specs.Lines.{line_limit}
-use Rattle.fx_lines.specs.Commands.{is_blank_byte, value_of, of_value, short_command, command_of}
-use Rattle.fx_lines.specs.declared.commands.Command.TheVariants.{Blank}
+use Rattle.fx_lines.specs.Commands.{is_blank_byte, value_of, one_member, short_value, value_in, update_or, of_value, command_of}
+use Rattle.fx_lines.specs.declared.commands.Command.{Command}
+use Rattle.fx_fields.specs.declared.fault.ReadFault.TheVariants.{Memory}
 use Rattle.fx_fields.specs.declared.refusal.Refusal.{Refusal}
-use Rattle.fx_fields.specs.declared.refusal.Refusal.TheVariants.{LineTooLong, BadJson}
+use Rattle.fx_fields.specs.declared.refusal.Refusal.TheVariants.{Read, LineTooLong, BadJson}
 use Rattle.fx_fields.specs.Refusals.{Refuses}
 
-pub command_of-long : (line : List ℕ) → true ≡ nat_lt line_limit (length line) → command_of line ≡ Err LineTooLong
-unfolding command_of
-command_of-long line long = ap (λ (b : Bool). cond b (Err LineTooLong) (short_command line)) (sym long)
+-- ---- the value of a line
+
+pub value_in-long : (line : List ℕ) → true ≡ nat_lt line_limit (length line) → value_in line ≡ Err LineTooLong
+unfolding value_in
+value_in-long line long = ap (λ (b : Bool). cond b (Err LineTooLong) (short_value line)) (sym long)
 
 value_of-none : (line : List ℕ) (utf8 : Bool) → utf8 ≡ is_utf8 line → (IsUtf8 line → read line ≡ None) → cond utf8 (read line) None ≡ None
 value_of-none line true is none = none (IsUtf8-from_is_utf8 line (sym is))
@@ -23,24 +27,53 @@ value_of-none line false is none = refl
 
 -- a line that isn't too long
 module _ (line : List ℕ) (short : false ≡ nat_lt line_limit (length line)) where
-  command_of-short : command_of line ≡ short_command line
-  unfolding command_of
-  command_of-short = ap (λ (b : Bool). cond b (Err LineTooLong) (short_command line)) (sym short)
+  value_in-short : value_in line ≡ short_value line
+  unfolding value_in
+  value_in-short = ap (λ (b : Bool). cond b (Err LineTooLong) (short_value line)) (sym short)
 
-  pub command_of-blank : true ≡ list_all is_blank_byte line → command_of line ≡ Ok Blank
-  command_of-blank blank = command_of-short ∙ ap (λ (b : Bool). cond b (Ok Blank) (of_value (value_of line))) (sym blank)
+  pub value_in-blank : true ≡ list_all is_blank_byte line → value_in line ≡ Ok None
+  value_in-blank blank = value_in-short ∙ ap (λ (b : Bool). cond b (Ok None) (one_member (value_of line))) (sym blank)
 
-  command_of-other : false ≡ list_all is_blank_byte line → command_of line ≡ of_value (value_of line)
-  command_of-other other = command_of-short ∙ ap (λ (b : Bool). cond b (Ok Blank) (of_value (value_of line))) (sym other)
+  value_in-other : false ≡ list_all is_blank_byte line → value_in line ≡ one_member (value_of line)
+  value_in-other other = value_in-short ∙ ap (λ (b : Bool). cond b (Ok None) (one_member (value_of line))) (sym other)
 
-  pub command_of-value : (d : Data) → false ≡ list_all is_blank_byte line → IsUtf8 line × (read line ≡ Some d) → command_of line ≡ of_value (Some d)
-  command_of-value d other is =
-      command_of-other other
-      ∙ ap (λ (b : Bool). of_value (cond b (read line) None)) (is_utf8-from_IsUtf8 line is.0)
-      ∙ ap of_value is.1
+  pub value_in-value : (d : Data) → false ≡ list_all is_blank_byte line → IsUtf8 line × (read line ≡ Some d) → value_in line ≡ one_member (Some d)
+  value_in-value d other is =
+      value_in-other other
+      ∙ ap (λ (b : Bool). one_member (cond b (read line) None)) (is_utf8-from_IsUtf8 line is.0)
+      ∙ ap one_member is.1
 
-  pub command_of-none : false ≡ list_all is_blank_byte line → (IsUtf8 line → read line ≡ None) → command_of line ≡ Err BadJson
-  command_of-none other none = command_of-other other ∙ ap of_value (value_of-none line (is_utf8 line) refl none)
+  pub value_in-none : false ≡ list_all is_blank_byte line → (IsUtf8 line → read line ≡ None) → value_in line ≡ Err BadJson
+  value_in-none other none = value_in-other other ∙ ap one_member (value_of-none line (is_utf8 line) refl none)
+
+-- ---- the command of a line, by its value
+
+command_of-at : (line : List ℕ) (value : Result (Option Data) Refusal) → value_in line ≡ value → command_of line ≡ of_value value
+unfolding command_of
+command_of-at line value is = ap of_value is
+
+-- what code answers that computes it
+pub command_of-refused : (line : List ℕ) (told : Refusal) → (told ≡ Read Memory) ⊎ (value_in line ≡ Err told) → Refuses (command_of line) (Err told)
+command_of-refused line told (inl memory) = inl memory
+command_of-refused line told (inr is) = inr (command_of-at line (Err told) is)
+
+pub command_of-answered : (line : List ℕ) (value : Option Data) (told : Result Command Refusal) → value_in line ≡ Ok value → Refuses (of_value (Ok value)) told → Refuses (command_of line) told
+command_of-answered line value told is answered =
+    let P : Result Command Refusal → Type 0 = λ r. Refuses r told in subst P (sym (command_of-at line (Ok value) is)) answered
+
+-- what an update's member answers is the answer, and where there is none, that of the others
+pub update_or-refused : (others : Result Command Refusal) (answer : Result (Option Update) Refusal) (told : Refusal) → (told ≡ Read Memory) ⊎ (answer ≡ Err told) → Refuses (update_or others answer) (Err told)
+update_or-refused others answer told (inl memory) = inl memory
+update_or-refused others answer told (inr is) = inr (ap (update_or others) is)
+
+pub update_or-answered : (others : Result Command Refusal) (answer : Result (Option Update) Refusal) (found : Option Update) (told : Result Command Refusal) → answer ≡ Ok found → Refuses (update_or others (Ok found)) told → Refuses (update_or others answer) told
+update_or-answered others answer found told is answered =
+    let P : Result (Option Update) Refusal → Type 0 = λ r. Refuses (update_or others r) told in subst P (sym is) answered
+
+-- what is computed alike is answered
+pub refuses-same : {A : Type 0} (answer told : Result A Refusal) → answer ≡ told → Refuses answer told
+refuses-same answer (Ok x) is = is
+refuses-same answer (Err r) is = inr is
 
 -- what holds of the computed answer holds of the one that is given
 pub kept : {A : Type 0} (P : A → Type 0) (answer result : Result A Refusal) → Refuses answer result → IfOk answer P → IfOk result P

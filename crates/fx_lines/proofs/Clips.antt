@@ -6,8 +6,8 @@ use Rattle.std.proofs.lemmas.List.{length-take, length-take-le, take_all, append
 use Rattle.std.proofs.lemmas.Bool.{cases_lt, lt-ltb}
 use Rattle.fx_lines.specs.Lines.{line_limit, clip, HasNoNewline}
 use Rattle.fx_lines.specs.Reading.{IsNext, line_if}
-use Rattle.fx_lines.specs.Commands.{command_of}
-use Rattle.fx_lines.proofs.Asking.{command_of-long}
+use Rattle.fx_lines.specs.Commands.{value_in, of_value, command_of}
+use Rattle.fx_lines.proofs.Asking.{value_in-long}
 use Rattle.fx_lines.proofs.Cuts.{HasNoNewline-from_places, NoneBefore, none_in_prefix, last_is_next}
 
 take-take-append : (n : ℕ) (xs ys : List ℕ) → take n (take n xs ++ ys) ≡ take n (xs ++ ys)
@@ -22,16 +22,20 @@ pub length-clip : (line : List ℕ) → length (clip line) ≡ min (line_limit +
 length-clip line = length-take (line_limit + 1) line
 
 -- what is kept of a line says as much as the line
-pub command_of-clip : (line : List ℕ) → command_of (clip line) ≡ command_of line
-command_of-clip line = ⊎_elim long short (cases_lt line_limit (length line))
+pub value_in-clip : (line : List ℕ) → value_in (clip line) ≡ value_in line
+value_in-clip line = ⊎_elim long short (cases_lt line_limit (length line))
   where
-    long : line_limit < length line → command_of (clip line) ≡ command_of line
+    long : line_limit < length line → value_in (clip line) ≡ value_in line
     long is =
         let kept : line_limit < length (clip line) = omega (arith, length-clip line) in
-        command_of-long (clip line) (sym (lt-ltb line_limit (length (clip line)) kept)) ∙ sym (command_of-long line (sym (lt-ltb line_limit (length line) is)))
+        value_in-long (clip line) (sym (lt-ltb line_limit (length (clip line)) kept)) ∙ sym (value_in-long line (sym (lt-ltb line_limit (length line) is)))
 
-    short : length line ≤ line_limit → command_of (clip line) ≡ command_of line
-    short is = ap command_of (take_all (line_limit + 1) line (omega arith))
+    short : length line ≤ line_limit → value_in (clip line) ≡ value_in line
+    short is = ap value_in (take_all (line_limit + 1) line (omega arith))
+
+pub command_of-clip : (line : List ℕ) → command_of (clip line) ≡ command_of line
+unfolding command_of
+command_of-clip line = ap of_value (value_in-clip line)
 
 HasNoNewline-append : (front back : List ℕ) → HasNoNewline front → HasNoNewline back → HasNoNewline (front ++ back)
 HasNoNewline-append [] back clear behind = behind

@@ -3,6 +3,8 @@ use Rattle.std.specs.Prelude.{ℕ, List, Bool, false, ◌||◌, ◌==◌, nat_lt
 use Rattle.std.specs.List.{list_all}
 use Rattle.std.specs.Str.{is_utf8}
 use Rattle.serde_json.specs.Data.{Data}
+use Rattle.serde_json.specs.declared.value.Value.{Value}
+use Rattle.serde_json.specs.View.{view}
 use Rattle.serde_json.specs.Read.{read}
 use Rattle.serde_json.specs.Find.{as_bool}
 use Rattle.fx_model.specs.declared.packet.Packet.{Packet}
@@ -34,43 +36,74 @@ is_true d = holds (as_bool d)
     holds None = false
     holds (Some b) = b
 
+-- ---- the value of a line
+
+-- what code holds of it, as data
+abbrev pub viewed : Result (Option Value) Refusal → Result (Option Data) Refusal
+viewed (Ok None) = Ok None
+viewed (Ok (Some v)) = Ok (Some (view v))
+viewed (Err r) = Err r
+
+-- an object with one member
+abbrev pub one_member : Option Data → Result (Option Data) Refusal
+one_member None = Err BadJson
+one_member (Some d) = if has_members 1 d then Ok (Some d) else Err BadLine
+
+abbrev pub short_value : List ℕ → Result (Option Data) Refusal
+short_value line = if list_all is_blank_byte line then Ok None else one_member (value_of line)
+
+-- the value of a line, none where it is blank, or its refusal
+unfoldable pub value_in : List ℕ → Result (Option Data) Refusal
+value_in line = if nat_lt line_limit (length line) then Err LineTooLong else short_value line
+
+-- ---- its one member
+
 -- the answer, where the member's value has its shape
-abbrev pub shaped : Bool → Result Command Refusal → Result Command Refusal
+abbrev pub shaped : {A : Type 0} → Bool → Result A Refusal → Result A Refusal
 shaped right answer = if right then answer else Err BadLine
 
 -- the answer to a member, or to the others where it is absent
-abbrev pub at_member : Option Data → (Data → Result Command Refusal) → Result Command Refusal → Result Command Refusal
+abbrev pub at_member : {A : Type 0} → Option Data → (Data → Result A Refusal) → Result A Refusal → Result A Refusal
 at_member None answer others = others
 at_member (Some d) answer others = answer d
 
--- the update of a resource, or the first fault of the resource
-abbrev pub update_answer : Result Update ReadFault → Result Command Refusal
-update_answer (Ok u) = Ok (command.Update u)
-update_answer (Err fault) = Err (Read fault)
+-- what is read of a resource or a packet, or its first fault
+abbrev pub read_answer : {A B : Type 0} → (A → B) → Result A ReadFault → Result B Refusal
+read_answer make (Ok x) = Ok (make x)
+read_answer make (Err fault) = Err (Read fault)
 
-abbrev pub packet_answer : Result Packet ReadFault → Result Command Refusal
-packet_answer (Ok p) = Ok (command.Packet p)
-packet_answer (Err fault) = Err (Read fault)
+-- the update that a member asks for, none where it isn't one for updates
+unfoldable pub update_in : Data → Result (Option Update) Refusal
+update_in d =
+    at_member (field (codes "put") d) (λ v. shaped (is_object v) (read_answer Some (put_of v)))
+    (at_member (field (codes "delete") d) (λ v. shaped (is_object v) (read_answer Some (delete_of v)))
+    (at_member (field (codes "inSync") d) (λ v. shaped (is_true v) (Ok (Some update.InSync)))
+    (Ok None)))
+
+-- what the other members ask for
+unfoldable pub request_in : Data → Result Command Refusal
+request_in d =
+    at_member (field (codes "flush") d) (λ v. shaped (has_members 0 v) (Ok command.Flush))
+    (at_member (field (codes "packet") d) (λ v. shaped (is_object v) (read_answer command.Packet (packet_of v)))
+    (at_member (field (codes "tables") d) (λ v. shaped (is_true v) (Ok command.Tables))
+    (Err BadLine)))
+
+abbrev pub update_or : Result Command Refusal → Result (Option Update) Refusal → Result Command Refusal
+update_or others (Ok None) = others
+update_or others (Ok (Some u)) = Ok (command.Update u)
+update_or others (Err r) = Err r
 
 -- by the name of the one member
-unfoldable pub by_name : Data → Result Command Refusal
-by_name d =
-    at_member (field (codes "put") d) (λ v. shaped (is_object v) (update_answer (put_of v)))
-    (at_member (field (codes "delete") d) (λ v. shaped (is_object v) (update_answer (delete_of v)))
-    (at_member (field (codes "inSync") d) (λ v. shaped (is_true v) (Ok (command.Update update.InSync)))
-    (at_member (field (codes "flush") d) (λ v. shaped (has_members 0 v) (Ok command.Flush))
-    (at_member (field (codes "packet") d) (λ v. shaped (is_object v) (packet_answer (packet_of v)))
-    (at_member (field (codes "tables") d) (λ v. shaped (is_true v) (Ok command.Tables))
-    (Err BadLine))))))
+abbrev pub by_name : Data → Result Command Refusal
+by_name d = update_or (request_in d) (update_in d)
 
-abbrev pub of_value : Option Data → Result Command Refusal
-of_value None = Err BadJson
-of_value (Some d) = shaped (has_members 1 d) (by_name d)
+-- ---- the command of a line
 
--- the command of a line that isn't too long, or its refusal
-abbrev pub short_command : List ℕ → Result Command Refusal
-short_command line = if list_all is_blank_byte line then Ok command.Blank else of_value (value_of line)
+abbrev pub of_value : Result (Option Data) Refusal → Result Command Refusal
+of_value (Ok None) = Ok command.Blank
+of_value (Ok (Some d)) = by_name d
+of_value (Err r) = Err r
 
 -- the command of a line, or its refusal
 unfoldable pub command_of : List ℕ → Result Command Refusal
-command_of line = if nat_lt line_limit (length line) then Err LineTooLong else short_command line
+command_of line = of_value (value_in line)

@@ -1,5 +1,5 @@
 //! What a line says.
-ghost use Rattle.std.specs.Prelude.{◌≡◌, IfOk, Some, Ok, true};
+ghost use Rattle.std.specs.Prelude.{◌≡◌, IfOk, IfSome, Some, Ok};
 ghost use Rattle.std.specs.List.{list_all};
 ghost use Rattle.serde_json.specs.View.{view};
 ghost use Rattle.fx_fields.specs.Fields.{is_object};
@@ -7,8 +7,8 @@ ghost use Rattle.fx_json.specs.Packets.{packet_of};
 ghost use Rattle.fx_fields.specs.Refusals.{Refuses};
 ghost use Rattle.fx_json.specs.Resources.{delete_of};
 ghost use Rattle.fx_k8s.specs.Puts.{put_of};
-ghost use Rattle.fx_lines.specs.Commands.{is_blank_byte, is_true, by_name, command_of, shaped, of_value, update_answer, packet_answer};
-ghost use Rattle.fx_lines.specs.Formed.{IsReadCommand};
+ghost use Rattle.fx_lines.specs.Commands.{is_blank_byte, viewed, one_member, value_in, is_true, shaped, read_answer, update_in, request_in, by_name, command_of};
+ghost use Rattle.fx_lines.specs.Formed.{IsReadUpdate, IsReadCommand};
 
 use crate::lines::is_too_long;
 use fx_fields::{ReadFault, Refusal, field, has_members};
@@ -33,14 +33,33 @@ pub fn read_command(alloc: Global, line: &[u8]) -> Result<Command, Refusal>
     ensures answer { Refuses (command_of line.now) result }
     ensures read { IfOk result IsReadCommand }
 {
+    command_of(alloc, line)
+}
+
+fn command_of(alloc: Global, line: &[u8]) -> Result<Command, Refusal>
+    ensures { Refuses (command_of line.now) result }
+{
+    match read_line(alloc, line)? {
+        Some(value) => command_in(alloc, &value),
+        None => Ok(Command::Blank),
+    }
+}
+
+// ---- the value of a line
+
+/// The value of a line, which is an object with one member, or none where the line is blank. What the member asks for
+/// isn't read.
+pub fn read_line(alloc: Global, line: &[u8]) -> Result<Option<Value>, Refusal>
+    ensures { Refuses (value_in line.now) (viewed result) }
+{
     if is_too_long(line) {
         return Err(Refusal::LineTooLong);
     }
     if is_blank(line) {
-        return Ok(Command::Blank);
+        return Ok(None);
     }
     match Value::from_slice(alloc, line) {
-        Ok(value) => command_in(alloc, &value),
+        Ok(value) => one_member(value),
         Err(e) => {
             if e.is_memory() {
                 return Err(Refusal::Read(ReadFault::Memory));
@@ -50,30 +69,84 @@ pub fn read_command(alloc: Global, line: &[u8]) -> Result<Command, Refusal>
     }
 }
 
-// The command of a value.
-fn command_in(alloc: Global, value: &Value) -> Result<Command, Refusal>
-    ensures { Refuses (of_value (Some (view value.now))) result }
+fn one_member(value: Value) -> Result<Option<Value>, Refusal>
+    ensures { viewed result ≡ one_member (Some (view value)) }
 {
-    if has_members(value, 1) {
-        command_by_name(alloc, value)
+    if has_members(&value, 1) {
+        Ok(Some(value))
     } else {
         Err(Refusal::BadLine)
     }
 }
 
-#[tactic(auto, unfolding(crate::specs::Commands::by_name))]
-fn command_by_name(alloc: Global, value: &Value) -> Result<Command, Refusal>
-    ensures { Refuses (by_name (view value.now)) result }
+// ---- its one member
+
+/// The update that a member asks for. A member that isn't one for updates is left to the caller.
+pub fn update_command(alloc: Global, value: &Value) -> Result<Option<Update>, Refusal>
+    ensures answer { Refuses (update_in (view value.now)) result }
+    ensures read { IfOk result (λ found. IfSome found IsReadUpdate) }
+{
+    update_by_name(alloc, value)
+}
+
+#[tactic(auto, unfolding(crate::specs::Commands::update_in))]
+fn update_by_name(alloc: Global, value: &Value) -> Result<Option<Update>, Refusal>
+    ensures { Refuses (update_in (view value.now)) result }
 {
     if let Some(resource) = field(value, "put") {
-        return put_command(alloc, resource);
+        return put_update(alloc, resource);
     }
     if let Some(resource) = field(value, "delete") {
-        return delete_command(alloc, resource);
+        return delete_update(alloc, resource);
     }
     if let Some(mark) = field(value, "inSync") {
-        return shaped(is_true(mark), Command::Update(Update::InSync));
+        return in_sync(mark);
     }
+    Ok(None)
+}
+
+fn put_update(alloc: Global, resource: &Value) -> Result<Option<Update>, Refusal>
+    ensures { Refuses (shaped (is_object (view resource.now)) (read_answer Some (put_of (view resource.now)))) result }
+{
+    if !resource.is_object() {
+        return Err(Refusal::BadLine);
+    }
+    Ok(Some(read_put(alloc, resource)?))
+}
+
+fn delete_update(alloc: Global, resource: &Value) -> Result<Option<Update>, Refusal>
+    ensures { Refuses (shaped (is_object (view resource.now)) (read_answer Some (delete_of (view resource.now)))) result }
+{
+    if !resource.is_object() {
+        return Err(Refusal::BadLine);
+    }
+    Ok(Some(read_delete(alloc, resource)?))
+}
+
+fn in_sync(mark: &Value) -> Result<Option<Update>, Refusal>
+    ensures { result ≡ shaped (is_true (view mark.now)) (Ok (Some Update.InSync)) }
+{
+    if is_true(mark) {
+        Ok(Some(Update::InSync))
+    } else {
+        Err(Refusal::BadLine)
+    }
+}
+
+// The command of an object with one member.
+fn command_in(alloc: Global, value: &Value) -> Result<Command, Refusal>
+    ensures { Refuses (by_name (view value.now)) result }
+{
+    match update_command(alloc, value)? {
+        Some(update) => Ok(Command::Update(update)),
+        None => request_in(alloc, value),
+    }
+}
+
+#[tactic(auto, unfolding(crate::specs::Commands::request_in))]
+fn request_in(alloc: Global, value: &Value) -> Result<Command, Refusal>
+    ensures { Refuses (request_in (view value.now)) result }
+{
     if let Some(limits) = field(value, "flush") {
         return shaped(has_members(limits, 0), Command::Flush);
     }
@@ -86,26 +159,8 @@ fn command_by_name(alloc: Global, value: &Value) -> Result<Command, Refusal>
     Err(Refusal::BadLine)
 }
 
-fn put_command(alloc: Global, resource: &Value) -> Result<Command, Refusal>
-    ensures { Refuses (shaped (is_object (view resource.now)) (update_answer (put_of (view resource.now)))) result }
-{
-    if !resource.is_object() {
-        return Err(Refusal::BadLine);
-    }
-    Ok(Command::Update(read_put(alloc, resource)?))
-}
-
-fn delete_command(alloc: Global, resource: &Value) -> Result<Command, Refusal>
-    ensures { Refuses (shaped (is_object (view resource.now)) (update_answer (delete_of (view resource.now)))) result }
-{
-    if !resource.is_object() {
-        return Err(Refusal::BadLine);
-    }
-    Ok(Command::Update(read_delete(alloc, resource)?))
-}
-
 fn packet_command(alloc: Global, packet: &Value) -> Result<Command, Refusal>
-    ensures { Refuses (shaped (is_object (view packet.now)) (packet_answer (packet_of (view packet.now)))) result }
+    ensures { Refuses (shaped (is_object (view packet.now)) (read_answer Command.Packet (packet_of (view packet.now)))) result }
 {
     if !packet.is_object() {
         return Err(Refusal::BadLine);

@@ -1,7 +1,7 @@
 //! Cuts a source into lines, and reads what each line says.
 #![tactic(auto)]
 
-pub use commands::{Command, read_command};
+pub use commands::{Command, read_command, read_line, update_command};
 pub use lines::{LineFault, LineReader};
 
 mod commands;

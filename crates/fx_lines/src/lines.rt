@@ -8,6 +8,7 @@ ghost use Rattle.fx_lines.specs.declared.lines.LineFault.TheVariants as fault;
 
 use fx_base::Source;
 use std::alloc::{AllocError, Global};
+use thiserror::Error;
 
 /// How many bytes one read asks for at most.
 const PIECE: usize = 8192;
@@ -19,10 +20,13 @@ const LIMIT: u64 = 1 << 32;
 const LINE_LIMIT: usize = 1 << 22;
 
 /// Why no line is given.
-#[derive(Clone, Copy, Debug, PartialEq, Eq)]
+#[derive(Clone, Copy, Debug, PartialEq, Eq, Error)]
 pub enum LineFault {
+    #[error("a read failed")]
     ReadFault,
+    #[error("the input is too long")]
     InputTooLong,
+    #[error("no memory is left")]
     Memory,
 }
 
@@ -88,6 +92,10 @@ impl LineReader {
         ensures stopped { OnErr result ((piece : List ℕ) × Gives (S.state source.old) (S.state source.new) piece) }
         ensures given { OnOk result ((S.state source.new).given ≡ self.new.taken) }
         ensures ended { OnOk result ((S.state source.new).ended ≡ self.new.ended) }
+
+        // A fault leaves it known how much was taken, and whether the end was met.
+        ensures known { OnErr result (((S.state source.new).given ≡ self.new.taken)
+            × ((S.state source.new).ended ≡ self.new.ended)) }
 
         // Behind the end nothing more is taken.
         ensures quiet { self.old.ended ≡ true → ((S.state source.new).given ≡ (S.state source.old).given)
@@ -163,7 +171,7 @@ impl LineReader {
             × (self.new.ended ≡ (length piece == 0))) }
         ensures stopped { OnErr result ((piece : List ℕ) × Gives (S.state source.old) (S.state source.new) piece) }
         ensures given { (S.state source.new).given ≡ self.new.taken }
-        ensures ended { OnOk result ((S.state source.new).ended ≡ self.new.ended) }
+        ensures ended { (S.state source.new).ended ≡ self.new.ended }
         ensures later { (S.state source.old).faults ≤ (S.state source.new).faults }
         ensures read_fault { IsErrOf result LineFault.ReadFault → HasFailedRead (S.state source.old) (S.state source.new) }
         ensures not_too_long { IsErrOf result LineFault.InputTooLong → ⊥ }
@@ -264,6 +272,28 @@ mod tests {
                 assert_eq!(rt; found.as_slice(), want, "{input:?} by {piece}");
             }
         }
+        Ok(())
+    }
+
+    // The next line, by one more call where a read fails.
+    fn past_a_fault<S: Source>(reader: &mut LineReader, source: &mut S) -> Result<bool, LineFault>
+        requires given { (S.state source.old).given ≡ reader.old.taken }
+        requires ended { (S.state source.old).ended ≡ reader.old.ended }
+    {
+        match reader.advance(source) {
+            Err(LineFault::ReadFault) => reader.advance(source),
+            answer => answer,
+        }
+    }
+
+    #[test]
+    fn a_reader_goes_on_behind_a_fault(rt: HostRuntime) -> Result<(), Fail> {
+        let alloc = rt.alloc();
+        let mut source = MemSource::new(b"ab\nc".to_vec(alloc)?, 2, vec![in alloc; 2]?);
+        let mut reader = LineReader::new(alloc);
+        assert_eq!(rt; past_a_fault(&mut reader, &mut source), Ok(true));
+        assert_eq!(rt; reader.line(), b"ab".as_slice());
+        assert_eq!(rt; reader.taken, 4);
         Ok(())
     }
 

@@ -12,11 +12,17 @@ fn answered(answer: &Result<Command, Refusal>) -> &'static str {
         Ok(Command::Flush) => "flush",
         Ok(Command::Packet(_)) => "a packet",
         Ok(Command::Update(update)) => answered_update(update),
-        Err(Refusal::LineTooLong) => "line too long",
-        Err(Refusal::BadJson) => "bad json",
-        Err(Refusal::BadLine) => "bad line",
-        Err(Refusal::Taken { .. }) => "taken",
-        Err(Refusal::Read(fault)) => answered_fault(fault),
+        Err(refusal) => answered_refusal(refusal),
+    }
+}
+
+fn answered_refusal(refusal: &Refusal) -> &'static str {
+    match refusal {
+        Refusal::LineTooLong => "line too long",
+        Refusal::BadJson => "bad json",
+        Refusal::BadLine => "bad line",
+        Refusal::Taken { .. } => "taken",
+        Refusal::Read(fault) => answered_fault(fault),
     }
 }
 
@@ -101,6 +107,45 @@ fn each_line_has_its_answer(rt: HostRuntime) -> Result<(), Fail> {
         let (line, want) = row.split_once(" => ").unwrap_or((row, ""));
         let answer = read_command(rt.alloc(), line.as_bytes());
         assert_eq!(rt; answered(&answer), want, "{line}");
+    }
+    Ok(())
+}
+
+// Lines of which updates alone are read.
+const UPDATES: &str = r#"{"inSync":true} => in sync
+{"inSync":1} => bad line
+{"put":[]} => bad line
+{"put":{}} => unknown kind
+{"delete":{"apiVersion":"projectcalico.org/v3","kind":"Profile","metadata":{"name":"p"}}} => no profile
+{"flush":true} => no update
+{"packet":""} => no update
+{"tables":false} => no update
+{"found":[]} => no update
+{"inSync":true,"flush":{}} => bad line
+{"inSync":true} {} => bad json
+ => blank"#;
+
+fn update_told(answer: &Result<Option<Update>, Refusal>) -> &'static str {
+    match answer {
+        Ok(Some(update)) => answered_update(update),
+        Ok(None) => "no update",
+        Err(refusal) => answered_refusal(refusal),
+    }
+}
+
+fn update_of(alloc: Global, line: &[u8]) -> &'static str {
+    match &read_line(alloc, line) {
+        Ok(Some(value)) => update_told(&update_command(alloc, value)),
+        Ok(None) => "blank",
+        Err(refusal) => answered_refusal(refusal),
+    }
+}
+
+#[test]
+fn members_of_other_programs_are_not_read(rt: HostRuntime) -> Result<(), Fail> {
+    for row in UPDATES.lines() {
+        let (line, want) = row.split_once(" => ").unwrap_or((row, ""));
+        assert_eq!(rt; update_of(rt.alloc(), line.as_bytes()), want, "{line}");
     }
     Ok(())
 }

@@ -65,3 +65,6 @@ returns-in_err-fill-clause-stopped g c =
     let seen = c.loop-self.invariant.seen in
     let stop = c.in_err-fill.ensures.stopped in
     OnErr-always c.from_residual.result (seen.0 ++ stop.0, Gives-more _ _ _ seen.0 stop.0 seen.2 stop.1)
+
+pub returns-in_err-fill-clause-known : goal.returns-in_err-fill-clause-known
+returns-in_err-fill-clause-known g c = OnErr-always c.from_residual.result (c.in_err-fill.ensures.given, c.in_err-fill.ensures.ended)
