@@ -6,9 +6,8 @@ use Rattle.std.specs.Str.{IsUtf8, is_utf8}
 use Rattle.std.proofs.lemmas.Str.{IsUtf8-from_is_utf8, is_utf8-from_IsUtf8}
 use Rattle.serde_json.specs.Data.{Data}
 use Rattle.serde_json.specs.Read.{read}
-use Rattle.fx_model.specs.declared.resources.Update.{Update}
 use Rattle.fx_lines.specs.Lines.{line_limit}
-use Rattle.fx_lines.specs.Commands.{is_blank_byte, value_of, one_member, short_value, value_in, update_or, of_value, command_of}
+use Rattle.fx_lines.specs.Commands.{is_blank_byte, value_of, one_member, short_value, value_in, of_value, command_of}
 use Rattle.fx_lines.specs.declared.commands.Command.{Command}
 use Rattle.fx_fields.specs.declared.fault.ReadFault.TheVariants.{Memory}
 use Rattle.fx_fields.specs.declared.refusal.Refusal.{Refusal}
@@ -48,7 +47,7 @@ module _ (line : List ℕ) (short : false ≡ nat_lt line_limit (length line)) w
 
 -- ---- the command of a line, by its value
 
-command_of-at : (line : List ℕ) (value : Result (Option Data) Refusal) → value_in line ≡ value → command_of line ≡ of_value value
+pub command_of-at : (line : List ℕ) (value : Result (Option Data) Refusal) → value_in line ≡ value → command_of line ≡ of_value value
 unfolding command_of
 command_of-at line value is = ap of_value is
 
@@ -60,15 +59,6 @@ command_of-refused line told (inr is) = inr (command_of-at line (Err told) is)
 pub command_of-answered : (line : List ℕ) (value : Option Data) (told : Result Command Refusal) → value_in line ≡ Ok value → Refuses (of_value (Ok value)) told → Refuses (command_of line) told
 command_of-answered line value told is answered =
     let P : Result Command Refusal → Type 0 = λ r. Refuses r told in subst P (sym (command_of-at line (Ok value) is)) answered
-
--- what an update's member answers is the answer, and where there is none, that of the others
-pub update_or-refused : (others : Result Command Refusal) (answer : Result (Option Update) Refusal) (told : Refusal) → (told ≡ Read Memory) ⊎ (answer ≡ Err told) → Refuses (update_or others answer) (Err told)
-update_or-refused others answer told (inl memory) = inl memory
-update_or-refused others answer told (inr is) = inr (ap (update_or others) is)
-
-pub update_or-answered : (others : Result Command Refusal) (answer : Result (Option Update) Refusal) (found : Option Update) (told : Result Command Refusal) → answer ≡ Ok found → Refuses (update_or others (Ok found)) told → Refuses (update_or others answer) told
-update_or-answered others answer found told is answered =
-    let P : Result (Option Update) Refusal → Type 0 = λ r. Refuses (update_or others r) told in subst P (sym is) answered
 
 -- what is computed alike is answered
 pub refuses-same : {A : Type 0} (answer told : Result A Refusal) → answer ≡ told → Refuses answer told

@@ -164,6 +164,7 @@ impl LineReader {
     // and what it has more than a line that is too long goes.
     fn fill<S: Source>(&mut self, source: &mut S) -> Result<(), LineFault>
         requires given { (S.state source.old).given ≡ self.old.taken }
+        requires ended { (S.state source.old).ended ≡ self.old.ended }
         requires unended { (S.state source.old).ended ≡ false }
         requires below { self.old.taken < 2 ^ 32 }
         ensures ok { OnOk result ((piece : List ℕ) × (rest_of self.new ≡ clip (rest_of self.old) ++ piece)
