@@ -41,11 +41,7 @@ fn push_policy_jumps(
 }
 
 // The end of a tier, which drops what none of its policies has passed, unless the tier passes at its end.
-fn push_tier_end(
-    alloc: Global,
-    tier: &ViewTier,
-    chain: &mut Seq<ChainRule>,
-) -> Result<(), Memory>
+fn push_tier_end(alloc: Global, tier: &ViewTier, chain: &mut Seq<ChainRule>) -> Result<(), Memory>
     ensures { OnOk result (chain.new ≡ chain.old ++ tier_end tier.now) }
 {
     if tier.pass_at_end {

@@ -90,11 +90,7 @@ impl Nodes {
     }
 
     /// Puts a tier.
-    pub fn order_tier<R: DigestRule>(
-        &mut self,
-        name: &Text,
-        tier: &Tier,
-    ) -> Result<(), Memory>
+    pub fn order_tier<R: DigestRule>(&mut self, name: &Text, tier: &Tier) -> Result<(), Memory>
         requires { IsSettled R.digest_of None self.old }
         ensures taken { OnOk result (taken_of self.new ≡ with_tier name.now tier.now (taken_of self.old)) }
         ensures beside { OnOk result (IsBeside self.old self.new) }

@@ -79,8 +79,8 @@ pub low_peer : (ns : List ℕ) (p : PodPeer) → height (peer_tree ns p) ≤ 139
 low_peer ns p =
     let parts = given_trees p.pods ++ orchestrated ∷ namespace_trees ns p.namespaces in
     let low : All IsLowPart parts =
-        All-append IsLowPart (given_trees p.pods) (orchestrated ∷ namespace_trees ns p.namespaces) (low_given p.pods)
-        (All-cons IsLowPart orchestrated (namespace_trees ns p.namespaces) (omega arith) (low_namespaces ns p.namespaces)) in
+    All-append IsLowPart (given_trees p.pods) (orchestrated ∷ namespace_trees ns p.namespaces) (low_given p.pods)
+    (All-cons IsLowPart orchestrated (namespace_trees ns p.namespaces) (omega arith) (low_namespaces ns p.namespaces)) in
     omega (arith, height-and parts, heights-low parts low)
 
 -- ---- what is weaker

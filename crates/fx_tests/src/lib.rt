@@ -7,8 +7,8 @@ mod json;
 mod kube;
 #[cfg(test)]
 mod model;
+mod model_parts;
 #[cfg(test)]
 mod needs;
-mod model_parts;
 #[cfg(test)]
 mod selector;

@@ -351,7 +351,8 @@ fn endpoints(rt: HostRuntime) -> Result<(), Fail> {
     let alloc = rt.alloc();
     let iface = &text(alloc, b"cali1")?;
     let endpoint = &endpoint(alloc)?;
-    let expected = b"endpoint cali1 a/w1 in t1(gnp/a,gnp/b);aa/pass(gnp/d) out - profiles open,shut\n";
+    let expected =
+        b"endpoint cali1 a/w1 in t1(gnp/a,gnp/b);aa/pass(gnp/d) out - profiles open,shut\n";
     message_reads(
         &rt,
         alloc,

@@ -60,10 +60,22 @@ fn tiers_pass_at_their_ends(rt: HostRuntime) -> Result<(), Fail> {
         (Step::Pair(0), "cali1 |;", 1),
         (Step::On(0, "s", None), "cali1 s(0)|s(0);", 2),
         (Step::PassingTier("t", None), "cali1 s(0)|s(0);", 2),
-        (Step::PassingTier("s", None), "cali1 s/pass(0)|s/pass(0);", 3),
-        (Step::PassingTier("s", Some(7)), "cali1 s/pass(0)|s/pass(0);", 3),
+        (
+            Step::PassingTier("s", None),
+            "cali1 s/pass(0)|s/pass(0);",
+            3,
+        ),
+        (
+            Step::PassingTier("s", Some(7)),
+            "cali1 s/pass(0)|s/pass(0);",
+            3,
+        ),
         (Step::Tier("s", Some(7)), "cali1 s(0)|s(0);", 4),
-        (Step::PassingTier("s", Some(7)), "cali1 s/pass(0)|s/pass(0);", 5),
+        (
+            Step::PassingTier("s", Some(7)),
+            "cali1 s/pass(0)|s/pass(0);",
+            5,
+        ),
         (Step::NoTier("s"), "cali1 s(0)|s(0);", 6),
     ];
     run(&rt, Bench::new(rt.alloc())?, &table)?;

@@ -144,12 +144,7 @@ impl Bench {
         }
     }
 
-    fn with_tier(
-        self,
-        name: &str,
-        order: Option<i64>,
-        pass_at_end: bool,
-    ) -> Result<Bench, Memory> {
+    fn with_tier(self, name: &str, order: Option<i64>, pass_at_end: bool) -> Result<Bench, Memory> {
         let Bench {
             alloc,
             item,
