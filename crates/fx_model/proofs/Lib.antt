@@ -10,3 +10,4 @@ pub mod KnownTrees
 pub mod HostChains
 pub mod TestBounds
 pub mod KnownBatches
+pub mod TestExamples
