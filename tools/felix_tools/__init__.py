@@ -1,0 +1,1 @@
+"""What the programs of tools/ share: readers and writers around the proved program, which decide nothing themselves."""

@@ -1,0 +1,39 @@
+"""tools/lines: resources as lines for felix-replay."""
+import argparse
+import sys
+
+from felix_tools.conversion import convert, input_of
+from felix_tools.options import PlainHelp
+from felix_tools.reading import STANDARD_INPUT, InputError, read_changes
+
+DESCRIPTION = """\
+Writes what kubectl and calicoctl print as lines for felix-replay, with the mark and a flush at the end.
+
+  kubectl get pods,namespaces,serviceaccounts,networkpolicies -A -o json > cluster.json
+  calicoctl get globalnetworkpolicies -o json > global.json
+  tools/lines cluster.json global.json > lines.jsonl
+
+A file holds JSON: lists, single resources, several of them, or lines that were made before. YAML isn't read.
+Pods become workload endpoints, as Calico makes them. What is left out is told on standard error, kind by kind.
+Whether a resource is accepted the program says, and not this tool.
+
+Status: 0 done, 2 some file or word can't be read."""
+
+
+def main(words):
+    parser = argparse.ArgumentParser(prog="tools/lines", description=DESCRIPTION, formatter_class=PlainHelp)
+    parser.add_argument("files", nargs="*", metavar="FILE", default=[STANDARD_INPUT], help="JSON; `-` or none is standard input")
+    options = parser.parse_args(words)
+    try:
+        conversion = convert(read_changes(options.files or [STANDARD_INPUT]))
+    except InputError as fault:
+        print("tools/lines: %s" % fault, file=sys.stderr)
+        return 2
+    tell_left_out(conversion.left_out, "tools/lines")
+    sys.stdout.write(input_of(conversion.lines))
+    return 0
+
+
+def tell_left_out(left_out, tool):
+    for text in left_out.texts(True) + left_out.texts(False):
+        print("%s: left out %s" % (tool, text), file=sys.stderr)

@@ -1,0 +1,107 @@
+"""The words that tools/ask and tools/diff share."""
+import argparse
+
+from felix_tools.cluster import is_address
+from felix_tools.questions import (
+    PORT_PROTOCOLS, SOURCE_PORT, QuestionError, Wish, icmp_traffic, is_number, other_traffic, port_traffic, read_list,
+)
+from felix_tools.reading import read_text
+
+UPLINK = "eth0"
+
+
+def add_questions(parser):
+    group = parser.add_argument_group("questions")
+    group.add_argument("--from", dest="senders", action="append", metavar="END", default=[],
+                       help="the sender: NAMESPACE/POD, a pattern such as 'shop/*', or an address; may be given again")
+    group.add_argument("--to", dest="receivers", action="append", metavar="END", default=[],
+                       help="the receiver, named in the same way")
+    group.add_argument("--from-address", type=address, metavar="ADDRESS",
+                       help="the packet's source address, in the place of the sender's own; alone it names the sender")
+    group.add_argument("--to-address", type=address, metavar="ADDRESS",
+                       help="the packet's destination address, in the place of the receiver's own; alone it names the receiver")
+    for protocol in PORT_PROTOCOLS:
+        group.add_argument("--" + protocol.lower(), dest=protocol, type=port, action="append", metavar="PORT", default=[],
+                           help="%s to this port; may be given again" % protocol)
+    group.add_argument("--icmp", action="store_true", help="an ICMP echo request")
+    group.add_argument("--icmp-type", type=icmp, metavar="TYPE[/CODE]", help="ICMP of this type (and code)")
+    group.add_argument("--protocol", type=protocol_number, metavar="NUMBER", help="another protocol by its number")
+    group.add_argument("--source-port", type=port, metavar="PORT", default=SOURCE_PORT, help="the sender's port (%(default)s)")
+    group.add_argument("--list", dest="lists", action="append", metavar="LIST", default=[],
+                       help="a file with a question in each line, as `shop/web shop/db tcp 5432`")
+
+
+def add_program(parser):
+    group = parser.add_argument_group("the program")
+    group.add_argument("--program", metavar="PATH", help="the proved program (else $FELIX_REPLAY, else this repository's own)")
+    group.add_argument("--uplink", type=uplink, metavar="INTERFACE", default=UPLINK,
+                       help="the interface by which nodes reach each other (%(default)s)")
+
+
+def wishes(options, all_pods=False):
+    """The questions that the words ask, with names as they were given. Ends that aren't named are none, or all pods."""
+    unnamed = ["*"] if all_pods else []
+    senders = options.senders or ([options.from_address] if options.from_address else unnamed)
+    receivers = options.receivers or ([options.to_address] if options.to_address else unnamed)
+    asked = [Wish(sender, receiver, traffic, options.from_address, options.to_address)
+             for traffic in traffics(options) for sender in senders for receiver in receivers]
+    for path in options.lists:
+        asked += read_list(read_text(path), path)
+    return asked
+
+
+def check_questions(options):
+    """That the words ask something."""
+    if options.lists and not (options.senders or options.receivers):
+        return
+    if not traffics(options):
+        raise QuestionError("no traffic is named: --tcp, --udp or --sctp with a port, --icmp or --protocol")
+
+
+def traffics(options):
+    asked = [port_traffic(protocol, number, options.source_port) for protocol in PORT_PROTOCOLS for number in getattr(options, protocol)]
+    if options.icmp:
+        asked.append(icmp_traffic())
+    if options.icmp_type:
+        asked.append(icmp_traffic(*options.icmp_type))
+    if options.protocol:
+        asked.append(other_traffic(options.protocol))
+    return asked
+
+
+def number_up_to(text, most, what):
+    if not is_number(text, most):
+        raise argparse.ArgumentTypeError("%s isn't %s from 0 to %d" % (text, what, most))
+    return int(text)
+
+
+def port(text):
+    return number_up_to(text, 65535, "a port")
+
+
+def icmp(text):
+    kind, slash, code = text.partition("/")
+    return number_up_to(kind, 255, "a type"), number_up_to(code, 255, "a code") if slash else 0
+
+
+def protocol_number(text):
+    return number_up_to(text, 255, "a protocol") or None
+
+
+def address(text):
+    if not is_address(text):
+        raise argparse.ArgumentTypeError("%s isn't an address of IPv4" % text)
+    return text
+
+
+def uplink(text):
+    if text.startswith("cali"):
+        raise argparse.ArgumentTypeError("%s is an interface of a pod" % text)
+    return text
+
+
+class PlainHelp(argparse.RawDescriptionHelpFormatter):
+    """Help that keeps the lines of a description, within 100 columns."""
+
+    def __init__(self, prog):
+        super().__init__(prog, max_help_position=30, width=110)

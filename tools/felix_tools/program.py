@@ -1,0 +1,45 @@
+"""Finds the proved program, and runs it."""
+import os
+import subprocess
+import sys
+
+TOP = os.path.dirname(os.path.dirname(os.path.dirname(os.path.abspath(__file__))))
+BUILT = os.path.join(TOP, "crates", "felix_main", "out", "felix_main")
+LAUNCHER = os.path.join(TOP, "felix-replay")
+VARIABLE = "FELIX_REPLAY"
+ENDINGS = {
+    2: "it didn't take the words that it was given; is a node's name an odd one?",
+    3: "a read failed",
+    4: "a write failed",
+    5: "memory ran out",
+    6: "the input has 4 GiB or more",
+    70: "it isn't built, since some proof failed or `rt` isn't there",
+}
+WAIT_WORD = ("The proved program isn't built yet. ./felix-replay proves and builds it now, which takes most of an hour on four "
+             "processors; another one is asked by --program PATH or %s=PATH." % VARIABLE)
+
+
+class ProgramError(Exception):
+    """The program couldn't be run to its end; the text says why."""
+
+
+def find(path=None):
+    """The program's path: the one that is given, the environment's, the built one, or its launcher."""
+    given = path or os.environ.get(VARIABLE)
+    if given:
+        return given
+    if os.access(BUILT, os.X_OK):
+        return BUILT
+    print(WAIT_WORD, file=sys.stderr)
+    return LAUNCHER
+
+
+def run(path, node, text):
+    """What the program at this path answers for a node to an input."""
+    try:
+        done = subprocess.run([path, "--node", node], input=text.encode("utf-8"), stdout=subprocess.PIPE)
+    except OSError as fault:
+        raise ProgramError("%s: %s" % (path, fault.strerror))
+    if done.returncode not in (0, 1):
+        raise ProgramError("%s ended with %d: %s" % (path, done.returncode, ENDINGS.get(done.returncode, "no status of its own")))
+    return done.stdout.decode("utf-8")

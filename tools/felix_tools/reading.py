@@ -1,0 +1,106 @@
+"""Reads what `kubectl get -o json` and `calicoctl get -o json` print, and lines that were made of it."""
+import collections
+import json
+import sys
+
+STANDARD_INPUT = "-"
+LINE_MEMBERS = ("put", "delete", "inSync", "flush", "tables", "packet")
+
+# A resource to put or to delete, and the file that it stands in.
+Change = collections.namedtuple("Change", "action resource origin")
+
+
+class InputError(Exception):
+    """Some input can't be read; the text says which and why."""
+
+
+def read_changes(paths):
+    """The changes of all files, in their order."""
+    return [change for path in paths for change in read_file(path)]
+
+
+def read_file(path):
+    origin = "standard input" if path == STANDARD_INPUT else path
+    return [
+        Change(action, resource, origin)
+        for document in documents(read_text(path), origin)
+        for action, resource in resources_of(document, origin)
+    ]
+
+
+def read_text(path):
+    try:
+        if path == STANDARD_INPUT:
+            data = sys.stdin.buffer.read()
+        else:
+            with open(path, "rb") as file:
+                data = file.read()
+        return data.decode("utf-8-sig")
+    except OSError as fault:
+        raise InputError("%s: %s" % (path, fault.strerror))
+    except UnicodeDecodeError:
+        raise InputError("%s: not a text in UTF-8" % path)
+
+
+def documents(text, origin):
+    """The JSON values of a text, which stand one behind the other."""
+    decoder = json.JSONDecoder()
+    place = behind_blanks(text, 0)
+    while place < len(text):
+        try:
+            value, place = decoder.raw_decode(text, place)
+        except (ValueError, RecursionError):
+            line = text.count("\n", 0, place) + 1
+            raise InputError("%s: what begins in line %d isn't JSON; YAML isn't read, so ask for `-o json`" % (origin, line))
+        yield value
+        place = behind_blanks(text, place)
+
+
+def behind_blanks(text, place):
+    while place < len(text) and text[place] in " \t\r\n":
+        place += 1
+    return place
+
+
+def resources_of(value, origin):
+    """The resources of a value, each with what to do with it: of a list its items, of a line what it puts or deletes."""
+    if isinstance(value, list):
+        return [found for item in value for found in resources_of(item, origin)]
+    if not isinstance(value, dict):
+        raise InputError("%s: a resource is a JSON object, and this is none: %.60s" % (origin, json.dumps(value)))
+    if len(value) == 1 and next(iter(value)) in LINE_MEMBERS:
+        return line_of(value)
+    if is_list(value):
+        return [found for item in items_of(value) for found in resources_of(item, origin)]
+    return [("put", value)]
+
+
+def line_of(value):
+    (action, resource), = value.items()
+    return [(action, resource)] if action in ("put", "delete") and isinstance(resource, dict) else []
+
+
+def is_list(value):
+    return "items" in value and str(value.get("kind", "List")).endswith("List")
+
+
+def items_of(value):
+    """The items of a list. Those of a list as the API server itself gives it don't repeat their kind."""
+    kind = str(value.get("kind", ""))[:-len("List")]
+    version = value.get("apiVersion")
+    for item in value["items"] or []:
+        if isinstance(item, dict) and kind and "kind" not in item:
+            item = dict(item, kind=kind, apiVersion=item.get("apiVersion", version))
+        yield item
+
+
+def part(value, *names):
+    """What stands in an object below these names, each in the object of the one before; None where something is absent."""
+    for name in names:
+        value = value.get(name) if isinstance(value, dict) else None
+    return value
+
+
+def objects(value):
+    """The objects of a list; of anything else none."""
+    return [item for item in value if isinstance(item, dict)] if isinstance(value, list) else []
