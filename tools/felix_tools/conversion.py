@@ -18,6 +18,8 @@ DECIDING = {
     "NetworkPolicy", "GlobalNetworkPolicy", "Tier", "NetworkSet", "GlobalNetworkSet", "Profile", "WorkloadEndpoint",
     "AdminNetworkPolicy", "BaselineAdminNetworkPolicy", "ClusterNetworkPolicy",
 }
+# Endpoints come last, and before them what selects them: the program is faster so. What is one resource stays in its order.
+RANKS = {"WorkloadEndpoint": 2, "GlobalNetworkPolicy": 1, "NetworkPolicy": 1, "NetworkSet": 1, "GlobalNetworkSet": 1}
 STORED = "crd.projectcalico.org/v1"
 
 # A line for the program: what is done with which resource, and the resource of the input that it was made of.
@@ -47,6 +49,7 @@ class Conversion:
         self.tiers_in_use = {text_of(part(c.resource, "spec", "tier") or "default") for c in changes}
         for change in changes:
             self.take(change)
+        self.lines.sort(key=lambda line: RANKS.get(line.resource["kind"], 0))
 
     def take(self, change):
         written = change.resource

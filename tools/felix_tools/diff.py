@@ -75,7 +75,7 @@ class Version:
 
     def notes(self):
         lines = left_out_lines(self.conversion.left_out) + refused_lines(self.asking.refusals())
-        lines += [text + "." for text in self.missing]
+        lines += [text + "." for text in dict.fromkeys(self.missing)]
         return ["In what is %s:" % self.name] + [INDENT + line if line else line for line in lines if line] if lines else []
 
     def has_refused(self):

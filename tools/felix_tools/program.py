@@ -15,8 +15,8 @@ ENDINGS = {
     6: "the input has 4 GiB or more",
     70: "it isn't built, since some proof failed or `rt` isn't there",
 }
-WAIT_WORD = ("The proved program isn't built yet. ./felix-replay proves and builds it now, which takes most of an hour on four "
-             "processors; another one is asked by --program PATH or %s=PATH." % VARIABLE)
+WAIT_WORD = ("The proved program isn't built from these sources yet. ./felix-replay proves and builds it now, which takes most of an "
+             "hour on four processors; another one is asked by --program PATH or %s=PATH." % VARIABLE)
 
 
 class ProgramError(Exception):
@@ -28,10 +28,27 @@ def find(path=None):
     given = path or os.environ.get(VARIABLE)
     if given:
         return given
-    if os.access(BUILT, os.X_OK):
+    if is_built():
         return BUILT
     print(WAIT_WORD, file=sys.stderr)
     return LAUNCHER
+
+
+def is_built():
+    """Whether the built program is there, and none of its sources is newer: what ./felix-replay asks, too."""
+    if not os.access(BUILT, os.X_OK):
+        return False
+    built = os.path.getmtime(BUILT)
+    return all(os.path.getmtime(source) <= built for source in sources())
+
+
+def sources():
+    yield os.path.join(TOP, "crates.txt")
+    for folder, below, files in os.walk(os.path.join(TOP, "crates")):
+        below[:] = [name for name in below if name != "out"]
+        for name in files:
+            if name.endswith((".rt", ".antt")):
+                yield os.path.join(folder, name)
 
 
 def run(path, node, text):

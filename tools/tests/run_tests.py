@@ -42,7 +42,7 @@ def program_words(options):
 
 def compared_program(options):
     """The program whose answers are compared with the recorded ones, or None."""
-    return options.program or (program.BUILT if os.access(program.BUILT, os.X_OK) else None)
+    return options.program or (program.BUILT if program.is_built() else None)
 
 
 def run_functions():
