@@ -28,7 +28,7 @@ class Cluster:
         self.written = collections.OrderedDict()
         made = collections.OrderedDict()
         for line in lines:
-            key = key_of(line.resource)
+            key = stands_as(key_of(line.resource))
             self.written.pop(key, None)
             made.pop(key, None)
             if line.action == "put":
@@ -36,7 +36,7 @@ class Cluster:
         self.endpoints = [endpoint_of(resource) for key, resource in made.items() if key[:2] == (CALICO, "WorkloadEndpoint")]
 
     def resource(self, version, kind, namespace, name):
-        return self.written.get((version, kind, namespace, name))
+        return self.written.get(stands_as((version, kind, namespace, name)))
 
     def ends(self, text):
         """The ends that a name, a pattern of names or an address stands for."""
@@ -73,6 +73,16 @@ class Cluster:
             return "the pod %s has no workload endpoint (%s)" % (name, self.pods_left_out[name])
         near = difflib.get_close_matches(name, [endpoint.name for endpoint in self.endpoints], 3)
         return "no running pod %s in the input%s" % (name, "; there is " + ", ".join(near) if near else "")
+
+
+def stands_as(key):
+    """The key of the resource that this one is to the program: a namespace and a service account are profiles."""
+    version, kind, namespace, name = key
+    if (version, kind) == ("v1", "Namespace"):
+        return CALICO, "Profile", "", "kns.%s" % name
+    if (version, kind) == ("v1", "ServiceAccount"):
+        return CALICO, "Profile", "", "ksa.%s.%s" % (namespace, name)
+    return key
 
 
 def standing_lines(lines, refusals):

@@ -1,6 +1,9 @@
 """Answers in words."""
 from felix_tools.cluster import display_name
+from felix_tools.conversion import kind_of
+from felix_tools.pods import CALICO
 from felix_tools.questions import title
+from felix_tools.reading import part
 from felix_tools.rules import place_of, place_words, policy_of, rule_at
 from felix_tools.yaml_text import yaml_lines
 
@@ -83,13 +86,12 @@ def tiers_of(side):
 
 def profile_words(side, cluster, name, number):
     none = undecided_words(side)
-    namespace = name[len("kns."):] if name.startswith("kns.") else None
-    profile = cluster.resource("projectcalico.org/v3", "Profile", "", name)
-    if namespace and not profile:
-        return ": %s, and the profile of the namespace %s allows all" % (none, namespace), []
-    rules = (profile or {}).get("spec", {}).get(side.direction) or []
-    rule = rules[int(number) - 1:int(number)]
-    return ": %s, so by %s[%d] of the profile %s" % (none, side.direction, int(number) - 1, name), yaml_lines(rule) if rule else []
+    profile = cluster.resource(CALICO, "Profile", "", name)
+    if profile is None or kind_of(profile)[1] != "Profile":
+        return ": %s, and the profile of the namespace %s allows all" % (none, name[len("kns."):]), []
+    place = int(number) - 1
+    rule = (part(profile, "spec", side.direction) or [])[place:place + 1]
+    return ": %s, so by %s[%d] of the profile %s" % (none, side.direction, place, name), yaml_lines(rule) if rule else []
 
 
 def undecided_words(side):

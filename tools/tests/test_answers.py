@@ -127,6 +127,12 @@ class Ends(unittest.TestCase):
         self.assertEqual([end.interface for end in self.CLUSTER.ends("10.0.0.2")], ["cali2"])
         self.assertEqual(self.CLUSTER.ends("192.0.2.1"), [Outside("192.0.2.1")])
 
+    def test_a_namespace_is_its_profile_and_the_last_put_stands(self):
+        namespace = {"apiVersion": "v1", "kind": "Namespace", "metadata": {"name": "a"}}
+        profile = {"apiVersion": "projectcalico.org/v3", "kind": "Profile", "metadata": {"name": "kns.a"}}
+        for last, first in ((namespace, profile), (profile, namespace)):
+            self.assertEqual(cluster(first, last).resource("projectcalico.org/v3", "Profile", "", "kns.a"), last)
+
     def test_names_that_fit_none_or_several(self):
         for name in ("a/two", "10.0.0.3", "a/wep", "web", "b/*", "300.1.1.1"):
             with self.assertRaises(UnknownEnd, msg=name):
