@@ -4,12 +4,13 @@ import sys
 
 from felix_tools import program
 from felix_tools.asking import Asking
-from felix_tools.cluster import Cluster, UnknownEnd, standing_lines
+from felix_tools.cluster import Cluster, standing_lines
 from felix_tools.conversion import convert
 from felix_tools.matrix import matrix_lines
 from felix_tools.options import PlainHelp, add_program, add_questions, check_questions, wishes
 from felix_tools.questions import QuestionError, is_outside, name_of, resolve
-from felix_tools.reading import InputError, read_changes
+from felix_tools.reading import read_changes
+from felix_tools.start import REFUSED, answered
 from felix_tools.words import left_out_lines, refused_lines, result_lines
 
 DESCRIPTION = """\
@@ -25,20 +26,9 @@ whether the packet leaves, and the receiver's whether it enters. The packet open
 Status: 0 allowed, 1 denied (of several questions: some is), 2 the question or a file can't be read,
 3 some resource was refused or left out that may have a say, 4 the program didn't run to its end."""
 
-REFUSED = 3
-FAILED = 4
-
 
 def main(words):
-    options = parser().parse_args(words)
-    try:
-        return answer(options)
-    except (InputError, QuestionError, UnknownEnd) as fault:
-        print("tools/ask: %s" % fault, file=sys.stderr)
-        return 2
-    except program.ProgramError as fault:
-        print("tools/ask: %s" % fault, file=sys.stderr)
-        return FAILED
+    return answered("tools/ask", answer, parser().parse_args(words))
 
 
 def parser():
@@ -69,11 +59,11 @@ def answer(options):
     if options.raw:
         sys.stdout.write(raw_output(asking, results[0], options.raw))
     else:
-        show(options, cluster, conversion, asking, results)
+        show(options, conversion, asking, results)
     return status(conversion, asking, results)
 
 
-def show(options, cluster, conversion, asking, results):
+def show(options, conversion, asking, results):
     refusals = asking.refusals()
     blocks = [left_out_lines(conversion.left_out)[:-1], refused_lines(refusals)[:-1]]
     standing = Cluster(standing_lines(conversion.lines, refusals), conversion.pods_left_out)

@@ -68,7 +68,8 @@ class Asking:
     def keep_packets(self, node):
         asked, answered = self.packets[node], self.answers[node].packets
         if len(asked) != len(answered):
-            raise program.ProgramError("the program answered %d of %d packets of node %s" % (len(answered), len(asked), node))
+            faults = ["%s %s" % (refusal.name, refusal.rest) for refusal in self.answers[node].refusals if refusal.line > len(self.lines)]
+            raise program.ProgramError("the program refused a packet of node %s: %s" % (node, ", ".join(faults)))
         self.answered[node] = dict(zip(asked, answered))
 
     def run(self, node):

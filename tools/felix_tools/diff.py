@@ -1,6 +1,5 @@
 """tools/diff: which verdicts a change of resources changes, and by which rule."""
 import argparse
-import sys
 
 from felix_tools import program
 from felix_tools.asking import Asking
@@ -8,7 +7,8 @@ from felix_tools.cluster import Cluster, UnknownEnd, standing_lines
 from felix_tools.conversion import convert
 from felix_tools.options import PlainHelp, add_program, add_questions, check_questions, wishes
 from felix_tools.questions import QuestionError, name_of, resolve, short_title
-from felix_tools.reading import InputError, read_changes
+from felix_tools.reading import read_changes
+from felix_tools.start import REFUSED, answered
 from felix_tools.words import INDENT, left_out_lines, refused_lines, side_lines, verdict_word
 
 DESCRIPTION = """\
@@ -24,20 +24,9 @@ line {"delete": RESOURCE}.
 Status: 0 no verdict changes, 1 some does, 2 a question or a file can't be read,
 3 some resource was refused or left out that may have a say, 4 the program didn't run to its end."""
 
-REFUSED = 3
-FAILED = 4
-
 
 def main(words):
-    options = parser().parse_args(words)
-    try:
-        return compare(options)
-    except (InputError, QuestionError, UnknownEnd) as fault:
-        print("tools/diff: %s" % fault, file=sys.stderr)
-        return 2
-    except program.ProgramError as fault:
-        print("tools/diff: %s" % fault, file=sys.stderr)
-        return FAILED
+    return answered("tools/diff", compare, parser().parse_args(words))
 
 
 def parser():

@@ -4,7 +4,8 @@ import sys
 
 from felix_tools.conversion import convert, input_of
 from felix_tools.options import PlainHelp
-from felix_tools.reading import STANDARD_INPUT, InputError, read_changes
+from felix_tools.reading import STANDARD_INPUT, read_changes
+from felix_tools.start import answered
 
 DESCRIPTION = """\
 Writes what kubectl and calicoctl print as lines for felix-replay, with the mark and a flush at the end.
@@ -23,17 +24,12 @@ Status: 0 done, 2 some file or word can't be read."""
 def main(words):
     parser = argparse.ArgumentParser(prog="tools/lines", description=DESCRIPTION, formatter_class=PlainHelp)
     parser.add_argument("files", nargs="*", metavar="FILE", default=[STANDARD_INPUT], help="JSON; `-` or none is standard input")
-    options = parser.parse_args(words)
-    try:
-        conversion = convert(read_changes(options.files or [STANDARD_INPUT]))
-    except InputError as fault:
-        print("tools/lines: %s" % fault, file=sys.stderr)
-        return 2
-    tell_left_out(conversion.left_out, "tools/lines")
+    return answered("tools/lines", write_lines, parser.parse_args(words))
+
+
+def write_lines(options):
+    conversion = convert(read_changes(options.files or [STANDARD_INPUT]))
+    for text in conversion.left_out.texts(True) + conversion.left_out.texts(False):
+        print("tools/lines: left out %s" % text, file=sys.stderr)
     sys.stdout.write(input_of(conversion.lines))
     return 0
-
-
-def tell_left_out(left_out, tool):
-    for text in left_out.texts(True) + left_out.texts(False):
-        print("%s: left out %s" % (tool, text), file=sys.stderr)

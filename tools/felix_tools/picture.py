@@ -7,6 +7,7 @@ from felix_tools.answers import Answers
 from felix_tools.options import PlainHelp
 from felix_tools.reading import STANDARD_INPUT, InputError, read_text
 from felix_tools.rule_words import LEGEND, rule_words, target
+from felix_tools.start import answered
 
 DESCRIPTION = """\
 Draws what felix-replay writes: the last tables, and the way of the last packet that met them, if there is one.
@@ -41,15 +42,13 @@ GRAPH = [
 
 
 def main(words):
-    options = parser().parse_args(words)
-    try:
-        answers = Answers(read_text(options.file))
-    except InputError as fault:
-        print("tools/picture: %s" % fault, file=sys.stderr)
-        return 2
+    return answered("tools/picture", draw, parser().parse_args(words))
+
+
+def draw(options):
+    answers = Answers(read_text(options.file))
     if not answers.chains:
-        print("tools/picture: there are no tables in this; a line {\"tables\":true} asks for them", file=sys.stderr)
-        return 2
+        raise InputError("there are no tables in this; a line {\"tables\":true} asks for them")
     sys.stdout.write("\n".join(Drawing(answers, options).lines()) + "\n")
     return 0
 

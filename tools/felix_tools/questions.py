@@ -51,8 +51,9 @@ def question(sender, receiver, wish):
 def address_of(end):
     if is_outside(end):
         return end.address
-    if not end.addresses:
-        raise QuestionError("%s has no IPv4 address" % end.name)
+    for what, value in (("IPv4 address", end.addresses), ("node", end.node), ("interface", end.interface)):
+        if not value:
+            raise QuestionError("%s has no %s" % (end.name, what))
     return end.addresses[0]
 
 

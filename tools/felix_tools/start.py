@@ -1,8 +1,15 @@
-"""Starts a program of tools/: its words, its output in UTF-8, and its status."""
+"""Starts a program of tools/: its words, its output in UTF-8, its faults and its status."""
 import os
 import sys
 
-READER_GONE = 4
+from felix_tools.cluster import UnknownEnd
+from felix_tools.program import ProgramError
+from felix_tools.questions import QuestionError
+from felix_tools.reading import InputError
+
+USAGE = 2
+REFUSED = 3
+FAILED = 4
 INTERRUPTED = 130
 
 
@@ -14,7 +21,19 @@ def start(main):
     except BrokenPipeError:
         # What is left in the buffer has no reader; Python would complain of that when it ends.
         os.dup2(os.open(os.devnull, os.O_WRONLY), sys.stdout.fileno())
-        status = READER_GONE
+        status = FAILED
     except KeyboardInterrupt:
         status = INTERRUPTED
     sys.exit(status)
+
+
+def answered(tool, work, options):
+    """The status of this work; what keeps it from an answer is told on standard error."""
+    try:
+        return work(options)
+    except (InputError, QuestionError, UnknownEnd) as fault:
+        print("%s: %s" % (tool, fault), file=sys.stderr)
+        return USAGE
+    except ProgramError as fault:
+        print("%s: %s" % (tool, fault), file=sys.stderr)
+        return FAILED

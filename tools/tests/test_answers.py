@@ -47,7 +47,8 @@ class ReadAnswers(unittest.TestCase):
         self.assertEqual(answers.sets, {"cali40s:x": ["10.0.0.0/8"]})
         self.assertEqual(answers.rule("cali-FORWARD", 1), "-i cali+ -j cali-from-wl-dispatch")
         first, second = answers.packets
-        self.assertEqual(first, ([("cali-FORWARD", 1), ("cali-pi-knp/shop/a", 2)], {"ingress": ["cali1", "policy", "knp/shop/a", "2"]}, "allow", 1))
+        path = [("cali-FORWARD", 1), ("cali-pi-knp/shop/a", 2)]
+        self.assertEqual(first, (path, {"ingress": ["cali1", "policy", "knp/shop/a", "2"]}, "allow", 1))
         self.assertEqual(second, ([], {}, "deny", 1))
 
     def test_tables_that_differ_are_not_those_of_the_packet(self):
@@ -82,8 +83,9 @@ class KubernetesRules(unittest.TestCase):
 
 class Texts(unittest.TestCase):
     def test_yaml(self):
-        value = [{"action": "Allow", "source": {"nets": ["10.0.0.0/8"], "selector": "app == 'web'"}, "destination": {"ports": [80, "8000:8080"]},
-                  "notNets": [], "quoted": "yes", "number": "80", "nothing": None, "other": ["a: b", {"c": [[1]]}]}]
+        value = [{"action": "Allow", "source": {"nets": ["10.0.0.0/8"], "selector": "app == 'web'"},
+                  "destination": {"ports": [80, "8000:8080"]}, "notNets": [], "quoted": "yes", "number": "80", "nothing": None,
+                  "other": ["a: b", {"c": [[1]]}]}]
         self.assertEqual(yaml_lines(value), [
             "- action: Allow", "  source:", "    nets:", "    - 10.0.0.0/8", "    selector: app == 'web'", "  destination:", "    ports:",
             "    - 80", '    - "8000:8080"', "  notNets: []", '  quoted: "yes"', '  number: "80"', "  nothing: null",
@@ -116,8 +118,10 @@ def cluster(*endpoints):
 
 class Ends(unittest.TestCase):
     CLUSTER = cluster(
-        endpoint("n1-k8s-web-eth0", "n1", "cali1", "10.0.0.1/32", "fd00::1/128", pod="web"), endpoint("db", "n2", "cali2", "10.0.0.2/32"),
-        endpoint("n1-k8s-two-eth0", "n1", "cali3", "10.0.0.3/32", pod="two"), endpoint("n1-k8s-two-eth1", "n1", "cali4", "10.0.0.3/32", pod="two"),
+        endpoint("n1-k8s-web-eth0", "n1", "cali1", "10.0.0.1/32", "fd00::1/128", pod="web"),
+        endpoint("db", "n2", "cali2", "10.0.0.2/32"),
+        endpoint("n1-k8s-two-eth0", "n1", "cali3", "10.0.0.3/32", pod="two"),
+        endpoint("n1-k8s-two-eth1", "n1", "cali4", "10.0.0.3/32", pod="two"),
         endpoint("six", "n1", "cali5", "fd00::5/128"))
 
     def test_names(self):

@@ -99,7 +99,8 @@ class Conversion(unittest.TestCase):
         service = {"apiVersion": "v1", "kind": "Service", "metadata": {"name": "s"}}
         left_out = converted(stored, service, service, {"kind": ["odd"]}).left_out
         self.assertEqual(len(left_out.texts(True)), 1)
-        self.assertEqual([text.split(":")[0] for text in left_out.texts(False)], ["2 Service of v1", "1 object without kind of no apiVersion"])
+        others = [text.split(":")[0] for text in left_out.texts(False)]
+        self.assertEqual(others, ["2 Service of v1", "1 object without kind of no apiVersion"])
 
     def test_odd_values_are_passed_on_or_left_out_and_never_stop_a_run(self):
         odd = [calico("Tier", 5), calico("NetworkPolicy", None, [], namespace={}), calico("WorkloadEndpoint", "w", {"ports": [None, 7]}),
