@@ -46,7 +46,6 @@ class Conversion:
         self.left_out = LeftOut()
         self.pods_left_out = {}
         self.kubernetes_policies = {key_of(c.resource) for c in changes if kind_of(c.resource) == (KUBERNETES, "NetworkPolicy")}
-        self.tiers_in_use = {text_of(part(c.resource, "spec", "tier") or "default") for c in changes}
         for change in changes:
             self.take(change)
         self.lines.sort(key=lambda line: RANKS.get(line.resource["kind"], 0))
@@ -79,17 +78,12 @@ class Conversion:
             return why_not_read(resource)
         if kind == (CALICO, "NetworkPolicy") and self.is_copy(resource):
             return "calicoctl's copy of a policy of Kubernetes that is there itself"
-        if kind == (CALICO, "Tier") and self.is_idle(resource):
-            return "its end passes, and no policy of the input is in it"
         return None
 
     def is_copy(self, resource):
         _, _, namespace, name = key_of(resource)
         return name.startswith(COPY_PREFIX) and \
             (KUBERNETES, "NetworkPolicy", namespace, name[len(COPY_PREFIX):]) in self.kubernetes_policies
-
-    def is_idle(self, tier):
-        return part(tier, "spec", "defaultAction") == "Pass" and key_of(tier)[3] not in self.tiers_in_use
 
 
 def why_not_read(resource):

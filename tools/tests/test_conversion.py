@@ -89,11 +89,6 @@ class Conversion(unittest.TestCase):
         self.assertEqual(len(converted(copy).lines), 1)
         self.assertEqual([line.written for line in converted(copy, own).lines], [own])
 
-    def test_tiers_that_pass_are_left_out_while_no_policy_is_in_them(self):
-        tier = calico("Tier", "t", {"defaultAction": "Pass"})
-        self.assertEqual(converted(tier).lines, [])
-        self.assertEqual(len(converted(tier, calico("GlobalNetworkPolicy", "t.p", {"tier": "t"})).lines), 2)
-
     def test_what_may_have_a_say_is_told_apart(self):
         stored = dict(calico("GlobalNetworkPolicy", "g"), apiVersion="crd.projectcalico.org/v1")
         service = {"apiVersion": "v1", "kind": "Service", "metadata": {"name": "s"}}
