@@ -72,11 +72,21 @@ abbrev pub read_answer : {A B : Type 0} → (A → B) → Result A ReadFault →
 read_answer make (Ok x) = Ok (make x)
 read_answer make (Err fault) = Err (Read fault)
 
+-- what a resource that is put or deleted asks for, and a packet
+abbrev pub put_answer : Data → Result (Option Update) Refusal
+put_answer v = shaped (is_object v) (read_answer Some (put_of v))
+
+abbrev pub delete_answer : Data → Result (Option Update) Refusal
+delete_answer v = shaped (is_object v) (read_answer Some (delete_of v))
+
+abbrev pub packet_answer : Data → Result Command Refusal
+packet_answer v = shaped (is_object v) (read_answer command.Packet (packet_of v))
+
 -- the update that a member asks for, none where it isn't one for updates
 unfoldable pub update_in : Data → Result (Option Update) Refusal
 update_in d =
-    at_member (field (codes "put") d) (λ v. shaped (is_object v) (read_answer Some (put_of v)))
-    (at_member (field (codes "delete") d) (λ v. shaped (is_object v) (read_answer Some (delete_of v)))
+    at_member (field (codes "put") d) put_answer
+    (at_member (field (codes "delete") d) delete_answer
     (at_member (field (codes "inSync") d) (λ v. shaped (is_true v) (Ok (Some update.InSync)))
     (Ok None)))
 
@@ -84,7 +94,7 @@ update_in d =
 unfoldable pub request_in : Data → Result Command Refusal
 request_in d =
     at_member (field (codes "flush") d) (λ v. shaped (has_members 0 v) (Ok command.Flush))
-    (at_member (field (codes "packet") d) (λ v. shaped (is_object v) (read_answer command.Packet (packet_of v)))
+    (at_member (field (codes "packet") d) packet_answer
     (at_member (field (codes "tables") d) (λ v. shaped (is_true v) (Ok command.Tables))
     (Err BadLine)))
 

@@ -2,12 +2,8 @@
 ghost use Rattle.std.specs.Prelude.{◌≡◌, IfOk, IfSome, Some, Ok};
 ghost use Rattle.std.specs.List.{list_all};
 ghost use Rattle.serde_json.specs.View.{view};
-ghost use Rattle.fx_fields.specs.Fields.{is_object};
-ghost use Rattle.fx_json.specs.Packets.{packet_of};
 ghost use Rattle.fx_fields.specs.Refusals.{Refuses};
-ghost use Rattle.fx_json.specs.Resources.{delete_of};
-ghost use Rattle.fx_k8s.specs.Puts.{put_of};
-ghost use Rattle.fx_lines.specs.Commands.{is_blank_byte, viewed, one_member, value_in, is_true, shaped, read_answer, update_in, request_in, by_name, command_of};
+ghost use Rattle.fx_lines.specs.Commands.{is_blank_byte, viewed, one_member, value_in, is_true, shaped, put_answer, delete_answer, packet_answer, update_in, request_in, by_name, command_of};
 ghost use Rattle.fx_lines.specs.Formed.{IsReadUpdate, IsReadCommand};
 
 use crate::lines::is_too_long;
@@ -106,7 +102,7 @@ fn update_by_name(alloc: Global, value: &Value) -> Result<Option<Update>, Refusa
 }
 
 fn put_update(alloc: Global, resource: &Value) -> Result<Option<Update>, Refusal>
-    ensures { Refuses (shaped (is_object (view resource.now)) (read_answer Some (put_of (view resource.now)))) result }
+    ensures { Refuses (put_answer (view resource.now)) result }
 {
     if !resource.is_object() {
         return Err(Refusal::BadLine);
@@ -115,7 +111,7 @@ fn put_update(alloc: Global, resource: &Value) -> Result<Option<Update>, Refusal
 }
 
 fn delete_update(alloc: Global, resource: &Value) -> Result<Option<Update>, Refusal>
-    ensures { Refuses (shaped (is_object (view resource.now)) (read_answer Some (delete_of (view resource.now)))) result }
+    ensures { Refuses (delete_answer (view resource.now)) result }
 {
     if !resource.is_object() {
         return Err(Refusal::BadLine);
@@ -160,7 +156,7 @@ fn request_in(alloc: Global, value: &Value) -> Result<Command, Refusal>
 }
 
 fn packet_command(alloc: Global, packet: &Value) -> Result<Command, Refusal>
-    ensures { Refuses (shaped (is_object (view packet.now)) (read_answer Command.Packet (packet_of (view packet.now)))) result }
+    ensures { Refuses (packet_answer (view packet.now)) result }
 {
     if !packet.is_object() {
         return Err(Refusal::BadLine);
