@@ -8,10 +8,10 @@ use Rattle.fx_model.specs.declared.resources.Update.TheVariants as update
 use Rattle.felix_replay.specs.Flushing.{IsUpdate, HaveNoUpdate}
 use Rattle.felix_replay.specs.Output.{State, checked, next}
 
--- two blank lines, one of them with a tab
-pub blank_lines : (s : State) → HaveNoUpdate s ([] ∷ (9 ∷ []) ∷ [])
-unfolding HaveNoUpdate command_of
-blank_lines s = (λ is. is, (λ is. is, tt))
+-- a blank line
+pub blank_line : (s : State) (line : List ℕ) → command_of line ≡ Ok command.Blank → HaveNoUpdate s (line ∷ [])
+unfolding HaveNoUpdate
+blank_line s line said = (subst (λ (answer : Result Command Refusal). ¬ IsUpdate (checked s.digest s.resources answer)) (sym said) (λ is. is), tt)
 
 -- a line that says that the resources are in sync, which clashes with nothing
 pub in_sync : (s : State) (line : List ℕ) → command_of line ≡ Ok (command.Update update.InSync) → ¬ HaveNoUpdate s (line ∷ [])
