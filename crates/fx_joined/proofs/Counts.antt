@@ -23,9 +23,11 @@ use Rattle.fx_label_index.specs.Matched.{text_eq, tests, holds_on}
 use Rattle.fx_label_index.specs.declared.counted.Counted.{Counted}
 use Rattle.fx_label_index.proofs.Canonicals.{one_canonical, canonical_more, canonical_less, raised_canonical}
 use Rattle.fx_active.specs.Active.{text_of}
-use Rattle.fx_active.proofs.MapLemmas.{insert_back, remove_absent, get_removed, insert_removed}
+use Rattle.fx_active.proofs.MapLemmas.{insert_back}
 use Rattle.fx_joined.specs.Counting.{weight, weight_of, times_among, times, total, with_one, IsCounted}
+use Rattle.fx_base.proofs.AtKey.{insert_removed}
 use Rattle.fx_base.proofs.Cases.{same_some, moved, none_more}
+use Rattle.fx_base.proofs.Keyed.{remove_absent, get_removed}
 
 not_some : {A : Type 0} (x : A) → None ≡ Some x → ⊥
 not_some x e = cc
