@@ -8,12 +8,12 @@ use Rattle.fx_model.specs.declared.ids.ItemKey.{ItemKey}
 use Rattle.fx_model.specs.declared.resources.Resources.{Resources}
 use Rattle.fx_model.specs.declared.set_use.SetUse.{SetUse}
 use Rattle.fx_label_index.specs.Matched.{labels_of}
-use Rattle.fx_joined.specs.Composed.{holds_at}
-use Rattle.fx_joined.specs.Counting.{total, times}
-use Rattle.fx_joined.proofs.Composing.{composed}
-use Rattle.fx_joined.proofs.Counts.{counted_tests}
-use Rattle.fx_feed.specs.Used.{used_in}
-use Rattle.fx_feed.proofs.UsedTexts.{use_counted}
+use Rattle.fx_graph_rules.specs.Composed.{holds_at}
+use Rattle.fx_graph_rules.specs.Counting.{total, times}
+use Rattle.fx_graph_rules.proofs.Composing.{composed}
+use Rattle.fx_graph_rules.proofs.Counts.{counted_tests}
+use Rattle.fx_graph.specs.Used.{used_in}
+use Rattle.fx_graph.proofs.UsedTexts.{use_counted}
 use Rattle.fx_node_laws.specs.Tied.{IsTied}
 use Rattle.fx_node_laws.specs.Told.{IsTold}
 use Rattle.fx_node_laws.specs.Waits.{AreWaiting}

@@ -1,3 +1,9 @@
+pub mod Changed
+pub mod Walked
+pub mod Sums
+pub mod UsedTexts
+pub mod Counted
+pub mod Uppers
 pub mod Named
 pub mod Agreeing
 pub mod Kept

@@ -16,10 +16,10 @@ use Rattle.fx_resolver.specs.Known.{known_policy}
 use Rattle.fx_resolver.specs.Resolved.{IsResolved}
 use Rattle.fx_scanner.specs.Scanned.{IsScanned}
 use Rattle.fx_sequencer.specs.declared.sides.Sides.{Sides}
-use Rattle.fx_joined.specs.Counting.{none_used}
-use Rattle.fx_joined.specs.Uppers.{IsUpper}
-use Rattle.fx_logged.specs.declared.active_told.ActiveTold.{ActiveTold}
-use Rattle.fx_feed.specs.Used.{used_in, used_among}
+use Rattle.fx_graph_rules.specs.Counting.{none_used}
+use Rattle.fx_graph_rules.specs.Uppers.{IsUpper}
+use Rattle.fx_graph_rules.specs.declared.active_told.ActiveTold.{ActiveTold}
+use Rattle.fx_graph.specs.Used.{used_in, used_among}
 use Rattle.fx_node_laws.specs.Empty.{no_active, no_endpoints, no_sets}
 use Rattle.fx_graph.specs.Settled.{IsSettled}
 use Rattle.fx_graph.specs.declared.nodes.Nodes.{Nodes}

@@ -4,16 +4,16 @@ use Rattle.fx_names.specs.Digests.{Digest}
 use Rattle.fx_members.specs.Members.{AreMembers}
 use Rattle.fx_resolver.specs.Resolved.{IsResolved}
 use Rattle.fx_scanner.specs.Scanned.{IsScanned}
-use Rattle.fx_joined.specs.Counting.{with_some}
-use Rattle.fx_joined.specs.Run.{IsRun}
-use Rattle.fx_joined.specs.Uppers.{IsUpper}
-use Rattle.fx_told.specs.Knowing.{IsBehind}
-use Rattle.fx_parts.specs.Noted.{AreFormed}
-use Rattle.fx_logged.specs.PairRun.{IsPairRun}
-use Rattle.fx_logged.specs.Touched.{IsTouched}
-use Rattle.fx_joined.specs.declared.pair_log.PairChange.{PairChange}
-use Rattle.fx_logged.specs.declared.active_log.Logged.{Logged}
-use Rattle.fx_feed.specs.Used.{used_in}
+use Rattle.fx_graph_rules.specs.Counting.{with_some}
+use Rattle.fx_graph_rules.specs.Run.{IsRun}
+use Rattle.fx_graph_rules.specs.Uppers.{IsUpper}
+use Rattle.fx_graph_view.specs.Knowing.{IsBehind}
+use Rattle.fx_graph_view.specs.Noted.{AreFormed}
+use Rattle.fx_graph_rules.specs.PairRun.{IsPairRun}
+use Rattle.fx_graph_rules.specs.Touched.{IsTouched}
+use Rattle.fx_graph_rules.specs.declared.pair_log.PairChange.{PairChange}
+use Rattle.fx_graph_rules.specs.declared.active_log.Logged.{Logged}
+use Rattle.fx_graph.specs.Used.{used_in}
 use Rattle.fx_graph.specs.declared.nodes.Nodes.{Nodes}
 
 pub record IsAhead (dg : Digest) (before : Option (List ℕ)) (g : Nodes) (changes : List PairChange) (logged : Logged) : Type 0 where

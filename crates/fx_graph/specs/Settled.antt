@@ -4,11 +4,11 @@ use Rattle.fx_names.specs.Digests.{Digest}
 use Rattle.fx_members.specs.Members.{AreMembers}
 use Rattle.fx_resolver.specs.Resolved.{IsResolved}
 use Rattle.fx_scanner.specs.Scanned.{IsScanned}
-use Rattle.fx_joined.specs.Counting.{with_some}
-use Rattle.fx_joined.specs.Uppers.{IsUpper}
-use Rattle.fx_told.specs.Knowing.{AreKnown}
-use Rattle.fx_parts.specs.Noted.{AreFormed}
-use Rattle.fx_feed.specs.Used.{used_in}
+use Rattle.fx_graph_rules.specs.Counting.{with_some}
+use Rattle.fx_graph_rules.specs.Uppers.{IsUpper}
+use Rattle.fx_graph_view.specs.Knowing.{AreKnown}
+use Rattle.fx_graph_view.specs.Noted.{AreFormed}
+use Rattle.fx_graph.specs.Used.{used_in}
 use Rattle.fx_graph.specs.declared.nodes.Nodes.{Nodes}
 
 -- the index counts the selectors of the policies and of the used sets, and besides them the text that a policy had before, if any

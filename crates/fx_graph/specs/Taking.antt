@@ -14,7 +14,7 @@ use Rattle.fx_label_index.specs.declared.held.Inputs as index
 use Rattle.fx_active.specs.declared.inputs.Inputs as active
 use Rattle.fx_resolver.specs.declared.known.KnownEndpoint.{KnownEndpoint}
 use Rattle.fx_scanner.specs.Apart.{IsApart}
-use Rattle.fx_joined.specs.Composed.{IsComposed}
+use Rattle.fx_graph_rules.specs.Composed.{IsComposed}
 use Rattle.fx_node_laws.specs.Changes.{Taken, taken}
 use Rattle.fx_node_laws.specs.Tied.{known_endpoint}
 use Rattle.fx_node_laws.specs.Waits.{Queue, known_waiting}

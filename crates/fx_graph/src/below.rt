@@ -9,9 +9,9 @@ ghost use Rattle.fx_graph.specs.Taking.{contributing, withdrawn, placed, displac
 
 use crate::nodes::Nodes;
 use fx_base::{Memory, NameKey, Text};
+use fx_graph_view::{put_endpoint, put_item, put_tier, remove_endpoint, remove_item, remove_tier};
 use fx_model::{Item, ItemKey, Tier};
 use fx_names::{DigestFunction, DigestRule, Namer, Prefix};
-use fx_told::{put_endpoint, put_item, put_tier, remove_endpoint, remove_item, remove_tier};
 use std::alloc::Global;
 
 fn profile_keys<R: DigestRule, F: DigestFunction<R> + Drop>(

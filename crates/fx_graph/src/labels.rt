@@ -5,7 +5,7 @@ ghost use Rattle.fx_graph.specs.Taking.{labelled_served, labelled_other, unlabel
 
 use crate::nodes::Nodes;
 use fx_base::{Memory, Text, Ticker};
-use fx_logged::{ActiveLog, ActiveStart, ActiveTold};
+use fx_graph_rules::{ActiveLog, ActiveStart, ActiveTold};
 use fx_model::ItemKey;
 use fx_names::{DigestFunction, DigestRule, Namer};
 use fx_selector::Labels;

@@ -1,14 +1,23 @@
 //! The calculation graph: the five nodes and the sequencer, joined from their contracts alone. An update changes what it touches.
+//!
+//! - **Inputs**: updates of the resources, one by one (`Graph::apply`).
+//! - **Tells** the next message from the view that was sent towards the view that is wanted (`Graph::peek`).
+//! - **Holds** both halves: the label index and the active rules, whose texts of selectors it keeps those of policies and of used
+//!   sets (`feed`); and the nodes below, which take what these tell (`Nodes::settle`).
+//! - **Definition**: `IsGraphOf`: what the nodes hold is the resources', and the wanted view is the view of the resources.
 #![tactic(auto)]
 
 pub use graph::Graph;
 pub use state::GraphState;
 
 mod below;
+mod coming;
 mod endpoint_updates;
 mod endpoints;
+mod feeding;
 mod graph;
 mod labels;
+mod leaving;
 mod net_sets;
 mod nodes;
 mod policies;

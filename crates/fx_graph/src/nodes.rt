@@ -9,8 +9,7 @@ ghost use Rattle.fx_graph.specs.Settled.{IsSettled};
 ghost use Rattle.fx_graph.specs.Taking.{taken_of};
 
 use fx_base::SetMap;
-use fx_joined::Upper;
-use fx_logged::ActiveTold;
+use fx_graph_rules::{ActiveTold, Upper};
 use fx_members::Members;
 use fx_model::{ItemMap, SetUse};
 use fx_node_laws::Waiting;

@@ -6,7 +6,7 @@ ghost use Rattle.fx_graph.specs.Taking.{AreApart, IsBeside, taken_of};
 
 use crate::nodes::Nodes;
 use fx_base::{Memory, Seq, Ticker};
-use fx_logged::{ActiveLog, ActiveStart, ActiveTold};
+use fx_graph_rules::{ActiveLog, ActiveStart, ActiveTold};
 use fx_model::{Policy, PolicyId};
 use fx_names::{DigestFunction, DigestRule, Namer};
 use std::marker::Brand;

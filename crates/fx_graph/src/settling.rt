@@ -5,13 +5,12 @@ ghost use Rattle.fx_graph.specs.Ahead.{IsAhead};
 ghost use Rattle.fx_graph.specs.Settled.{IsSettled};
 ghost use Rattle.fx_graph.specs.Taking.{IsBeside, taken_of};
 
+use crate::feeding::feed;
 use crate::nodes::Nodes;
 use fx_base::{Memory, Seq, Text, Ticker};
-use fx_feed::feed;
-use fx_joined::PairChange;
-use fx_logged::Logged;
+use fx_graph_rules::{Logged, PairChange};
+use fx_graph_view::{resolve, scan, supply_matches, supply_uses};
 use fx_names::{DigestFunction, DigestRule, Namer};
-use fx_told::{resolve, scan, supply_matches, supply_uses};
 
 impl Nodes {
     /// Brings the nodes below to what the upper nodes told: the members to the changes of pairs, then scanner and resolver to the

@@ -25,7 +25,7 @@ use Rattle.fx_model.specs.Views.{is_active_profile}
 use Rattle.fx_label_index.specs.declared.held.Inputs as index
 use Rattle.fx_active.specs.declared.inputs.Inputs as active
 use Rattle.fx_active.specs.Active.{is_in, is_listed}
-use Rattle.fx_joined.specs.Composed.{holds_at, acting, concerns, IsComposed}
+use Rattle.fx_graph_rules.specs.Composed.{holds_at, acting, concerns, IsComposed}
 use Rattle.fx_resolver.specs.declared.inputs.Inputs as resolver
 use Rattle.fx_members.specs.declared.inputs.Inputs as members
 use Rattle.fx_node_laws.specs.Tied.{served_profiles, IsTied}

@@ -16,7 +16,7 @@ use Rattle.fx_model.specs.Labels.{labelled, effective, labels_of}
 use Rattle.fx_label_index.specs.declared.held.Inputs as index
 use Rattle.fx_label_index.specs.Matched.{holds_on, labels_of as held_labels}
 use Rattle.fx_active.specs.declared.inputs.Inputs as active
-use Rattle.fx_joined.specs.Composed.{holds_at}
+use Rattle.fx_graph_rules.specs.Composed.{holds_at}
 use Rattle.fx_resolver.specs.declared.inputs.Inputs as resolver
 use Rattle.fx_members.specs.declared.inputs.Inputs as members
 use Rattle.fx_node_laws.specs.Tied.{item_at, held_of, IsTied}

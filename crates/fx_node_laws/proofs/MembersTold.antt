@@ -31,7 +31,7 @@ use Rattle.fx_model.specs.Resources.{items_of}
 use Rattle.fx_model.specs.Sets.{contributed, contributions, selected, set_members}
 use Rattle.fx_label_index.specs.declared.held.Inputs as index
 use Rattle.fx_active.specs.declared.inputs.Inputs as active
-use Rattle.fx_joined.specs.Composed.{holds_at}
+use Rattle.fx_graph_rules.specs.Composed.{holds_at}
 use Rattle.fx_resolver.specs.declared.inputs.Inputs as resolver
 use Rattle.fx_members.specs.declared.inputs.Inputs as members
 use Rattle.fx_members.specs.Members.{matched_items, members_for}

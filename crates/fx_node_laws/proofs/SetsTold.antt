@@ -29,7 +29,7 @@ use Rattle.fx_model.specs.Tables.{Sets}
 use Rattle.fx_model.specs.Views.{active_profiles, uses_if_there, uses_of_profile, wanted_uses, set_entry, view_of}
 use Rattle.fx_label_index.specs.declared.held.Inputs as index
 use Rattle.fx_active.specs.declared.inputs.Inputs as active
-use Rattle.fx_joined.specs.Composed.{holds_at}
+use Rattle.fx_graph_rules.specs.Composed.{holds_at}
 use Rattle.fx_scanner.specs.declared.inputs.Inputs as scanner
 use Rattle.fx_scanner.specs.Apart.{IsUsed, IsApart}
 use Rattle.fx_scanner.specs.Scanned.{use_entry, used_by_policies, used_by_profiles, all_uses}

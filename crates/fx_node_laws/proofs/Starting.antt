@@ -24,7 +24,7 @@ use Rattle.fx_model.specs.Resources.{empty_resources}
 use Rattle.fx_model.specs.Sets.{policy_uses}
 use Rattle.fx_model.specs.Views.{policy_key, policy_entry, uses_if_there, empty_view}
 use Rattle.fx_active.specs.Active.{is_in}
-use Rattle.fx_joined.specs.Composed.{acting, concerns, IsComposed}
+use Rattle.fx_graph_rules.specs.Composed.{acting, concerns, IsComposed}
 use Rattle.fx_scanner.specs.Apart.{IsUsed}
 use Rattle.fx_scanner.specs.Scanned.{profile_entry, use_entry, IsScanned}
 use Rattle.fx_resolver.specs.Known.{known_policy}

@@ -13,7 +13,7 @@ use Rattle.fx_model.specs.Sinks.{Policies, Profiles, Uses}
 use Rattle.fx_model.specs.Views.{policy_key}
 use Rattle.fx_label_index.specs.declared.held.Inputs as index
 use Rattle.fx_active.specs.declared.inputs.Inputs as active
-use Rattle.fx_joined.specs.Composed.{holds_at, IsComposed}
+use Rattle.fx_graph_rules.specs.Composed.{holds_at, IsComposed}
 use Rattle.fx_scanner.specs.declared.inputs.Inputs as scanner
 use Rattle.fx_scanner.specs.Scanned.{IsScanned}
 use Rattle.fx_resolver.specs.declared.inputs.Inputs as resolver

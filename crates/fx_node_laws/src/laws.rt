@@ -13,7 +13,7 @@ ghost use Rattle.fx_model.specs.Resources.{empty_resources};
 ghost use Rattle.fx_model.specs.Views.{empty_view, view_of};
 ghost use Rattle.fx_label_index.specs.declared.held.Inputs as index;
 ghost use Rattle.fx_active.specs.declared.inputs.Inputs as active;
-ghost use Rattle.fx_joined.specs.Composed.{IsComposed};
+ghost use Rattle.fx_graph_rules.specs.Composed.{IsComposed};
 ghost use Rattle.fx_scanner.specs.declared.inputs.Inputs as scanner;
 ghost use Rattle.fx_scanner.specs.Apart.{IsApart};
 ghost use Rattle.fx_resolver.specs.declared.inputs.Inputs as resolver;

@@ -2,7 +2,7 @@ use Rattle.std.proofs.Common.{◌≡◌, List, map as each, refl, sym, ap, ◌�
 use Rattle.std.specs.FinMap as map
 use Rattle.fx_base.specs.Extended.{extended}
 use Rattle.fx_active.specs.declared.inputs.Inputs as active
-use Rattle.fx_joined.proofs.Composing.{composed}
+use Rattle.fx_graph_rules.proofs.Composing.{composed}
 use Rattle.fx_graph.proofs.Serving.{IsServing, Served, serving_first, serving_next, serving_last}
 use Rattle.fx_graph.proofs.service.serve_each.Goals as goal
 

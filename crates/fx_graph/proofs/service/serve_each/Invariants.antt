@@ -1,7 +1,7 @@
 use Rattle.std.proofs.Common.{◌≡◌, ℕ, List, map as each}
 use Rattle.std.specs.FinMap as map
 use Rattle.fx_base.specs.Extended.{extended}
-use Rattle.fx_joined.specs.Uppers.{IsUpper, IsUpperForSome}
+use Rattle.fx_graph_rules.specs.Uppers.{IsUpper, IsUpperForSome}
 use Rattle.fx_graph.proofs.Serving.{IsServing}
 use Rattle.fx_graph.proofs.service.serve_each.Given as goal
 

@@ -1,9 +1,9 @@
 use Rattle.std.proofs.Common.{◌≡◌, None, refl, sym, ◌∙◌, subst}
-use Rattle.fx_joined.specs.Run.{IsRun}
+use Rattle.fx_graph_rules.specs.Run.{IsRun}
 use Rattle.fx_resolver.specs.Resolved.{IsResolved}
 use Rattle.fx_scanner.specs.Scanned.{IsScanned}
-use Rattle.fx_told.specs.Knowing.{AreKnown}
-use Rattle.fx_feed.specs.Used.{used_in}
+use Rattle.fx_graph_view.specs.Knowing.{AreKnown}
+use Rattle.fx_graph.specs.Used.{used_in}
 use Rattle.fx_graph.specs.Taking.{taken_of}
 use Rattle.fx_graph.proofs.nodes.Nodes.forget.Goals as goal
 

@@ -1,8 +1,8 @@
 use Rattle.std.proofs.Common.{◌≡◌, None, refl, sym, ◌∙◌, subst}
-use Rattle.fx_joined.specs.Composed.{IsComposed}
-use Rattle.fx_joined.specs.Counting.{with_some}
-use Rattle.fx_joined.specs.Uppers.{IsUpper}
-use Rattle.fx_feed.specs.Used.{used_in}
+use Rattle.fx_graph_rules.specs.Composed.{IsComposed}
+use Rattle.fx_graph_rules.specs.Counting.{with_some}
+use Rattle.fx_graph_rules.specs.Uppers.{IsUpper}
+use Rattle.fx_graph.specs.Used.{used_in}
 use Rattle.fx_graph.specs.Taking.{taken_of}
 use Rattle.fx_graph.specs.Ahead.{IsAhead}
 use Rattle.fx_graph.proofs.Kept.{ahead}

@@ -1,10 +1,10 @@
 use Rattle.std.proofs.Common.{◌≡◌, refl, sym, ◌∙◌, subst}
-use Rattle.fx_joined.specs.Run.{IsRun}
+use Rattle.fx_graph_rules.specs.Run.{IsRun}
 use Rattle.fx_members.specs.Members.{AreMembers}
 use Rattle.fx_resolver.specs.Resolved.{IsResolved}
 use Rattle.fx_scanner.specs.Scanned.{IsScanned}
-use Rattle.fx_told.specs.Knowing.{AreKnown}
-use Rattle.fx_parts.specs.Noted.{AreNoted}
+use Rattle.fx_graph_view.specs.Knowing.{AreKnown}
+use Rattle.fx_graph_view.specs.Noted.{AreNoted}
 use Rattle.fx_graph.specs.Taking.{taken_of}
 use Rattle.fx_graph.proofs.nodes.Nodes.settle.Goals as goal
 

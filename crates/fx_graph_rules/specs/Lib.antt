@@ -1,0 +1,8 @@
+pub mod Run
+pub mod Joining
+pub mod Counting
+pub mod Composed
+pub mod Uppers
+pub mod Touched
+pub mod PairRun
+pub mod Logged

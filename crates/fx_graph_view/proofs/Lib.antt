@@ -1,0 +1,4 @@
+pub mod NotedLemmas
+pub mod NotedKept
+pub mod Brought
+pub mod Withouts

@@ -1,0 +1,23 @@
+-- What the resolver knows of policies.
+use Rattle.std.specs.Prelude.{◌≡◌, Option, None, option_map}
+use Rattle.std.specs.FinMap as map
+use Rattle.fx_names.specs.Digests.{Digest}
+use Rattle.fx_model.specs.Sinks.{Policies}
+use Rattle.fx_model.specs.Views.{policy_key}
+use Rattle.fx_model.specs.declared.ids.PolicyId.{PolicyId}
+use Rattle.fx_model.specs.contracts.ids.PolicyIdOrd.TheImpl as policy_cmp
+use Rattle.fx_resolver.specs.Known.{known_policy, KnownPolicies}
+use Rattle.fx_resolver.specs.declared.known.KnownPolicy.{KnownPolicy}
+use Rattle.fx_graph_rules.specs.Touched.{Keys}
+
+-- a policy that may be absent, as it is known
+abbrev pub known_at : Digest → Policies → PolicyId → Option KnownPolicy
+known_at dg policies id = option_map (known_policy (policy_key dg id)) (map.get policies id)
+
+-- these policies are known, and no others
+abbrev pub AreKnown : Digest → Policies → KnownPolicies → Type 0
+AreKnown dg policies known = (id : PolicyId) → map.get known id ≡ known_at dg policies id
+
+-- the same, but for those that were touched
+abbrev pub IsBehind : Digest → Keys policy_cmp.cmp-value.it → Policies → KnownPolicies → Type 0
+IsBehind dg touched policies known = (id : PolicyId) → map.get touched id ≡ None → map.get known id ≡ known_at dg policies id

@@ -1,0 +1,105 @@
+//! The resolver, brought to the policies and pairs that the active rules told.
+ghost use Rattle.std.specs.Prelude.{◌≡◌, OnOk, IfOk};
+ghost use Rattle.fx_model.specs.Views.{policy_key};
+ghost use Rattle.fx_resolver.specs.Resolved.{IsResolved};
+ghost use Rattle.fx_graph_view.specs.Knowing.{IsBehind, AreKnown};
+ghost use Rattle.fx_graph_rules.specs.PairRun.{IsPairRun};
+
+use fx_base::{Memory, NameKey};
+use fx_graph_rules::{Logged, PolicyPairChange};
+use fx_model::{Policy, PolicyId, PolicyMap, PolicyPairSet, ViewSink};
+use fx_names::{DigestFunction, DigestRule, Namer, Prefix};
+use fx_resolver::Resolver;
+use std::alloc::Global;
+
+fn policy_key<R: DigestRule, F: DigestFunction<R> + Drop>(
+    alloc: Global,
+    id: &PolicyId,
+    namer: &Namer<R, F>,
+) -> Result<NameKey, Memory>
+    ensures { IfOk result (λ key. key ≡ policy_key R.digest_of id.now) }
+{
+    let text = id.text(alloc)?;
+    Ok(namer.key(Prefix::PolicyIn, text.bytes()))
+}
+
+/// A policy that stays is put in its place: its endpoints' lists change only where the policy's place or directions do.
+fn resolve_policies<R: DigestRule, F: DigestFunction<R> + Drop, S: ViewSink>(
+    alloc: Global,
+    touched: &PolicyMap<()>,
+    policies: &PolicyMap<Policy>,
+    namer: &Namer<R, F>,
+    resolver: &mut Resolver,
+    sink: &mut S,
+) -> Result<(), Memory>
+    requires behind { IsBehind R.digest_of touched.now policies.now resolver.old.policies }
+    requires resolved { IsResolved resolver.old (S.endpoints sink.old) }
+    ensures inputs { OnOk result (resolver.new ≡ record resolver.old { policies = resolver.new.policies }) }
+    ensures known { OnOk result (AreKnown R.digest_of policies.now resolver.new.policies) }
+    ensures resolved { OnOk result (IsResolved resolver.new (S.endpoints sink.new)) }
+    ensures policies { OnOk result (S.policies sink.new ≡ S.policies sink.old) }
+    ensures profiles { OnOk result (S.profiles sink.new ≡ S.profiles sink.old) }
+{
+    for (id, _) in touched.iter() {
+        let Some(policy) = policies.get(id) else {
+            resolver.policy_off(id, sink)?;
+            continue;
+        };
+        let key = policy_key(alloc, id, namer)?;
+        resolver.policy_on(id, key, policy, sink)?;
+    }
+    Ok(())
+}
+
+/// Changes of pairs, in their order.
+fn resolve_pairs<S: ViewSink>(
+    changes: &[PolicyPairChange],
+    pairs: &PolicyPairSet,
+    resolver: &mut Resolver,
+    sink: &mut S,
+) -> Result<(), Memory>
+    requires run { IsPairRun changes.now resolver.old.pairs pairs.now }
+    requires resolved { IsResolved resolver.old (S.endpoints sink.old) }
+    ensures inputs { OnOk result (resolver.new ≡ record resolver.old { pairs = pairs.now }) }
+    ensures resolved { OnOk result (IsResolved resolver.new (S.endpoints sink.new)) }
+    ensures policies { OnOk result (S.policies sink.new ≡ S.policies sink.old) }
+    ensures profiles { OnOk result (S.profiles sink.new ≡ S.profiles sink.old) }
+{
+    for change in changes {
+        if change.on {
+            resolver.pair_on(&change.policy, &change.item, sink)?;
+        } else {
+            resolver.pair_off(&change.policy, &change.item, sink)?;
+        }
+    }
+    Ok(())
+}
+
+/// Brings the resolver to the policies and pairs that stand now.
+pub fn resolve_through<R: DigestRule, F: DigestFunction<R> + Drop, S: ViewSink>(
+    alloc: Global,
+    logged: &Logged,
+    namer: &Namer<R, F>,
+    resolver: &mut Resolver,
+    sink: &mut S,
+) -> Result<(), Memory>
+    requires behind { IsBehind R.digest_of logged.now.policies logged.now.told.policies resolver.old.policies }
+    requires run { IsPairRun logged.now.pairs resolver.old.pairs logged.now.told.pairs }
+    requires resolved { IsResolved resolver.old (S.endpoints sink.old) }
+    ensures inputs { OnOk result (resolver.new ≡ record resolver.old { policies = resolver.new.policies; pairs = logged.now.told.pairs }) }
+    ensures known { OnOk result (AreKnown R.digest_of logged.now.told.policies resolver.new.policies) }
+    ensures resolved { OnOk result (IsResolved resolver.new (S.endpoints sink.new)) }
+    ensures policies { OnOk result (S.policies sink.new ≡ S.policies sink.old) }
+    ensures profiles { OnOk result (S.profiles sink.new ≡ S.profiles sink.old) }
+{
+    resolve_policies(
+        alloc,
+        &logged.policies,
+        &logged.told.policies,
+        namer,
+        resolver,
+        sink,
+    )?;
+    resolve_pairs(logged.pairs.as_slice(), &logged.told.pairs, resolver, sink)?;
+    Ok(())
+}

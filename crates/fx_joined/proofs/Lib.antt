@@ -1,5 +1,0 @@
-pub mod Runs
-pub mod Counts
-pub mod Composing
-pub mod Uppers
-pub mod SameTold

@@ -1,9 +1,0 @@
-use Rattle.fx_joined.proofs.Composing.{composed}
-use Rattle.fx_joined.proofs.Uppers.{upper_at}
-use Rattle.fx_joined.proofs.nodes.Upper.forget.Goals as goal
-
-pub returns-in_default-clause-composed : goal.returns-in_default-clause-composed
-returns-in_default-clause-composed g c = composed _ _ _ _ _ c.requires.1
-
-pub returns-clause-upper : goal.returns-clause-upper
-returns-clause-upper g c used u = c.in_ok-changes.ensures.upper used (upper_at _ _ _ used _ _ _ c.in-Some.is u)

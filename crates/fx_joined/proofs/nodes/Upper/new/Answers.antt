@@ -1,5 +1,0 @@
-use Rattle.fx_joined.proofs.Uppers.{upper_none}
-use Rattle.fx_joined.proofs.nodes.Upper.new.Goals as goal
-
-pub returns-clause-upper : goal.returns-clause-upper
-returns-clause-upper c = upper_none _ c.new.ensures.joined (λ k. (c.new.ensures.index k).selectors) (λ k. (c.new.ensures.active k).policies)

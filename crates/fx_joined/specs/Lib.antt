@@ -1,5 +1,0 @@
-pub mod Run
-pub mod Joining
-pub mod Counting
-pub mod Composed
-pub mod Uppers

@@ -1,3 +1,0 @@
-pub mod LoggedLemmas
-pub mod ActiveChanges
-pub mod PairRuns

@@ -1,3 +1,0 @@
-pub mod Touched
-pub mod PairRun
-pub mod Logged

@@ -1,2 +1,0 @@
-pub mod NotedLemmas
-pub mod NotedKept
