@@ -245,7 +245,8 @@ impl Upper {
         Ok(())
     }
 
-    /// Puts any other item: an endpoint of another node, one that isn't in service, or a network set.
+    /// Puts any other item: an endpoint of another node, one that isn't in service, or a network set. If it was an endpoint of this
+    /// node until now, the active rules let go of it before its labels change.
     pub fn put_other<S: ActiveSink, T: Ticker>(
         &mut self,
         key: &ItemKey,
@@ -264,8 +265,8 @@ impl Upper {
         ensures composed { OnOk result (IsComposed self.new.joined.index self.new.joined.active
             (S.policies sink.new) (S.profiles sink.new) (S.pairs sink.new)) }
     {
-        let changes = self.joined.put_item(key, labels, profiles, sink, ticks)?;
         self.joined.active.remove_endpoint(key, sink)?;
+        let changes = self.joined.put_item(key, labels, profiles, sink, ticks)?;
         Ok(changes)
     }
 
