@@ -1,6 +1,5 @@
 -- What holds of a replay's agent, and what its calls ask for.
-use Rattle.std.proofs.Common.{◌≡◌, Bool, false, Result, Ok, Err}
-use Rattle.std.specs.Prelude.{OnOk}
+use Rattle.std.proofs.Common.{◌≡◌, Bool, false}
 use Rattle.fx_names.specs.Digests.{Digest}
 use Rattle.fx_driver.specs.declared.driver.Driver.{Driver}
 use Rattle.fx_graph.specs.declared.state.GraphState.{GraphState}
@@ -15,9 +14,3 @@ module _ {dg : Digest} {s : Store} {g : GraphState} {d : Driver} {failed : Bool}
 
   pub agent-ready : IsAgent dg s g d failed → failed ≡ false → IsReady dg s g d failed
   agent-ready is still = record { still = still; sound = is.sound still }
-
--- after a call that succeeds
-pub ok-ready : (dg : Digest) (s : Store) (g : GraphState) (d : Driver) (failed : Bool) {T E : Type 0} (r : Result T E)
-    → IsAgent dg s g d failed → OnOk r (failed ≡ false) → OnOk r (IsReady dg s g d failed)
-ok-ready dg s g d failed (Ok x) is still = agent-ready is still
-ok-ready dg s g d failed (Err e) is still = tt

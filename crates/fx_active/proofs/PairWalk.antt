@@ -81,10 +81,6 @@ pub pairs_end : (row after : ItemKey → Bool) (id : PolicyId) (s s' : PolicyPai
     → (q : PolicyId) (i : ItemKey) → set.contains s' (q, i) ≡ cond (same_id q id && row i) (after i) (set.contains s (q, i))
 pairs_end row after id s s' w h q i = h.half.at i q
 
--- no endpoint
-pub none_paired : (after : ItemKey → Bool) (id : PolicyId) (s : PolicyPairs) (q : PolicyId) (i : ItemKey) → set.contains s (q, i) ≡ cond (same_id q id && false) (after i) (set.contains s (q, i))
-none_paired after id s q i = sym (ap (λ b. cond b (after i) (set.contains s (q, i))) (never (same_id q id)))
-
 -- ---- first the endpoints to which it applied, then those to which it applies
 module _ (before after : ItemKey → Bool) (id : PolicyId) (s s' s'' : PolicyPairs) (was : (i : ItemKey) → set.contains s (id, i) ≡ before i)
     (first : (q : PolicyId) (i : ItemKey) → set.contains s' (q, i) ≡ cond (same_id q id && before i) (after i) (set.contains s (q, i))) where

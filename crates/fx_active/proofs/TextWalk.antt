@@ -171,8 +171,3 @@ module _ (E : Endpoints) (M : Pairs) (item : ItemKey) (w : Texts) (covers : (t :
       policies_now = λ id. h.updated.policies_now id ∙ ap (λ x. cond (x && not (holds_of E M (get policies id))) (cond added (get policies id) None) (get m id)) (unleft (get policies id));
       pairs_now = λ id i. h.updated.pairs_now id i ∙ ap (λ x. cond (x && same_item i item) added (set.contains s (id, i))) (unleft (get policies id));
     }
-
--- no selector holds on the item
-pub none_selects : (M : Pairs) (item : ItemKey) → ((t : List ℕ) → set.contains M (t, item) ≡ false) → (o : Option Policy) → selects M item o ≡ false
-none_selects M item none None = refl
-none_selects M item none (Some p) = ap (λ b. has_types p && b) (none (text_of p)) ∙ never (has_types p)

@@ -5,7 +5,7 @@ use Rattle.std.specs.Cmp.{tied_itself}
 use Rattle.std.specs.FinMap.{FinMap, get, entries, get-entries, get-insert, get-remove}
 use Rattle.fx_base.specs.Set as set
 use Rattle.fx_base.proofs.Walk.{IsRest, IsHalf, IsRest-start, IsRest-next, IsHalf-head, IsHalf-next}
-use Rattle.fx_model.specs.Pairs.{Pairs, PolicyPairs, put}
+use Rattle.fx_model.specs.Pairs.{PolicyPairs, put}
 use Rattle.fx_model.specs.Sinks.{Policies}
 use Rattle.fx_model.specs.declared.ids.ItemKey.{ItemKey}
 use Rattle.fx_model.specs.declared.ids.PolicyId.{PolicyId}
@@ -14,7 +14,7 @@ use Rattle.fx_model.specs.contracts.ids.PolicyIdOrd.TheImpl.{cmp-value}
 use Rattle.fx_model.proofs.Orders.{policy_total, exact_policy}
 use Rattle.fx_model.proofs.PairAt.{contains_put_policy_pair}
 use Rattle.fx_model.specs.Active.{has_types}
-use Rattle.fx_active.specs.Steps.{same_id, same_item, insert_or_remove, selects, typed, is_typed, IsUpdated}
+use Rattle.fx_active.specs.Steps.{same_id, same_item, insert_or_remove, typed, is_typed, IsUpdated}
 use Rattle.fx_base.proofs.Cases.{first_true, both_true}
 
 abbrev pub own_policy : Policies → PolicyId → Unit {0} → Option Policy
@@ -129,10 +129,6 @@ module _ {X : Type 0} (policies : Policies) (concerned others : PolicyId → Boo
 
   pub half_end : (m' : Policies) (s' : PolicyPairs) → IsHalfUpdated policies concerned others item added m s w m' s' [] → IsUpdated policies concerned others item added m s m' s'
   half_end m' s' h = record { policies_now = λ id. h.policies_half.at id tt; pairs_now = λ id i. h.pairs_half.at id i }
-
-pub selects_there : (matched : Pairs) (i : ItemKey) (o : Option Policy) → selects matched i o ≡ true → is_some o ≡ true
-selects_there matched i None h = cc
-selects_there matched i (Some p) h = refl
 
 pub typed_there : (o : Option Policy) (p : Policy) → Some p ≡ typed o → (o ≡ Some p) × (is_typed o ≡ true)
 typed_there None p h = cc

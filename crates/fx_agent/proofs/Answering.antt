@@ -35,9 +35,6 @@ no_some e = cc
 pub sent-tells : {Same : Type 0} → (true ≡ false) ↔ Same → (pulled.Sent ≡ pulled.Nothing) ↔ Same
 sent-tells none = (λ is. no_nothing is, λ same. no_some (none.1 same))
 
-pub nothing-tells : {Same : Type 0} → (false ≡ false) ↔ Same → (pulled.Nothing ≡ pulled.Nothing) ↔ Same
-nothing-tells none = (λ is. none.0 refl, λ same. refl)
-
 -- ---- whether a message is pending
 
 is_true : (b : Bool) → (b ≡ false → true ≡ false) → b ≡ true

@@ -1,5 +1,5 @@
 -- A sequencer and a driver go on by one message.
-use Rattle.std.proofs.Common.{◌≡◌, true, Some, None, Option, sym, subst}
+use Rattle.std.proofs.Common.{◌≡◌, true, Some, Option, sym, subst}
 use Rattle.fx_model.specs.declared.resources.Resources.{Resources}
 use Rattle.fx_model.specs.declared.view.View.{View}
 use Rattle.fx_model.specs.Formed.{are_formed}
@@ -59,13 +59,5 @@ module _ (sides : Sides) (driver : Driver) (was : IsDriven sides driver) where
   driven-on c is after follows = record {
     drives = follows sent now was.drives (is-step c is);
     from = subst (λ (o : Option Change). IsDrivable (step_by o sent now)) (sym is) (stepped-drivable c is);
-    to = was.to;
-  }
-
-  -- and where there is none, all stays
-  pub driven-still : next_message sent now ≡ None → IsDriven (record { sent = step sent now; now = now }) driver
-  driven-still none = record {
-    drives = subst (λ (o : Option Change). Drives driver (step_by o sent now)) (sym none) was.drives;
-    from = subst (λ (o : Option Change). IsDrivable (step_by o sent now)) (sym none) was.from;
     to = was.to;
   }

@@ -1,5 +1,5 @@
 -- Tables in which chains are written and deleted, one after another.
-use Rattle.std.proofs.Common.{◌≡◌, ◌≢◌, List, ◌∷◌, sym, ap, ◌∙◌, subst}
+use Rattle.std.proofs.Common.{◌≡◌, ◌≢◌, List, sym, ap, ◌∙◌, subst}
 use Rattle.std.specs.List.{AllByRecursion}
 use Rattle.std.specs.FinMap as maps
 use Rattle.fx_base.specs.Extended.{extended}
@@ -13,9 +13,6 @@ use Rattle.fx_driver.specs.Driven.{HasFirst}
 
 abbrev pub chains_to : Tables → Chains → Tables
 chains_to t chains = record t { chains = chains }
-
-pub first_same : (s t : Tables) → t ≡ s → HasFirst s.chains → HasFirst t.chains
-first_same s t is h = ap (λ (u : Tables). maps.contains_key u.chains forward) is ∙ h
 
 pub first_written : (s t : Tables) (name : ChainName) (rules : List ChainRule) → t ≡ chains_to s (maps.insert s.chains name rules) → HasFirst s.chains → HasFirst t.chains
 first_written s t name rules is h = ap (λ (u : Tables). maps.contains_key u.chains forward) is ∙ there_insert s.chains name rules forward h
@@ -34,24 +31,9 @@ pub record IsWriting (first now : Tables) (all left : List (ChainName × List Ch
   pub whole : chains_to now (extended now.chains left) ≡ chains_to first (extended first.chains all)
   pub kept : HasFirst first.chains → HasFirst now.chains
 
-pub writing_next : (first now next : Tables) (all : List (ChainName × List ChainRule)) (e : ChainName × List ChainRule) (es : List (ChainName × List ChainRule)) → IsWriting first now all (e ∷ es) → next ≡ chains_to now (maps.insert now.chains e.0 e.1) → IsWriting first next all es
-writing_next first now next all e es i is = record {
-  writable = subst (λ (t : Tables). CanBeWritten t.sets t.chains es) (sym is) i.writable.1;
-  whole = ap (λ (t : Tables). chains_to t (extended t.chains es)) is ∙ i.whole;
-  kept = λ h. first_written now next e.0 e.1 is (i.kept h);
-}
-
 -- chains are deleted
 pub record IsDeleting (first now : Tables) (all left : List ChainName) : Type 0 where
   pub unused : CanBeDeleted now.chains left
   pub others : AllByRecursion (λ name. forward ≢ name) left
   pub whole : chains_to now (without now.chains left) ≡ chains_to first (without first.chains all)
   pub kept : HasFirst first.chains → HasFirst now.chains
-
-pub deleting_next : (first now next : Tables) (all : List ChainName) (n : ChainName) (ns : List ChainName) → IsDeleting first now all (n ∷ ns) → next ≡ chains_to now (maps.remove now.chains n) → IsDeleting first next all ns
-deleting_next first now next all n ns i is = record {
-  unused = subst (λ (t : Tables). CanBeDeleted t.chains ns) (sym is) i.unused.1;
-  others = i.others.1;
-  whole = ap (λ (t : Tables). chains_to t (without t.chains ns)) is ∙ i.whole;
-  kept = λ h. first_deleted now next n i.others.0 is (i.kept h);
-}

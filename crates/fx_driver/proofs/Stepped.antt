@@ -139,16 +139,5 @@ module _ (s w : View) (k : List ℕ) where
       no_false : true ≡ false → ⊥
       no_false e = cc
 
-  -- chains that have the tree of the endpoints as they are wanted, and all else with the endpoint's chains
-  pub endpoint_step : (chains : Chains) → ((q : ChainName) → is_dispatch q ≡ true → maps.get chains q ≡ maps.get (tree_of (maps.keys with_endpoint.endpoints)) q) → ((q : ChainName) → is_dispatch q ≡ false → maps.get chains q ≡ maps.get (endpoint_set (driven_chains s)) q) → chains ≡ driven_chains with_endpoint
-  endpoint_step chains tree others = same_by_get chains (driven_chains with_endpoint) (λ q. by_test q (is_dispatch q) refl)
-    where
-      by_test : (q : ChainName) (b : Bool) → is_dispatch q ≡ b → maps.get chains q ≡ maps.get (driven_chains with_endpoint) q
-      by_test q true h = tree q h ∙ sym (dispatch_at with_endpoint q h)
-      by_test q false h = others q h ∙ sym (endpoint_others q h)
-
   abbrev pub with_set : View
   with_set = record s { sets = taken_from s.sets w.sets k }
-
-  pub set_step : driven_chains with_set ≡ driven_chains s
-  set_step = refl

@@ -11,10 +11,6 @@ no_unit : (x : Unit {0}) → Some x ≡ None → ⊥
 no_unit x e = cc
 
 module _ {K X : Type 0} {R : K → K → Ordering} (o : IsTotalOrder R) where
-  -- nothing was touched at the start
-  pub touched_none : (touched : Keys R) (start now : FinMap R X) → start ≡ now → IsTouched touched start now
-  touched_none touched start now same = record { at = λ k e. ap (λ m. get m k) same }
-
   -- one is touched
   pub touched_more : (touched after : Keys R) (start now : FinMap R X) (k : K) → IsTouched touched start now → after ≡ insert touched k tt → IsTouched after start now
   touched_more touched after start now k h made = record {

@@ -5,7 +5,7 @@ use Rattle.std.specs.Cmp.Lexicographic.{slice_cmp}
 use Rattle.std.specs.FinMap as map
 use Rattle.fx_base.specs.Set as set
 use Rattle.fx_base.proofs.Entries.{entries-empty}
-use Rattle.fx_selector.specs.Tree.{Tree, IsSelector}
+use Rattle.fx_selector.specs.Tree.{IsSelector}
 use Rattle.fx_selector.specs.Canonical.{canonical_text}
 use Rattle.fx_model.specs.Pairs.{PolicyPairs}
 use Rattle.fx_model.specs.Sinks.{Policies, Profiles}
@@ -42,9 +42,6 @@ some_used used t (Some p) = refl
 
 -- ---- what is counted
 module _ (s : Selectors) (m : Policies) (used : List ℕ → ℕ) (text : List ℕ) where
-  pub counted_more : (tree : Tree) → IsSelector tree → text ≡ canonical_text tree → IsCounted s (total m used) → IsCounted (raised s text tree) (total m (with_one text used))
-  counted_more tree is at h = recounted _ _ _ (raised_counted s (total m used) h text tree is at) (λ t. moved (cond (text_eq t text) 1 0) (times m t) (used t))
-
   pub counted_less : IsCounted s (total m (with_one text used)) → IsCounted (lowered s text) (total m used)
   counted_less h = lowered_counted s (total m (with_one text used)) (total m used) h text (λ t. sym (moved (cond (text_eq t text) 1 0) (times m t) (used t)))
 
@@ -114,17 +111,6 @@ module _ (j : Joined) (used : List ℕ → ℕ) (P : Policies) (Q : Profiles) (S
         (subst (λ m. IsCounted j.index.selectors (total m (with_some (selector_text (map.get j.active.policies id)) used))) (sym removed)
         (counted_gone j.index.selectors j.active.policies used u.counted id)));
     selectors = subst AreSelectors (sym removed) (selectors_gone j.active.policies id u.selectors);
-  }
-
-  -- a selector is used once more
-  pub upper_more : (text : List ℕ) (tree : Tree) → IsSelector tree → text ≡ canonical_text tree
-      → j'.index.selectors ≡ raised j.index.selectors text tree → j'.active.policies ≡ j.active.policies → IsUpper j' (with_one text used) P' Q' S'
-  upper_more text tree is at counted kept = record {
-    joined = joined;
-    counted = subst (λ s. IsCounted s (total j'.active.policies (with_one text used))) (sym counted)
-        (subst (λ m. IsCounted (raised j.index.selectors text tree) (total m (with_one text used))) (sym kept)
-        (counted_more j.index.selectors j.active.policies used text tree is at u.counted));
-    selectors = subst AreSelectors (sym kept) u.selectors;
   }
 
   -- neither the policies nor the counted selectors changed

@@ -87,18 +87,6 @@ pub endpoint_not_first : (d : Direction) (k : List ℕ) → is (endpoint_chain d
 endpoint_not_first Ingress k = refl
 endpoint_not_first Egress k = refl
 
-pub first_not_policy : (d : Direction) (k : List ℕ) → is forward (policy_chain d k) ≡ false
-first_not_policy Ingress k = refl
-first_not_policy Egress k = refl
-
-pub first_not_profile : (d : Direction) (k : List ℕ) → is forward (profile_chain d k) ≡ false
-first_not_profile Ingress k = refl
-first_not_profile Egress k = refl
-
-pub first_not_endpoint : (d : Direction) (k : List ℕ) → is forward (endpoint_chain d k) ≡ false
-first_not_endpoint Ingress k = refl
-first_not_endpoint Egress k = refl
-
 -- a test that tells two names apart
 pub told_apart : (test : ChainName → Bool) (q n : ChainName) (a b : Bool) → test q ≡ a → test n ≡ b → (a ≡ b → ⊥) → is q n ≡ false
 told_apart test q n a b at_q at_n differ = by_test (is q n) refl

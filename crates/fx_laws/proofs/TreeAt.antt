@@ -117,10 +117,6 @@ module _ (names : List (List ℕ)) where
       (children-lines Ingress branches_in i ++ (root_of Ingress, root_rules Ingress names) ∷ [])
       ++ (children-lines Egress branches_in i ++ (root_of Egress, root_rules Egress names) ∷ [])
 
-  -- among other chains
-  pub tree-past : (q : ChainName) → IsElsewhere q → (o : Option (List ChainRule)) → last (dispatch_chains_of names) q o ≡ o
-  tree-past q h o = ap (λ es. last es q o) tree-both ∙ both-elsewhere chain_of (λ d. Some (root_rules d names)) branches_in q h o
-
   tree-last : (q : ChainName) → maps.get (collected {R = slice_cmp nat_cmp} (dispatch_chains_of names)) q ≡ last (both chain_of (λ d. Some (root_rules d names)) branches_in) q None
   tree-last q = get-collected (dispatch_chains_of names) q ∙ ap (λ es. last es q None) tree-both
 

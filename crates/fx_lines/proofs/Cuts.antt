@@ -1,8 +1,7 @@
 -- How lines are cut off the beginning of some bytes.
-use Rattle.std.proofs.Common.{◌≡◌, ◌≢◌, ◌⊎◌, inl, inr, ⊎_elim, ◌<◌, ◌≤◌, ◌+◌, ℕ, suc, List, [], ◌∷◌, ◌++◌, length, slice_index, Bool, true, false, Option, Some, None, refl, sym, ◌∙◌, ap, subst, arith, length-append, append_assoc}
+use Rattle.std.proofs.Common.{◌≡◌, ◌≢◌, ◌⊎◌, inl, inr, ◌<◌, ◌+◌, ℕ, suc, List, [], ◌∷◌, ◌++◌, length, slice_index, Bool, true, false, Option, Some, None, refl, sym, ◌∙◌, ap, subst, arith, length-append, append_assoc}
 use Rattle.std.proofs.Common.{cond, Result, Ok, Err, OnErr}
-use Rattle.std.proofs.lemmas.List.{append-nil, get_or_append_left}
-use Rattle.std.proofs.lemmas.Bool.{cases_lt}
+use Rattle.std.proofs.lemmas.List.{append-nil}
 use Rattle.std.proofs.lemmas.Bool.Decides.{nat_tests}
 use Rattle.fx_base.specs.Streams.{SourceState, Gives}
 use Rattle.fx_base.proofs.Compose.{Gives-more, Gives-none}
@@ -33,30 +32,13 @@ lines_of-last (b ∷ c ∷ line) none some =
     let n : b ≢ 10 = none.0 in
     grind (arith, nat_tests, e)
 
--- a place before `at` is before `from` or not
-pub places_below : (P : ℕ → Type 0) (from at : ℕ) → ((k : ℕ) → k < from → P k) → ((k : ℕ) → from ≤ k → k < at → P k) → (k : ℕ) → k < at → P k
-places_below P from at below above k small = ⊎_elim (below k) (λ high. above k high small) (cases_lt k from)
-
 -- no newline stands before a place
 abbrev pub NoneBefore : List ℕ → ℕ → Type 0
 NoneBefore bytes at = (k : ℕ) → k < at → slice_index bytes k ≢ 10
 
-pub none_before : (held bytes : List ℕ) (from at : ℕ) → bytes ≡ held → NoneBefore held from → ((k : ℕ) → from ≤ k → k < at → slice_index bytes k ≢ 10) → NoneBefore held at
-none_before held bytes from at same below above =
-    places_below (λ k. slice_index held k ≢ 10) from at below (subst (λ (l : List ℕ). (k : ℕ) → from ≤ k → k < at → slice_index l k ≢ 10) same above)
-
 pub none_in_prefix : (line rest : List ℕ) → NoneBefore (line ++ rest) (length line) → HasNoNewline line
 none_in_prefix [] rest none = tt
 none_in_prefix (b ∷ line) rest none = (none 0 (omega arith), none_in_prefix line rest (λ k small. none (suc k) (omega arith)))
-
-pub none_goes_on : (bytes more : List ℕ) (at : ℕ) → at ≤ length bytes → NoneBefore bytes at → NoneBefore (bytes ++ more) at
-none_goes_on bytes more at within none k small = subst (λ (x : ℕ). x ≢ 10) (sym (get_or_append_left bytes more 0 k (omega arith))) (none k small)
-
-pub line_is_next : (before piece held line now : List ℕ) (ended : Bool) (at : ℕ) → held ≡ before ++ piece → held ≡ line ++ 10 ∷ now → length line ≡ at → NoneBefore held at → IsNext before piece (Some line) now ended
-line_is_next before piece held line now ended at whole is long none = (
-  none_in_prefix line (10 ∷ now) (subst (λ (n : ℕ). NoneBefore (line ++ 10 ∷ now) n) (sym long) (subst (λ (l : List ℕ). NoneBefore l at) is none)),
-  inl (sym whole ∙ is),
-)
 
 pub last_is_next : (before piece held : List ℕ) (found : Bool) (line now : List ℕ) (ended : Bool) → held ≡ before ++ piece
     → (found ≡ true → (line ≡ held) × (0 < length line)) → (found ≡ false → held ≡ []) → now ≡ [] → ended ≡ true → HasNoNewline held

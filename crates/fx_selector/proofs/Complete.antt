@@ -1,7 +1,7 @@
 -- A whole text is read exactly.
 use Rattle.std.proofs.Common.{◌≡◌, ℕ, ◌<◌, true, inl, inr, List, [], ◌∷◌, ◌++◌, refl, sym, ap, subst, ◌∙◌, append_assoc, append-nil}
 use Rattle.fx_selector.specs.Phrase.{Ends, Starts, Each, is_blank, not_blank}
-use Rattle.fx_selector.specs.Reading.{Cause, Res, Got, Stop, skip}
+use Rattle.fx_selector.specs.Reading.{Res, Got, Stop, skip}
 use Rattle.fx_selector.specs.Language.{Or, Not, SelectorText, or_ends}
 use Rattle.fx_selector.specs.Tree.{Tree, all}
 use Rattle.fx_selector.specs.Reader.{or_of, not_of, at_end, from_start, parsed}
@@ -98,7 +98,3 @@ module _ (limit : ℕ) (pos : 0 < limit) (n depth : ℕ) where
   -- a text says at most one tree
   pub one_tree : (text : List ℕ) (t u : Tree) → W text t → W text u → t ≡ u
   one_tree text t u h k = let e : Got t [] ≡ Got u [] = sym (whole_complete text t h) ∙ whole_complete text u k in cc
-
-  -- no text of the language goes on so
-  pub dead : (text taken : List ℕ) (why : Cause) (c : ℕ) (other : List ℕ) (t : Tree) → whole (taken ++ c ∷ other) ≡ Stop why (c ∷ other) → W (taken ++ c ∷ other) t → ⊥
-  dead text taken why c other t e h = let z : Got t [] ≡ Stop why (c ∷ other) = sym (whole_complete (taken ++ c ∷ other) t h) ∙ e in cc

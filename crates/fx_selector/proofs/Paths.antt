@@ -1,7 +1,7 @@
 -- Which way a reader goes.
 use Rattle.std.proofs.Common.{◌≡◌, ◌≢◌, ℕ, zero, suc, ◌-◌, true, false, cond, eqb, List, [], ◌∷◌, length, refl, sym, ap, ◌∙◌, arith}
 use Rattle.fx_selector.specs.Reading.{unexpected, Res, Got, Stop, bind, choose, mapped, mark, skip, word, led, begins_with}
-use Rattle.fx_selector.specs.Tree.{Tree, within, negated}
+use Rattle.fx_selector.specs.Tree.{Tree, within}
 use Rattle.fx_selector.specs.Reader.{in_set, equal_test, unequal_test, outside_test, contains_test, starts_test, ends_test, call, test, word_test, atom, or_of, not_of, at_end, from_start, parsed}
 
 pub choose_yes : {A : Type 0} (b : ℕ) (r s : List ℕ → Res A) (text : List ℕ) → begins_with b text ≡ true → choose (λ c. eqb c b) r s text ≡ r text
@@ -71,10 +71,6 @@ module _ (limit n : ℕ) (rest w behind after : List ℕ) (read : word limit res
 
 -- at a `!` or a `(`
 module _ (limit n : ℕ) where
-  pub bang_here : (d : ℕ) (rest : List ℕ) → begins_with 33 rest ≡ true → not_of limit n (suc d) rest ≡ bind (mark (33 ∷ []) rest) (λ _. mapped negated (not_of limit n d))
-  bang_here d [] e = cc
-  bang_here d (c ∷ cs) e = rw e refl
-
   pub group_here : (d : ℕ) (rest : List ℕ) → begins_with 33 rest ≡ false → begins_with 40 rest ≡ true → not_of limit n (suc d) rest ≡ bind (mark (40 ∷ []) rest) (λ _. λ y. bind (or_of (not_of limit n d) n y) (λ t. mapped (λ _. t) (mark (41 ∷ []))))
   group_here d [] e f = cc
   group_here d (c ∷ cs) e f = rw (e, f) refl

@@ -21,8 +21,8 @@ use Rattle.fx_model.specs.declared.member.Member.{Member}
 use Rattle.fx_model.specs.declared.member.Member.TheVariants as member
 use Rattle.fx_model.specs.declared.packet.Packet.{Packet}
 use Rattle.fx_model.specs.Criteria.{address_at, port_at, in_net}
-use Rattle.fx_model.specs.Machine.{member_holds, set_holds}
-use Rattle.fx_model.specs.Messages.{Members, members_of}
+use Rattle.fx_model.specs.Machine.{member_holds}
+use Rattle.fx_model.specs.Messages.{Members}
 use Rattle.fx_model.specs.Shapes.{is_of, AreOfKinds}
 use Rattle.fx_model.specs.Tables.{Sets}
 use Rattle.fx_model.proofs.Orders.{exact_member}
@@ -112,6 +112,3 @@ module _ (members : Members) where
 module _ (sets : Sets) (name : List ℕ) (members : Members) (found : Some members ≡ maps.get sets name) where
   pub kinds_of : AreOfKinds sets → (k : SetKind) → kind_of name ≡ k → AreOf members k
   kinds_of kinds k is m there = ap (λ (j : SetKind). is_of j m) (sym is) ∙ kinds name members (sym found) m there
-
-  pub named_holds : (end : End) (a : Packet) → list_any (member_holds end a) (set.items members) ≡ set_holds sets end name a
-  named_holds end a = ap (λ o. list_any (member_holds end a) (set.items (members_of o))) found

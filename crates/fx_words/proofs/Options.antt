@@ -1,5 +1,5 @@
 -- The program's options as clap's walk reads them.
-use Rattle.std.proofs.Common.{◌≡◌, ◌⊎◌, ◌||◌, Bool, true, false, cond, refl, subst, inl, inr, ℕ, List, map, Some, None}
+use Rattle.std.proofs.Common.{◌≡◌, ◌⊎◌, ◌||◌, Bool, true, false, cond, refl, subst, inl, inr, ℕ, List, Some, None}
 use Rattle.std.specs.Prelude.{codes}
 use Rattle.std.specs.List.{list_any}
 use Rattle.std.specs.Str.{bytes_eq}
@@ -20,9 +20,6 @@ options = shape.rules
 
 abbrev pub option_rule : List ℕ → Rule
 option_rule name = with_index 1 (filled (value_option name))
-
-pub options_are : options ≡ map option_rule option_names
-options_are = refl
 
 pub app_is_simple : is_simple words_app ≡ true
 app_is_simple = refl
