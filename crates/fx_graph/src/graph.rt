@@ -71,13 +71,6 @@ impl<R: DigestRule, F: DigestFunction<R> + Drop> Graph<R, F> {
         Ok(())
     }
 
-    /// The view that the messages so far have made.
-    pub fn sent_view(&self) -> &View
-        ensures { result.now ≡ (sides_of self.now.state).sent }
-    {
-        self.state.nodes.sequencer.sent_view()
-    }
-
     /// The view that is wanted now: the view of the resources.
     pub fn wanted(&self) -> &View
         ensures wanted { result.now ≡ (sides_of self.now.state).now }

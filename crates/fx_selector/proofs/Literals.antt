@@ -5,7 +5,7 @@ use Rattle.std.specs.List.{list_all}
 use Rattle.fx_base.specs.Same.{both_pass}
 use Rattle.fx_selector.specs.Phrase.{Each, is_key, is_text}
 use Rattle.fx_selector.specs.Formed.{is_key_text}
-use Rattle.fx_selector.specs.Tree.{IsKey, IsString, quote_of}
+use Rattle.fx_selector.specs.Tree.{IsKey, IsString}
 use Rattle.fx_selector.proofs.Language.{other_byte, key_is}
 use Rattle.fx_selector.proofs.Spelled.{no_double}
 
@@ -52,11 +52,6 @@ key_by k r h e = (λ t. ((Each-list_all (λ c. is_key c) k).0 (sym e ∙ t), h),
 pub key_text_by : (k : List ℕ) → 0 < length k → list_all (λ c. is_key c) k ≡ is_key_text k
 key_text_by [] h = absurd (omega (arith, h))
 key_text_by (c ∷ cs) h = refl
-
-pub string_by : (v : List ℕ) (q : ℕ) (r : Bool) → q ≡ quote_of v → r ≡ list_all (λ c. is_text q c) v → (IsTrue r → IsString v) × (IsString v → IsTrue r)
-string_by v q r s e =
-    let f : r ≡ list_all (λ c. is_text (quote_of v) c) v = e ∙ ap (λ x. list_all (λ c. is_text x c) v) s in
-    (λ t. (Each-list_all (λ c. is_text (quote_of v) c) v).0 (sym f ∙ t), λ g. f ∙ (Each-list_all (λ c. is_text (quote_of v) c) v).1 g)
 
 low_byte : (c : ℕ) → is_key c ≡ true → leb 32 c ≡ true
 unfolding is_key

@@ -1,12 +1,10 @@
-//! The forms of keys and strings, for those who build selectors from parts.
+//! The form of keys, for those who build selectors from parts.
 ghost use Rattle.std.specs.Prelude.{◌≡◌, ◌↔◌, IsTrue};
 ghost use Rattle.std.specs.List.{list_all};
 ghost use Rattle.fx_selector.specs.Formed.{is_key_text};
-ghost use Rattle.fx_selector.specs.Phrase.{is_key, is_text};
-ghost use Rattle.fx_selector.specs.Tree.{IsKey, IsString};
+ghost use Rattle.fx_selector.specs.Phrase.{is_key};
+ghost use Rattle.fx_selector.specs.Tree.{IsKey};
 
-use crate::canonical::quote_for;
-use crate::strings::is_text_byte;
 use crate::tokens::is_key_byte;
 
 /// Whether a text may be a key: one byte or more of `[A-Za-z0-9_./-]`.
@@ -20,21 +18,8 @@ pub fn is_selector_key(text: &[u8]) -> bool
     are_key_bytes(text)
 }
 
-/// Whether a text may be a string: bytes from 0x20 up but 0x7F, and not both quotes.
-pub fn is_selector_string(text: &[u8]) -> bool
-    ensures { IsTrue result ↔ IsString text.now }
-{
-    are_text_bytes(quote_for(text), text)
-}
-
 fn are_key_bytes(text: &[u8]) -> bool
     ensures { result ≡ list_all (λ c. is_key c) text.now }
 {
     text.iter().all(|c| is_key_byte(*c))
-}
-
-fn are_text_bytes(quote: u8, text: &[u8]) -> bool
-    ensures { result ≡ list_all (λ c. is_text quote c) text.now }
-{
-    text.iter().all(|c| is_text_byte(quote, *c))
 }

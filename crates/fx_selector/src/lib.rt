@@ -5,7 +5,7 @@
 #![tactic(auto)]
 
 pub use fault::SelectorFault;
-pub use forms::{is_selector_key, is_selector_string};
+pub use forms::is_selector_key;
 pub use labels::Labels;
 pub use laws::{canonical_text_spells, holding_meets, one_fault, one_tree};
 pub use needs::Requirement;
