@@ -18,10 +18,10 @@ use Rattle.fx_model.specs.Tables.{ChainName, Chains, root_of, endpoint_chain, di
 use Rattle.fx_tables.specs.Leads.{AllLeadElsewhere, NoneLeadsTo}
 use Rattle.fx_dispatch.specs.declared.way.Way.{Way}
 use Rattle.fx_dispatch.specs.declared.way.Way.TheVariants.{Own, Shared}
-use Rattle.fx_model.specs.Tree.{Branch, shared_prefix, has_child, child_chain, root_rules}
+use Rattle.fx_model.specs.Tree.{Branch, shared_prefix, has_child, child_chain, root_rules, HoldsTree}
 use Rattle.fx_dispatch.specs.Ways.{branch_ways, root_ways, way_rules}
 use Rattle.fx_dispatch.specs.Differences.{has_chain_found, stands}
-use Rattle.fx_dispatch.specs.Plans.{Names, HoldsTree, OthersLeadElsewhere, CanBeDeleted, AreDeletable}
+use Rattle.fx_dispatch.specs.Plans.{Names, OthersLeadElsewhere, CanBeDeleted, AreDeletable}
 use Rattle.fx_laws.specs.DispatchNames.{IsElsewhere}
 use Rattle.fx_laws.proofs.Lines.{or_else, given, names_where}
 use Rattle.fx_laws.proofs.TreeAt.{child_same, chain_of}
@@ -143,7 +143,7 @@ pub none_if : (k : ChainName) (t : Bool) (rules : List ChainRule) → AllLeadEls
 none_if k true rules h = h
 none_if k false rules h = tt
 
-module _ (old new : Names) (chains : Chains) (held : HoldsTree old chains) (others : OthersLeadElsewhere chains) where
+module _ (old new : Names) (chains : Chains) (held : HoldsTree (set.items old) chains) (others : OthersLeadElsewhere chains) where
   abbrev os : List (List ℕ)
   os = set.items old
 

@@ -15,10 +15,10 @@ use Rattle.fx_model.specs.Directions.{Direction, Ingress, Egress}
 use Rattle.fx_model.specs.Tables.{ChainName, Chains, Sets, root_of, endpoint_chain, dispatch_rules}
 use Rattle.fx_model.specs.Writing.{IsWritable, CanBeWritten}
 use Rattle.fx_dispatch.specs.contracts.way.WayPartialEq.TheImpl as way
-use Rattle.fx_model.specs.Tree.{Branch, shared_prefix, has_child, child_chain}
+use Rattle.fx_model.specs.Tree.{Branch, shared_prefix, has_child, child_chain, HoldsTree}
 use Rattle.fx_dispatch.specs.Ways.{root_ways, way_rules}
 use Rattle.fx_dispatch.specs.Differences.{are_found, stands}
-use Rattle.fx_dispatch.specs.Plans.{Names, HoldsTree, EndpointsAreThere, AreWritable}
+use Rattle.fx_dispatch.specs.Plans.{Names, EndpointsAreThere, AreWritable}
 use Rattle.fx_laws.proofs.Lines.{get-extended, or_else, entry_at, given, lines}
 use Rattle.fx_laws.proofs.TreeAt.{child_same, towards, lines-child, other_child, chain_of, in_order}
 use Rattle.fx_dispatch.proofs.TreeLookups.{writes-both}
@@ -103,7 +103,7 @@ module _ (old new : Names) (sets : Sets) where
       over [] h = tt
       over (b ∷ bs) h = (child_there chains d before b h.0, over bs h.1)
 
-  pub writable : (chains : Chains) → HoldsTree old chains → EndpointsAreThere new chains → CanBeWritten sets chains (writes_between os ns)
+  pub writable : (chains : Chains) → HoldsTree (set.items old) chains → EndpointsAreThere new chains → CanBeWritten sets chains (writes_between os ns)
   writable chains held there =
       let first = towards (for_child os ns) (for_root os ns) (nb os ns) Ingress in
       subst (CanBeWritten sets chains) (sym (writes-both (ob os ns) (nb os ns) (root_ways os) (root_ways ns)))

@@ -14,10 +14,10 @@ use Rattle.fx_model.specs.Directions.{Direction}
 use Rattle.fx_model.specs.Tables.{ChainName, Chains, root_of, dispatch_rules}
 use Rattle.fx_dispatch.specs.SameWays.{same_way}
 use Rattle.fx_dispatch.specs.contracts.way.WayPartialEq.TheImpl as way
-use Rattle.fx_model.specs.Tree.{Branch, has_child, child_chain, root_rules}
+use Rattle.fx_model.specs.Tree.{Branch, has_child, child_chain, root_rules, HoldsTree}
 use Rattle.fx_dispatch.specs.Ways.{root_ways, way_rules}
 use Rattle.fx_dispatch.specs.Differences.{are_found, has_chain_found, all_writes, all_deletes}
-use Rattle.fx_dispatch.specs.Plans.{Names, HoldsTree, applied, Replaces}
+use Rattle.fx_dispatch.specs.Plans.{Names, applied, Replaces}
 use Rattle.fx_laws.specs.DispatchNames.{IsElsewhere}
 use Rattle.fx_laws.proofs.EntryLookups.{last}
 use Rattle.fx_laws.proofs.Lines.{get-extended, or_else, holds_at, given}
@@ -132,10 +132,10 @@ module _ (os ns : List (List ℕ)) where
       ∙ ap (λ t. cond t None (maps.get (extended m writes_between) q)) (deletes-elsewhere ob nb q h)
       ∙ elsewhere-written m q h
 
-pub old_root : (old : Names) (m : Chains) → HoldsTree old m → (d : Direction) → maps.get m (root_of d) ≡ Some (root_rules d (set.items old))
+pub old_root : (old : Names) (m : Chains) → HoldsTree (set.items old) m → (d : Direction) → maps.get m (root_of d) ≡ Some (root_rules d (set.items old))
 old_root old m h d = h.roots d ∙ tree-root (set.items old) d
 
-pub old_child : (old : Names) (m : Chains) → HoldsTree old m → (d : Direction) (c : List ℕ) → maps.get m (child_chain d c) ≡ given (chain_of d) c (find (slice_cmp nat_cmp) c (branches_in (set.items old))) None
+pub old_child : (old : Names) (m : Chains) → HoldsTree (set.items old) m → (d : Direction) (c : List ℕ) → maps.get m (child_chain d c) ≡ given (chain_of d) c (find (slice_cmp nat_cmp) c (branches_in (set.items old))) None
 old_child old m h d c = h.children d c ∙ tree-child (set.items old) d c
 
 pub replaces : (old new : Names) → Replaces old new (writes_between (set.items old) (set.items new)) (deletes_between (set.items old) (set.items new))

@@ -9,11 +9,11 @@ use Rattle.fx_base.specs.Extended.{extended}
 use Rattle.fx_base.specs.Set as set
 use Rattle.fx_model.specs.declared.chain.ChainRule.{ChainRule}
 use Rattle.fx_model.specs.Directions.{Direction}
-use Rattle.fx_model.specs.Tables.{ChainName, Chains, Sets, root_of, endpoint_chain}
+use Rattle.fx_model.specs.Tables.{ChainName, Chains, Sets, endpoint_chain}
 use Rattle.fx_model.specs.Writing.{CanBeWritten}
 use Rattle.fx_laws.specs.DispatchNames.{IsElsewhere}
 use Rattle.fx_tables.specs.Leads.{AllLeadElsewhere, NoneLeadsTo}
-use Rattle.fx_model.specs.Tree.{child_chain}
+use Rattle.fx_model.specs.Tree.{child_chain, HoldsTree}
 use Rattle.fx_model.specs.Tree as tree
 
 abbrev pub Writes : Type 0
@@ -27,11 +27,6 @@ Names = set.Set (slice_cmp nat_cmp)
 -- the dispatch chains of these interfaces, by their names
 abbrev pub tree_of : Names → Chains
 tree_of names = tree.tree_of (set.items names)
-
--- the dispatch chains among these are those of these interfaces
-pub record HoldsTree (names : Names) (chains : Chains) : Type 0 where
-  pub roots : (d : Direction) → maps.get chains (root_of d) ≡ maps.get (tree_of names) (root_of d)
-  pub children : (d : Direction) (byte : List ℕ) → maps.get chains (child_chain d byte) ≡ maps.get (tree_of names) (child_chain d byte)
 
 -- the chains of these interfaces' endpoints are there
 abbrev pub EndpointsAreThere : Names → Chains → Type 0
@@ -61,7 +56,7 @@ CanBeDeleted chains (name ∷ names) = NoneLeadsTo chains name × CanBeDeleted (
 
 -- among any chains it puts one tree in the place of the other, and leaves all else
 pub record Replaces (old new : Names) (writes : Writes) (deletes : List ChainName) : Type 0 where
-  pub tree : (chains : Chains) → HoldsTree old chains → HoldsTree new (applied writes deletes chains)
+  pub tree : (chains : Chains) → HoldsTree (set.items old) chains → HoldsTree (set.items new) (applied writes deletes chains)
   pub others : (chains : Chains) (name : ChainName) → IsElsewhere name → maps.get (applied writes deletes chains) name ≡ maps.get chains name
 
 -- no chain is written twice
@@ -97,8 +92,8 @@ IsExact old new writes deletes = DifferAt (tree_of old) (tree_of new) (touched w
 
 -- where the endpoints' chains are there, each chain can be written at its turn
 abbrev pub AreWritable : Names → Names → Writes → Type 0
-AreWritable old new writes = (sets : Sets) (chains : Chains) → HoldsTree old chains → EndpointsAreThere new chains → CanBeWritten sets chains writes
+AreWritable old new writes = (sets : Sets) (chains : Chains) → HoldsTree (set.items old) chains → EndpointsAreThere new chains → CanBeWritten sets chains writes
 
 -- and then each of the others can be deleted at its turn
 abbrev pub AreDeletable : Names → Writes → List ChainName → Type 0
-AreDeletable old writes deletes = (chains : Chains) → HoldsTree old chains → OthersLeadElsewhere chains → CanBeDeleted (extended chains writes) deletes
+AreDeletable old writes deletes = (chains : Chains) → HoldsTree (set.items old) chains → OthersLeadElsewhere chains → CanBeDeleted (extended chains writes) deletes

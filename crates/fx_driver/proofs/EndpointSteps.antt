@@ -19,8 +19,8 @@ use Rattle.fx_model.specs.Messages.{Named}
 use Rattle.fx_model.specs.Tables.{ChainName, Chains, endpoint_chain, endpoint_rules, forward, root_of}
 use Rattle.fx_model.specs.ViewTables.{endpoint_chains}
 use Rattle.fx_tables.specs.Leads.{AllLeadElsewhere, NoneLeadsTo}
-use Rattle.fx_model.specs.Tree.{child_chain, dispatch_chains_of}
-use Rattle.fx_dispatch.specs.Plans.{HoldsTree, EndpointsAreThere, OthersLeadElsewhere, Replaces, ChangesOnly, applied}
+use Rattle.fx_model.specs.Tree.{child_chain, dispatch_chains_of, HoldsTree}
+use Rattle.fx_dispatch.specs.Plans.{EndpointsAreThere, OthersLeadElsewhere, Replaces, ChangesOnly, applied}
 use Rattle.fx_laws.specs.DispatchNames.{IsElsewhere}
 use Rattle.fx_dispatch.specs.Plans as plans
 use Rattle.fx_dispatch.proofs.Deletable.{place_of}
@@ -65,7 +65,7 @@ module _ {X : Type 0} (m : Named X) (names : Names) (has : HasKeys names m) wher
   tree_same = ap (λ ks. collected (dispatch_chains_of ks)) (names_are m names has)
 
   -- a tree of names among chains is the tree of the keys
-  tree_there : (chains : Chains) → HoldsTree names chains → ((q : ChainName) → is_dispatch q ≡ true → IsElsewhere q → maps.get chains q ≡ None) → (q : ChainName) → is_dispatch q ≡ true → maps.get chains q ≡ maps.get (tree_of (maps.keys m)) q
+  tree_there : (chains : Chains) → HoldsTree (set.items names) chains → ((q : ChainName) → is_dispatch q ≡ true → IsElsewhere q → maps.get chains q ≡ None) → (q : ChainName) → is_dispatch q ≡ true → maps.get chains q ≡ maps.get (tree_of (maps.keys m)) q
   tree_there chains holds none q h =
       elim (place_of q) as (λ _. maps.get chains q ≡ maps.get (tree_of (maps.keys m)) q) [
         | inl a ↦ ap (maps.get chains) a.1 ∙ holds.roots a.0 ∙ ap (λ (t : Chains). maps.get t (root_of a.0)) tree_same ∙ ap (maps.get (tree_of (maps.keys m))) (sym a.1)
@@ -122,7 +122,7 @@ no_rules rules e = cc
 
 -- r's chains, with the tree of the endpoints of s
 module _ (s r : View) (closed : IsClosedView r) (chains : Chains) (has : HasTree r (maps.keys s.endpoints) chains) (old : Names) (keys : HasKeys old s.endpoints) where
-  pub holds_tree : HoldsTree old chains
+  pub holds_tree : HoldsTree (set.items old) chains
   holds_tree = record {
     roots = λ d. has.tree (root_of d) (root_is d) ∙ ap (λ (t : Chains). maps.get t (root_of d)) (sym (tree_same s.endpoints old keys));
     children = λ d byte. has.tree (child_chain d byte) (child_is d byte) ∙ ap (λ (t : Chains). maps.get t (child_chain d byte)) (sym (tree_same s.endpoints old keys));

@@ -2,11 +2,12 @@
 -- dispatch rules branches where many interfaces' names go on alike; by iptables(8) `-i name+` matches each interface that begins
 -- with the name, and a `-g` leads to another chain. The tree is two levels deep: a root, and chains for those bytes behind what
 -- all names share with which two names or more go on. Names of interfaces stand here in ascending order.
-use Rattle.std.specs.Prelude.{ℕ, List, [], ◌∷◌, ◌++◌, map, filter, fold, take, drop, length, nat_eq, codes, Bool, true, false, if◌then◌else◌, Option, Some, None}
+use Rattle.std.specs.Prelude.{◌≡◌, ℕ, List, [], ◌∷◌, ◌++◌, map, filter, fold, take, drop, length, nat_eq, codes, Bool, true, false, if◌then◌else◌, Option, Some, None}
 use Rattle.std.specs.List.{flat_map}
 use Rattle.std.specs.Ordering.{nat_cmp}
 use Rattle.std.specs.Cmp.Lexicographic.{slice_cmp}
 use Rattle.std.specs.FinMap.{put, find}
+use Rattle.std.specs.FinMap as maps
 use Rattle.fx_base.specs.Extended.{collected}
 use Rattle.fx_model.specs.declared.chain.Match.TheVariants as match
 use Rattle.fx_model.specs.declared.chain.Target.TheVariants as target
@@ -95,3 +96,8 @@ dispatch_chains_of names = chains_towards Ingress names ++ chains_towards Egress
 -- the dispatch chains of these interfaces, by their names
 abbrev pub tree_of : List (List ℕ) → Chains
 tree_of names = collected (dispatch_chains_of names)
+
+-- the dispatch chains among these are those of these interfaces
+pub record HoldsTree (names : List (List ℕ)) (chains : Chains) : Type 0 where
+  pub roots : (d : Direction) → maps.get chains (root_of d) ≡ maps.get (tree_of names) (root_of d)
+  pub children : (d : Direction) (byte : List ℕ) → maps.get chains (child_chain d byte) ≡ maps.get (tree_of names) (child_chain d byte)

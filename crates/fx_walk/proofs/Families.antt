@@ -7,11 +7,10 @@ use Rattle.fx_model.specs.declared.view.ViewEndpoint.{ViewEndpoint}
 use Rattle.fx_model.specs.Directions.{Direction, Ingress, Egress}
 use Rattle.fx_model.specs.Tables.{Chains, forward, forward_rules, root_of, endpoint_chain, endpoint_rules, policy_chain, policy_rules, profile_chain, profile_rules}
 use Rattle.fx_model.specs.ViewTables.{tables_of}
-use Rattle.fx_model.specs.Tree.{child_chain}
+use Rattle.fx_model.specs.Tree.{child_chain, HoldsTree}
 use Rattle.fx_model.specs.Machine.{rules_found, rules_in}
 use Rattle.fx_laws.specs.DispatchNames.{is_dispatch}
 use Rattle.fx_laws.proofs.TablesAt.{policy_at, profile_at, endpoint_at, dispatch_at, first_at}
-use Rattle.fx_walk.specs.TreeLaws.{HoldsTree}
 
 -- the rules of what was found
 abbrev pub found : {Y : Type 0} → (Y → List ChainRule) → Option Y → List ChainRule

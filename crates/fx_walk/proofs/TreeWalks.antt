@@ -19,13 +19,12 @@ use Rattle.fx_model.specs.Rendering.{plain}
 use Rattle.fx_model.specs.Tables.{ChainName, Chains, Sets, forward, endpoint_chain, end_of, root_of, dispatch_rules}
 use Rattle.fx_model.specs.Machine.{holds, hold_all, iface_at, names_iface, rules_found, rules_in, Reasons, with_reason, last_reason}
 use Rattle.fx_model.specs.Walk.{Onward, Ended, Accepted, Dropped, Left, Through, onward, after_goto, over_rules, over_chain}
-use Rattle.fx_model.specs.Tree.{Branch, shared_prefix, next_byte, branches, has_child, child_chain, own_rule, prefix_rule, branch_rules, root_rules}
+use Rattle.fx_model.specs.Tree.{Branch, shared_prefix, next_byte, branches, has_child, child_chain, own_rule, prefix_rule, branch_rules, root_rules, HoldsTree}
 use Rattle.fx_laws.proofs.Gathering.{is, bytes-refl}
 use Rattle.fx_laws.proofs.Lines.{or_else, given}
 use Rattle.fx_laws.proofs.TreeAt.{chain_of, tree-root, tree-child}
 use Rattle.fx_laws.proofs.BranchLemmas.{IsBranchOf, branches_within, one_byte, each_found}
 use Rattle.fx_laws.proofs.Beginnings.{Begins, shared-begins, one_of, starts, started, begins-next, next-begun, in_branches, has_branch}
-use Rattle.fx_walk.specs.TreeLaws.{HoldsTree}
 use Rattle.fx_walk.proofs.Walks.{walk_hit}
 use Rattle.fx_walk.proofs.Blocks.{only, noted_as, miss}
 use Rattle.fx_walk.proofs.Rules.{tagged_drop}

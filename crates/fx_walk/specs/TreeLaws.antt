@@ -2,19 +2,13 @@
 use Rattle.std.specs.Prelude.{◌≡◌, ◌⊎◌, ℕ, suc, List, true, false}
 use Rattle.std.specs.List.{list_any}
 use Rattle.std.specs.Str.{bytes_eq}
-use Rattle.std.specs.FinMap as maps
 use Rattle.fx_model.specs.declared.packet.Packet.{Packet}
 use Rattle.fx_model.specs.declared.chain.Reason.TheVariants as reason
 use Rattle.fx_model.specs.Directions.{Direction}
 use Rattle.fx_model.specs.Tables.{ChainName, Chains, Sets, end_of, root_of, endpoint_chain}
-use Rattle.fx_model.specs.Tree.{child_chain, tree_of}
+use Rattle.fx_model.specs.Tree.{HoldsTree}
 use Rattle.fx_model.specs.Machine.{holds, iface_at, Reasons, with_reason, last_reason}
 use Rattle.fx_model.specs.Walk.{Onward, Dropped, after_goto, over_chain}
-
--- the dispatch chains among these are those of the tree of these interfaces
-pub record HoldsTree (names : List (List ℕ)) (chains : Chains) : Type 0 where
-  pub roots : (d : Direction) → maps.get chains (root_of d) ≡ maps.get (tree_of names) (root_of d)
-  pub children : (d : Direction) (byte : List ℕ) → maps.get chains (child_chain d byte) ≡ maps.get (tree_of names) (child_chain d byte)
 
 -- the walk of a chain, where rules lead at most this many chains deep
 abbrev pub walked : Sets → Packet → Chains → ℕ → ChainName → Onward Reasons
