@@ -16,13 +16,12 @@ use Rattle.fx_scanner.specs.Scanned.{IsScanned}
 use Rattle.fx_sequencer.specs.Sides.{SameSentAndSets}
 use Rattle.fx_sequencer.specs.declared.sides.Sides.{Sides}
 use Rattle.fx_graph_rules.specs.Counting.{with_some}
-use Rattle.fx_graph_rules.specs.Run.{IsRun}
+use Rattle.fx_graph_rules.specs.Run.{IsRun, IsPairRun}
 use Rattle.fx_graph_rules.specs.Uppers.{IsUpper}
 use Rattle.fx_graph_rules.specs.declared.nodes.Upper.{Upper}
 use Rattle.fx_graph_rules.specs.declared.pair_log.PairChange.{PairChange}
 use Rattle.fx_graph_view.specs.Kept.{SameButSets}
 use Rattle.fx_graph_rules.specs.Logged.{IsLogged}
-use Rattle.fx_graph_rules.specs.PairRun.{IsPairRun}
 use Rattle.fx_graph_rules.specs.Touched.{IsTouched}
 use Rattle.fx_graph_rules.specs.declared.active_log.Logged.{Logged}
 use Rattle.fx_graph_rules.specs.declared.active_told.ActiveTold.{ActiveTold}

@@ -5,11 +5,10 @@ use Rattle.fx_members.specs.Members.{AreMembers}
 use Rattle.fx_resolver.specs.Resolved.{IsResolved}
 use Rattle.fx_scanner.specs.Scanned.{IsScanned}
 use Rattle.fx_graph_rules.specs.Counting.{with_some}
-use Rattle.fx_graph_rules.specs.Run.{IsRun}
+use Rattle.fx_graph_rules.specs.Run.{IsRun, IsPairRun}
 use Rattle.fx_graph_rules.specs.Uppers.{IsUpper}
 use Rattle.fx_graph_view.specs.Knowing.{IsBehind}
 use Rattle.fx_graph_view.specs.Noted.{AreFormed}
-use Rattle.fx_graph_rules.specs.PairRun.{IsPairRun}
 use Rattle.fx_graph_rules.specs.Touched.{IsTouched}
 use Rattle.fx_graph_rules.specs.declared.pair_log.PairChange.{PairChange}
 use Rattle.fx_graph_rules.specs.declared.active_log.Logged.{Logged}

@@ -9,7 +9,7 @@ use Rattle.fx_model.specs.declared.ids.PolicyId.{PolicyId}
 use Rattle.fx_model.specs.declared.policy.Policy.{Policy}
 use Rattle.fx_model.specs.declared.resources.Profile.{Profile}
 use Rattle.fx_graph_rules.specs.Logged.{IsLogged}
-use Rattle.fx_graph_rules.specs.PairRun.{IsPairRun}
+use Rattle.fx_graph_rules.specs.Run.{IsPairRun}
 use Rattle.fx_graph_rules.specs.Touched.{Keys, IsTouched}
 use Rattle.fx_graph_rules.specs.declared.active_log.Logged.{Logged}
 use Rattle.fx_graph_rules.specs.declared.active_log.PolicyPairChange.{PolicyPairChange}

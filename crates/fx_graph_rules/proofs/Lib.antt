@@ -5,4 +5,3 @@ pub mod Uppers
 pub mod SameTold
 pub mod LoggedLemmas
 pub mod ActiveChanges
-pub mod PairRuns

@@ -4,5 +4,4 @@ pub mod Counting
 pub mod Composed
 pub mod Uppers
 pub mod Touched
-pub mod PairRun
 pub mod Logged

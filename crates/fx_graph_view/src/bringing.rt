@@ -1,7 +1,7 @@
 //! Each node below the active rules, brought up to date over the sequencer, of which it tells its part alone.
 ghost use Rattle.std.specs.Prelude.{◌≡◌, IfOk, OnOk};
 ghost use Rattle.std.specs.FinMap as map;
-ghost use Rattle.fx_graph_rules.specs.Run.{IsRun};
+ghost use Rattle.fx_graph_rules.specs.Run.{IsRun, IsPairRun};
 ghost use Rattle.fx_members.specs.Members.{AreMembers};
 ghost use Rattle.fx_resolver.specs.Resolved.{IsResolved};
 ghost use Rattle.fx_scanner.specs.Apart.{IsApart};
@@ -10,7 +10,6 @@ ghost use Rattle.fx_sequencer.specs.Sides.{SameSentAndSets};
 ghost use Rattle.fx_graph_view.specs.Kept.{SameButSets};
 ghost use Rattle.fx_graph_view.specs.Knowing.{AreKnown, IsBehind};
 ghost use Rattle.fx_graph_view.specs.Noted.{AreNoted, AreFormed};
-ghost use Rattle.fx_graph_rules.specs.PairRun.{IsPairRun};
 ghost use Rattle.fx_graph_rules.specs.Touched.{IsTouched};
 
 use crate::parts::{Beside, SetPart, ViewPart};

@@ -3,7 +3,7 @@ ghost use Rattle.std.specs.Prelude.{◌≡◌, OnOk, IfOk};
 ghost use Rattle.fx_model.specs.Views.{policy_key};
 ghost use Rattle.fx_resolver.specs.Resolved.{IsResolved};
 ghost use Rattle.fx_graph_view.specs.Knowing.{IsBehind, AreKnown};
-ghost use Rattle.fx_graph_rules.specs.PairRun.{IsPairRun};
+ghost use Rattle.fx_graph_rules.specs.Run.{IsPairRun};
 
 use fx_base::{Memory, NameKey};
 use fx_graph_rules::{Logged, PolicyPairChange};

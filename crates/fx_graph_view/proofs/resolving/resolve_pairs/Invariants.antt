@@ -1,6 +1,6 @@
 use Rattle.std.proofs.Common.{◌≡◌, drop}
 use Rattle.fx_resolver.specs.Resolved.{IsResolved}
-use Rattle.fx_graph_rules.specs.PairRun.{IsPairRun}
+use Rattle.fx_graph_rules.specs.Run.{IsPairRun}
 use Rattle.fx_graph_view.proofs.resolving.resolve_pairs.Given as goal
 
 abbrev pub invariant-loop-change : goal.invariant-loop-change

@@ -5,10 +5,10 @@ use Rattle.fx_model.specs.SameIds.{copies_item, copies_policy_id}
 use Rattle.fx_model.specs.declared.ids.ItemKey.{ItemKey}
 use Rattle.fx_model.specs.declared.ids.PolicyId.{PolicyId}
 use Rattle.fx_model.proofs.Orders.{policy_pairs_total, exact_policy_pair}
-use Rattle.fx_graph_rules.specs.PairRun.{IsPairRun}
+use Rattle.fx_graph_rules.specs.Run.{IsPairRun}
 use Rattle.fx_graph_rules.specs.declared.active_log.PolicyPairChange.{PolicyPairChange}
 use Rattle.fx_graph_rules.proofs.ActiveChanges.{pairs_changed}
-use Rattle.fx_graph_rules.proofs.PairRuns.{pushed}
+use Rattle.fx_graph_rules.proofs.Runs.{policy_pushed}
 use Rattle.fx_graph_rules.proofs.active_log.ActiveLogActiveSink.pair_on.Goals as goal
 
 pub invariant_of-self-in-Ok : goal.invariant_of-self-in-Ok
@@ -16,7 +16,7 @@ invariant_of-self-in-Ok g c =
     let change : PolicyPairChange = record { on = true; policy = c.in_ok-clone.field-0; item = c.in_ok-clone-2.field-0 } in
     pairs_changed g.K.ActiveStart.told_then c.self.inside.logged c.pair_on.new.self c.self.invariant c.push.new.self
     (ap (λ t. t.policies) c.in_ok-pair_on.ensures.ok) (ap (λ t. t.profiles) c.in_ok-pair_on.ensures.ok)
-    (pushed c.self.inside.logged.pairs c.push.new.self change g.K.ActiveStart.told_then.pairs c.self.inside.logged.told.pairs c.pair_on.new.self.pairs (c.args.id.now, c.args.item.now) c.self.invariant.pairs
+    (policy_pushed c.self.inside.logged.pairs c.push.new.self change g.K.ActiveStart.told_then.pairs c.self.inside.logged.told.pairs c.pair_on.new.self.pairs (c.args.id.now, c.args.item.now) c.self.invariant.pairs
     (λ j. (copies_policy_id _ _ c.in_ok-clone.ensures.cases j, copies_item _ _ c.in_ok-clone-2.ensures.cases j))
     (ap (λ v. set.contains v.told.pairs (c.args.id.now, c.args.item.now)) c.self.view_is ∙ c.requires)
     c.in-Ok.ensures.ok
