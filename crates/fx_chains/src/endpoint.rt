@@ -6,7 +6,7 @@ ghost use Rattle.fx_model.specs.Formed.{is_formed_profile_key};
 ghost use Rattle.fx_rules.specs.Rules.{direction_of};
 ghost use Rattle.fx_chains.specs.Parts.{policy_jump, one_tier, profile_jump, state_rules};
 
-use crate::names::{policy_name, profile_name};
+use crate::names::{policy_chain_name, profile_chain_name};
 use fx_base::{Memory, NameKey, Seq};
 use fx_model::{ChainRule, Match, Reason, Target, ViewEndpoint, ViewTier};
 use fx_rules::{ACCEPT, PASS, append, clear_mark, is_clear, one, plain, push_return, tagged};
@@ -21,7 +21,7 @@ fn push_policy_jump(
 ) -> Result<(), Memory>
     ensures { OnOk result (chain.new ≡ chain.old ++ policy_jump (direction_of ingress) key.now) }
 {
-    let jump = Target::Jump(policy_name(ingress, key));
+    let jump = Target::Jump(policy_chain_name(ingress, key));
     chain.push(plain(one(alloc, is_clear(PASS))?, jump))?;
     push_return(alloc, ACCEPT, chain)
 }
@@ -91,7 +91,7 @@ fn push_profile_jump(
     requires { is_formed_profile_key key.now ≡ true }
     ensures { OnOk result (chain.new ≡ chain.old ++ profile_jump (direction_of ingress) key.now) }
 {
-    let jump = Target::Jump(profile_name(ingress, key));
+    let jump = Target::Jump(profile_chain_name(ingress, key));
     chain.push(plain(Seq::new(alloc), jump))?;
     push_return(alloc, ACCEPT, chain)
 }

@@ -2,7 +2,7 @@
 #![tactic(auto)]
 
 pub use endpoint::{endpoint_chain, endpoint_chain_with};
-pub use names::{endpoint_name, policy_name, profile_name};
+pub use names::{endpoint_chain_name, policy_chain_name, profile_chain_name};
 
 mod endpoint;
 mod names;

@@ -6,7 +6,7 @@ ghost use Rattle.fx_rules.specs.Rules.{direction_of};
 use fx_base::{ChainName, NameKey, Text};
 
 /// The name of a policy's chain.
-pub fn policy_name(ingress: bool, key: &NameKey) -> ChainName
+pub fn policy_chain_name(ingress: bool, key: &NameKey) -> ChainName
     ensures { result ≡ policy_chain (direction_of ingress) key.now }
 {
     if ingress {
@@ -17,7 +17,7 @@ pub fn policy_name(ingress: bool, key: &NameKey) -> ChainName
 }
 
 /// The name of a profile's chain.
-pub fn profile_name(ingress: bool, key: &NameKey) -> ChainName
+pub fn profile_chain_name(ingress: bool, key: &NameKey) -> ChainName
     requires { length key.now ≤ 19 }
     ensures { result ≡ profile_chain (direction_of ingress) key.now }
 {
@@ -29,7 +29,7 @@ pub fn profile_name(ingress: bool, key: &NameKey) -> ChainName
 }
 
 /// The name of an endpoint's chain.
-pub fn endpoint_name(ingress: bool, iface: &Text) -> ChainName
+pub fn endpoint_chain_name(ingress: bool, iface: &Text) -> ChainName
     requires { length iface.now ≤ 15 }
     ensures { result ≡ endpoint_chain (direction_of ingress) iface.now }
 {

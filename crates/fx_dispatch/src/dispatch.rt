@@ -5,7 +5,7 @@ ghost use Rattle.fx_model.specs.Tree.{dispatch_chains_of};
 ghost use Rattle.fx_dispatch.specs.Plans.{Replaces, ChangesOnly, IsExact, AreWritable, AreDeletable};
 
 use crate::interfaces::{Interface, Interfaces};
-use crate::names::root_name;
+use crate::names::root_chain_name;
 use crate::plan::{Plan, Writes};
 use crate::rules::way_rules;
 use crate::tree::Tree;
@@ -39,8 +39,8 @@ pub fn first_chains(alloc: Global) -> Result<Writes, Memory>
 {
     let none = Seq::new(alloc);
     let mut chains = Seq::new(alloc);
-    chains.push((root_name(true), way_rules(alloc, true, &none)?))?;
-    chains.push((root_name(false), way_rules(alloc, false, &none)?))?;
+    chains.push((root_chain_name(true), way_rules(alloc, true, &none)?))?;
+    chains.push((root_chain_name(false), way_rules(alloc, false, &none)?))?;
     Ok(chains)
 }
 

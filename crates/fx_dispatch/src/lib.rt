@@ -2,7 +2,7 @@
 #![tactic(auto)]
 
 pub use dispatch::{Dispatch, first_chains};
-pub use names::{child_name, root_name};
+pub use names::{child_chain_name, root_chain_name};
 pub use plan::{Plan, Writes};
 pub use way::NextByte;
 

@@ -8,7 +8,7 @@ use crate::way::NextByte;
 use fx_base::ChainName;
 
 /// The chain that every interface of a workload is looked up in.
-pub fn root_name(ingress: bool) -> ChainName
+pub fn root_chain_name(ingress: bool) -> ChainName
     ensures { result ≡ root_of (direction_of ingress) }
 {
     if ingress {
@@ -19,7 +19,7 @@ pub fn root_name(ingress: bool) -> ChainName
 }
 
 /// The chain of the interfaces in which this byte follows what all share.
-pub fn child_name(ingress: bool, byte: &NextByte) -> ChainName
+pub fn child_chain_name(ingress: bool, byte: &NextByte) -> ChainName
     ensures { result ≡ child_chain (direction_of ingress) byte.now }
 {
     if ingress {

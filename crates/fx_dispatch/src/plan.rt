@@ -8,7 +8,7 @@ ghost use Rattle.fx_dispatch.specs.Differences.{writes_towards, deletes_towards,
 
 use crate::branches::{Branches, has_child};
 use crate::interfaces::Interface;
-use crate::names::{child_name, root_name};
+use crate::names::{child_chain_name, root_chain_name};
 use crate::rules::{child_rules, way_rules};
 use crate::tree::Tree;
 use crate::way::{NextByte, Way};
@@ -61,7 +61,7 @@ fn push_child(
 {
     if has_child(byte, names) && !stands(old, byte, names) {
         let rules = child_rules(alloc, ingress, names)?;
-        writes.push((child_name(ingress, byte), rules))?;
+        writes.push((child_chain_name(ingress, byte), rules))?;
     }
     Ok(())
 }
@@ -95,7 +95,7 @@ fn push_root(
         return Ok(());
     }
     let rules = way_rules(alloc, ingress, new)?;
-    writes.push((root_name(ingress), rules))
+    writes.push((root_chain_name(ingress), rules))
 }
 
 fn push_writes(
@@ -123,7 +123,7 @@ fn push_delete(
         ++ child_delete (direction_of ingress) (maps.entries new.now) (byte.now, names.now)) }
 {
     if has_child(byte, names) && !has_chain(new, byte) {
-        deletes.push(child_name(ingress, byte))?;
+        deletes.push(child_chain_name(ingress, byte))?;
     }
     Ok(())
 }

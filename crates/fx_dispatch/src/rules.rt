@@ -6,11 +6,11 @@ ghost use Rattle.fx_model.specs.Tree.{own_rule, prefix_rule};
 ghost use Rattle.fx_dispatch.specs.Ways.{way_rule, way_rules};
 
 use crate::interfaces::Interface;
-use crate::names::child_name;
+use crate::names::child_chain_name;
 use crate::tree::push_own;
 use crate::way::{NextByte, Prefix, Way};
 use fx_base::{Memory, Seq, Text};
-use fx_chains::endpoint_name;
+use fx_chains::endpoint_chain_name;
 use fx_model::{ChainRule, End, Match, Reason, Target};
 use fx_rules::{one, plain, tagged};
 use std::alloc::Global;
@@ -20,7 +20,7 @@ fn own_rule(alloc: Global, ingress: bool, name: &Interface) -> Result<ChainRule,
 {
     let end = if ingress { End::Dest } else { End::Source };
     let name = Text::new(alloc, name.bytes())?;
-    let goto = Target::Goto(endpoint_name(ingress, &name));
+    let goto = Target::Goto(endpoint_chain_name(ingress, &name));
     let here = Match::Iface {
         end,
         name,
@@ -43,7 +43,7 @@ fn prefix_rule(
         name: Text::new(alloc, prefix.bytes())?,
         wild: true,
     };
-    let goto = Target::Goto(child_name(ingress, byte));
+    let goto = Target::Goto(child_chain_name(ingress, byte));
     Ok(plain(one(alloc, here)?, goto))
 }
 

@@ -13,7 +13,7 @@ ghost use Rattle.fx_dispatch.specs.Plans.{CanBeDeleted, applied, without};
 ghost use Rattle.fx_driver.specs.Driven.{HasFirst};
 
 use fx_base::{ChainName, Memory, NameKey, Seq, Text, Ticker};
-use fx_chains::{endpoint_chain, endpoint_name, policy_name, profile_name};
+use fx_chains::{endpoint_chain, endpoint_chain_name, policy_chain_name, profile_chain_name};
 use fx_dispatch::{Plan, Writes};
 use fx_model::{ChainRule, ViewEndpoint, ViewPolicy, ViewProfile};
 use fx_rules::{policy_chain, profile_chain};
@@ -85,9 +85,9 @@ pub fn write_policy<O: Ticker>(
     ensures first { HasFirst tables.old.chains → HasFirst tables.new.chains }
 {
     let ingress = policy_chain(alloc, policy, true)?;
-    write(policy_name(true, key), ingress, tables, operations)?;
+    write(policy_chain_name(true, key), ingress, tables, operations)?;
     let egress = policy_chain(alloc, policy, false)?;
-    write(policy_name(false, key), egress, tables, operations)?;
+    write(policy_chain_name(false, key), egress, tables, operations)?;
     Ok(())
 }
 
@@ -110,9 +110,9 @@ pub fn write_profile<O: Ticker>(
     ensures first { HasFirst tables.old.chains → HasFirst tables.new.chains }
 {
     let ingress = profile_chain(alloc, profile, true)?;
-    write(profile_name(true, key), ingress, tables, operations)?;
+    write(profile_chain_name(true, key), ingress, tables, operations)?;
     let egress = profile_chain(alloc, profile, false)?;
-    write(profile_name(false, key), egress, tables, operations)?;
+    write(profile_chain_name(false, key), egress, tables, operations)?;
     Ok(())
 }
 
@@ -135,9 +135,19 @@ pub fn write_endpoint<O: Ticker>(
     ensures first { HasFirst tables.old.chains → HasFirst tables.new.chains }
 {
     let ingress = endpoint_chain(alloc, endpoint, true)?;
-    write(endpoint_name(true, iface), ingress, tables, operations)?;
+    write(
+        endpoint_chain_name(true, iface),
+        ingress,
+        tables,
+        operations,
+    )?;
     let egress = endpoint_chain(alloc, endpoint, false)?;
-    write(endpoint_name(false, iface), egress, tables, operations)?;
+    write(
+        endpoint_chain_name(false, iface),
+        egress,
+        tables,
+        operations,
+    )?;
     Ok(())
 }
 

@@ -10,10 +10,10 @@ ghost use Rattle.fx_driver.specs.Operations.{Costs, CostsAtMost};
 use crate::chains::{
     carry_out, delete_both, write_all, write_endpoint, write_policy, write_profile,
 };
-use crate::first::{forward_chain, forward_name};
+use crate::first::{forward_chain, forward_chain_name};
 use crate::sets::{add_set, change_set};
 use fx_base::{Counter, Memory, NameKey, SetName, Text, Ticker};
-use fx_chains::{endpoint_name, policy_name, profile_name};
+use fx_chains::{endpoint_chain_name, policy_chain_name, profile_chain_name};
 use fx_dispatch::{Dispatch, first_chains};
 use fx_model::{MemberList, Message, ViewEndpoint, ViewPolicy, ViewProfile};
 use fx_tables::Tables;
@@ -35,7 +35,7 @@ impl Driver {
         let mut tables = Tables::new(alloc);
         let mut operations = Counter::new();
         write_all(first_chains(alloc)?, &mut tables, &mut operations)?;
-        tables.write_chain(forward_name(), forward_chain(alloc)?, &mut operations)?;
+        tables.write_chain(forward_chain_name(), forward_chain(alloc)?, &mut operations)?;
         Ok(Driver {
             alloc,
             tables,
@@ -162,8 +162,8 @@ impl Driver {
         ensures first { HasFirst self.old.tables.chains → HasFirst self.new.tables.chains }
     {
         delete_both(
-            policy_name(true, key),
-            policy_name(false, key),
+            policy_chain_name(true, key),
+            policy_chain_name(false, key),
             &mut self.tables,
             operations,
         );
@@ -198,8 +198,8 @@ impl Driver {
         ensures first { HasFirst self.old.tables.chains → HasFirst self.new.tables.chains }
     {
         delete_both(
-            profile_name(true, key),
-            profile_name(false, key),
+            profile_chain_name(true, key),
+            profile_chain_name(false, key),
             &mut self.tables,
             operations,
         );
@@ -236,8 +236,8 @@ impl Driver {
         ensures first { HasFirst self.old.tables.chains → HasFirst self.new.tables.chains }
     {
         let plan = self.dispatch.remove(iface)?;
-        let to = endpoint_name(true, iface);
-        let from = endpoint_name(false, iface);
+        let to = endpoint_chain_name(true, iface);
+        let from = endpoint_chain_name(false, iface);
         carry_out(plan, &mut self.tables, operations)?;
         delete_both(to, from, &mut self.tables, operations);
         Ok(())

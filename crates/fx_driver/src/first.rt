@@ -3,13 +3,13 @@ ghost use Rattle.std.specs.Prelude.{◌≡◌, [], ◌∷◌, IfOk, true, codes}
 ghost use Rattle.fx_model.specs.Tables.{forward, forward_rules};
 
 use fx_base::{ChainName, Memory, Seq, Text};
-use fx_dispatch::root_name;
+use fx_dispatch::root_chain_name;
 use fx_model::{ChainRule, End, Match, Target};
 use fx_rules::{clear_mark, one, plain};
 use std::alloc::Global;
 
 /// The name of the chain at which every packet begins.
-pub fn forward_name() -> ChainName
+pub fn forward_chain_name() -> ChainName
     ensures { result ≡ forward }
 {
     ChainName::join(b"cali-FORWARD", b"")
@@ -35,9 +35,9 @@ pub fn forward_chain(alloc: Global) -> Result<Seq<ChainRule>, Memory>
 {
     let mut chain = Seq::new(alloc);
     chain.push(plain(Seq::new(alloc), clear_mark(0xf0000)))?;
-    let from = Target::Jump(root_name(false));
+    let from = Target::Jump(root_chain_name(false));
     chain.push(plain(workload_interfaces(alloc, End::Source)?, from))?;
-    let to = Target::Jump(root_name(true));
+    let to = Target::Jump(root_chain_name(true));
     chain.push(plain(workload_interfaces(alloc, End::Dest)?, to))?;
     Ok(chain)
 }

@@ -25,35 +25,35 @@ carry_out-requires-clause-unused g c =
 pub carry_out-requires-clause-others : goal.carry_out-requires-clause-others
 carry_out-requires-clause-others g c = first_stays c.args.self.now.dispatch c.remove.new.self _ _ c.in_ok-plan.ensures.changed
 
-pub endpoint_name-to-requires : goal.endpoint_name-to-requires
-endpoint_name-to-requires g c = let n = c.requires in endpoint_gone_short c.args.self.now n.0 n.1.0 n.1.1.0 c.args.iface.now n.1.1.1
+pub endpoint_chain_name-to-requires : goal.endpoint_chain_name-to-requires
+endpoint_chain_name-to-requires g c = let n = c.requires in endpoint_gone_short c.args.self.now n.0 n.1.0 n.1.1.0 c.args.iface.now n.1.1.1
 
-pub endpoint_name-from-requires : goal.endpoint_name-from-requires
-endpoint_name-from-requires g c = let n = c.requires in endpoint_gone_short c.args.self.now n.0 n.1.0 n.1.1.0 c.args.iface.now n.1.1.1
+pub endpoint_chain_name-from-requires : goal.endpoint_chain_name-from-requires
+endpoint_chain_name-from-requires g c = let n = c.requires in endpoint_gone_short c.args.self.now n.0 n.1.0 n.1.1.0 c.args.iface.now n.1.1.1
 
 pub delete_both-requires-clause-unused_to : goal.delete_both-requires-clause-unused_to
 delete_both-requires-clause-unused_to g c =
     let n = c.requires in
     let p = c.in_ok-plan.ensures in
-    rw c.endpoint_name-to.ensures (gone_unused c.args.self.now n.0 n.1.0 n.1.1.0 c.args.iface.now n.1.1.1 c.remove.new.self p.interfaces _ _ c.carry_out.new.tables p.written c.in_ok-carry_out.ensures.ok Ingress)
+    rw c.endpoint_chain_name-to.ensures (gone_unused c.args.self.now n.0 n.1.0 n.1.1.0 c.args.iface.now n.1.1.1 c.remove.new.self p.interfaces _ _ c.carry_out.new.tables p.written c.in_ok-carry_out.ensures.ok Ingress)
 
 pub delete_both-requires-clause-unused_from : goal.delete_both-requires-clause-unused_from
 delete_both-requires-clause-unused_from g c =
     let n = c.requires in
     let p = c.in_ok-plan.ensures in
-    rw c.endpoint_name-from.ensures (gone_unused c.args.self.now n.0 n.1.0 n.1.1.0 c.args.iface.now n.1.1.1 c.remove.new.self p.interfaces _ _ c.carry_out.new.tables p.written c.in_ok-carry_out.ensures.ok Egress)
+    rw c.endpoint_chain_name-from.ensures (gone_unused c.args.self.now n.0 n.1.0 n.1.1.0 c.args.iface.now n.1.1.1 c.remove.new.self p.interfaces _ _ c.carry_out.new.tables p.written c.in_ok-carry_out.ensures.ok Egress)
 
 pub delete_both-requires-clause-other_to : goal.delete_both-requires-clause-other_to
-delete_both-requires-clause-other_to g c = rw c.endpoint_name-to.ensures (first_no_endpoint Ingress c.args.iface.now)
+delete_both-requires-clause-other_to g c = rw c.endpoint_chain_name-to.ensures (first_no_endpoint Ingress c.args.iface.now)
 
 pub delete_both-requires-clause-other_from : goal.delete_both-requires-clause-other_from
-delete_both-requires-clause-other_from g c = rw c.endpoint_name-from.ensures (first_no_endpoint Egress c.args.iface.now)
+delete_both-requires-clause-other_from g c = rw c.endpoint_chain_name-from.ensures (first_no_endpoint Egress c.args.iface.now)
 
 pub returns-clause-driven : goal.returns-clause-driven
 returns-clause-driven g c = λ s w drives is.
     let p = c.in_ok-plan.ensures in
     gone_driven c.args.self.now s w drives c.args.iface.now is c.remove.new.self p.interfaces c.in_ok-plan.plan.writes c.in_ok-plan.plan.deletes c.carry_out.new.tables p.written c.in_ok-carry_out.ensures.ok c.delete_both.new.tables
-    (rw (c.endpoint_name-to.ensures, c.endpoint_name-from.ensures) at c.delete_both.ensures.gone)
+    (rw (c.endpoint_chain_name-to.ensures, c.endpoint_chain_name-from.ensures) at c.delete_both.ensures.gone)
 
 pub returns-clause-counted : goal.returns-clause-counted
 returns-clause-counted g c =
