@@ -4,15 +4,16 @@ ghost use Rattle.fx_model.specs.Tables.{policy_chain, profile_chain, endpoint_ch
 ghost use Rattle.fx_rules.specs.Rules.{direction_of};
 
 use fx_base::{ChainName, NameKey, Text};
+use fx_names::Prefix;
 
 /// The name of a policy's chain.
 pub fn policy_chain_name(ingress: bool, key: &NameKey) -> ChainName
     ensures { result ≡ policy_chain (direction_of ingress) key.now }
 {
     if ingress {
-        ChainName::join(b"cali-pi-", key.bytes())
+        ChainName::join(Prefix::PolicyIn.bytes(), key.bytes())
     } else {
-        ChainName::join(b"cali-po-", key.bytes())
+        ChainName::join(Prefix::PolicyOut.bytes(), key.bytes())
     }
 }
 
@@ -22,9 +23,9 @@ pub fn profile_chain_name(ingress: bool, key: &NameKey) -> ChainName
     ensures { result ≡ profile_chain (direction_of ingress) key.now }
 {
     if ingress {
-        ChainName::join(b"cali-pri-", key.bytes())
+        ChainName::join(Prefix::ProfileIn.bytes(), key.bytes())
     } else {
-        ChainName::join(b"cali-pro-", key.bytes())
+        ChainName::join(Prefix::ProfileOut.bytes(), key.bytes())
     }
 }
 
@@ -34,8 +35,8 @@ pub fn endpoint_chain_name(ingress: bool, iface: &Text) -> ChainName
     ensures { result ≡ endpoint_chain (direction_of ingress) iface.now }
 {
     if ingress {
-        ChainName::join(b"cali-tw-", iface.bytes())
+        ChainName::join(Prefix::ToEndpoint.bytes(), iface.bytes())
     } else {
-        ChainName::join(b"cali-fw-", iface.bytes())
+        ChainName::join(Prefix::FromEndpoint.bytes(), iface.bytes())
     }
 }

@@ -10,13 +10,13 @@ ghost use Rattle.fx_driver.specs.Operations.{Costs, CostsAtMost};
 use crate::chains::{
     carry_out, delete_both, write_all, write_endpoint, write_policy, write_profile,
 };
-use crate::first::{forward_chain, forward_chain_name};
+use crate::first::forward_chain;
 use crate::sets::{add_set, change_set};
 use fx_base::{Counter, Memory, NameKey, SetName, Text, Ticker};
 use fx_chains::{endpoint_chain_name, policy_chain_name, profile_chain_name};
 use fx_dispatch::{Dispatch, first_chains};
 use fx_model::{MemberList, Message, ViewEndpoint, ViewPolicy, ViewProfile};
-use fx_tables::Tables;
+use fx_tables::{Tables, first_chain_name};
 use std::alloc::Global;
 
 /// The tables of a node, and the interfaces of its endpoints.
@@ -35,7 +35,7 @@ impl Driver {
         let mut tables = Tables::new(alloc);
         let mut operations = Counter::new();
         write_all(first_chains(alloc)?, &mut tables, &mut operations)?;
-        tables.write_chain(forward_chain_name(), forward_chain(alloc)?, &mut operations)?;
+        tables.write_chain(first_chain_name(), forward_chain(alloc)?, &mut operations)?;
         Ok(Driver {
             alloc,
             tables,

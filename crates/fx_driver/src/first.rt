@@ -1,19 +1,12 @@
 //! The chain at which every packet begins.
 ghost use Rattle.std.specs.Prelude.{◌≡◌, [], ◌∷◌, IfOk, true, codes};
-ghost use Rattle.fx_model.specs.Tables.{forward, forward_rules};
+ghost use Rattle.fx_model.specs.Tables.{forward_rules};
 
-use fx_base::{ChainName, Memory, Seq, Text};
+use fx_base::{Memory, Seq, Text};
 use fx_dispatch::root_chain_name;
 use fx_model::{ChainRule, End, Match, Target};
 use fx_rules::{clear_mark, one, plain};
 use std::alloc::Global;
-
-/// The name of the chain at which every packet begins.
-pub fn forward_chain_name() -> ChainName
-    ensures { result ≡ forward }
-{
-    ChainName::join(b"cali-FORWARD", b"")
-}
 
 fn workload_interfaces(alloc: Global, end: End) -> Result<Seq<Match>, Memory>
     ensures { IfOk result (λ ms. ms ≡ Match.Iface end (codes "cali") true ∷ []) }

@@ -6,11 +6,11 @@ ghost use Rattle.fx_model.specs.Tables.{forward};
 ghost use Rattle.fx_model.specs.Machine.{Decides};
 ghost use Rattle.fx_model.specs.ViewPolicy.{IsPolicyAnswer};
 
-use crate::notes::{DEEPEST, Notes, first_chain, nothing_seen, outcome_of};
+use crate::notes::{DEEPEST, Notes, nothing_seen, outcome_of};
 use crate::outcome::{Hop, Outcome};
 use crate::walk::walk_chain;
 use fx_model::{ChainRule, Packet};
-use fx_tables::Tables;
+use fx_tables::{Tables, first_chain_name};
 use std::convert::Infallible;
 
 /// Notes nothing beside the last reasons.
@@ -46,7 +46,7 @@ pub fn decide<'a>(tables: &'a Tables, packet: &Packet) -> Outcome<'a>
         tables,
         packet,
         DEEPEST,
-        first_chain(),
+        first_chain_name(),
         nothing_seen(),
         &mut notes,
     ) {

@@ -1,17 +1,13 @@
 //! What a walk notes of the rules that match.
 ghost use Rattle.std.specs.Prelude.{◌≡◌};
 ghost use Rattle.std.specs.Option.{option_copied};
-ghost use Rattle.std.specs.Str.{bytes_eq};
-ghost use Rattle.fx_model.specs.Tables.{forward};
 ghost use Rattle.fx_model.specs.Walk.{noted_in, verdict_of};
 ghost use Rattle.fx_model.specs.Machine.{last_reason, nothing_noted, side_at, with_reason, with_tag};
 ghost use Rattle.fx_walk.specs.WalkEnds.{direction_of, ended_of, reasons_of};
 
 use crate::outcome::{Hop, Outcome};
-use fx_base::ChainName;
 use fx_model::{ChainRule, Reason, Tag, Verdict};
-
-const FORWARD: &[u8; 12] = b"cali-FORWARD";
+use fx_tables::is_first_chain;
 
 /// As many chains deep as rules can lead: chains have five ranks.
 pub const DEEPEST: u8 = 5;
@@ -94,19 +90,6 @@ pub fn outcome_of<'a>(end: WalkEnd<'a>) -> Outcome<'a>
     }
 }
 
-/// The chain at which each walk begins.
-pub fn first_chain() -> ChainName
-    ensures { result ≡ forward }
-{
-    ChainName::join(FORWARD.as_slice(), b"")
-}
-
-fn is_first(chain: ChainName) -> bool
-    ensures { result ≡ bytes_eq chain forward }
-{
-    chain.bytes() == FORWARD.as_slice()
-}
-
 fn direction_at(place: u64) -> Option<Direction>
     ensures { direction_of result ≡ side_at place }
 {
@@ -150,7 +133,7 @@ pub fn noted<'a>(hop: Hop, rule: &'a ChainRule, seen: Seen<'a>) -> Seen<'a>
     ensures mark { result.mark ≡ seen.entry.mark }
     ensures reasons { reasons_of result ≡ last_reason hop.chain hop.place rule.entry.now (reasons_of seen.entry) }
 {
-    if is_first(hop.chain) {
+    if is_first_chain(hop.chain) {
         Seen {
             side: direction_at(hop.place),
             ..seen

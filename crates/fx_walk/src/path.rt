@@ -7,12 +7,12 @@ ghost use Rattle.fx_model.specs.Machine.{CutsRun, Traces, is_shown};
 ghost use Rattle.fx_model.specs.ViewPolicy.{IsPolicyAnswer};
 ghost use Rattle.fx_walk.specs.WalkEnds.{hops_of};
 
-use crate::notes::{DEEPEST, Notes, first_chain, nothing_seen, outcome_of};
+use crate::notes::{DEEPEST, Notes, nothing_seen, outcome_of};
 use crate::outcome::{Hop, Outcome};
 use crate::walk::walk_chain;
 use fx_base::Memory;
 use fx_model::{ChainRule, Packet, Tag, Target};
-use fx_tables::Tables;
+use fx_tables::{Tables, first_chain_name};
 
 impl Notes for Vec<Hop> {
     ghost use Rattle.fx_model.specs.Machine.{Trace, hops_and_reasons};
@@ -65,6 +65,13 @@ pub fn trace<'a>(
     // On want of memory the path has grown by a prefix of the hops.
     ensures err { OnErr result (CutsRun tables.entry.now packet.now (hops_of path.old.items) (hops_of path.new.items)) }
 {
-    let end = walk_chain(tables, packet, DEEPEST, first_chain(), nothing_seen(), path)?;
+    let end = walk_chain(
+        tables,
+        packet,
+        DEEPEST,
+        first_chain_name(),
+        nothing_seen(),
+        path,
+    )?;
     Ok(outcome_of(end))
 }

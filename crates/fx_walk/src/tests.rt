@@ -11,15 +11,9 @@ ghost use Rattle.fx_model.specs.Tables.{endpoint_chain, forward, root_of};
 use crate::{Hop, Outcome, decide, trace};
 use fx_base::{ChainName, Counter, Ipv4, Memory, Proto, Seq, Text};
 use fx_model::{ChainRule, End, Match, Packet, Reason, State, Tag, Target, Verdict};
-use fx_tables::Tables;
+use fx_tables::{Tables, first_chain_name};
 use std::alloc::Global;
 use std::test::Fail;
-
-fn first() -> ChainName
-    ensures { result ≡ forward }
-{
-    ChainName::join(b"cali-FORWARD", b"")
-}
 
 fn root() -> ChainName
     ensures { result ≡ root_of Egress }
@@ -147,7 +141,7 @@ fn write_first(alloc: Global, tables: &mut Tables) -> Result<(), Memory>
     );
     let never = rule(mark(alloc, 0x20000, 0x30000)?, Target::Drop, Tag::Plain);
     let rules = Seq::from_vec(vec![in alloc; begin, jump, never]?);
-    tables.write_chain(first(), rules, &mut Counter::new())?;
+    tables.write_chain(first_chain_name(), rules, &mut Counter::new())?;
     Ok(())
 }
 

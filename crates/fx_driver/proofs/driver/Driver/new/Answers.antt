@@ -12,4 +12,4 @@ write_chain-requires-clause-there c =
 pub returns : goal.returns
 returns c =
     let roots = roots_written c.new-tables.result c.write_all.new.tables _ c.new-tables.ensures c.in_ok-first_chains.ensures c.in_ok-write_all.ensures.ok in
-    drives_empty (record { alloc = c.args.alloc; tables = c.write_chain.new.self; dispatch = c.new.result }) c.write_all.new.tables _ _ roots c.in_ok-write_chain.ensures.ok c.forward_chain_name.ensures c.in_ok-forward_chain.ensures c.new.ensures
+    drives_empty (record { alloc = c.args.alloc; tables = c.write_chain.new.self; dispatch = c.new.result }) c.write_all.new.tables _ _ roots c.in_ok-write_chain.ensures.ok c.first_chain_name.ensures c.in_ok-forward_chain.ensures c.new.ensures
