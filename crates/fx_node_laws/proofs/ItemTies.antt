@@ -18,9 +18,10 @@ use Rattle.fx_model.specs.declared.resources.Update.TheVariants as update
 use Rattle.fx_model.specs.Formed.{is_endpoint_key, is_net_set_key}
 use Rattle.fx_model.specs.Labels.{namespace_parents}
 use Rattle.fx_model.specs.Resources.{after, is_served}
+use Rattle.fx_model.specs.Tests.{item_at}
 use Rattle.fx_label_index.specs.declared.held.Held.{Held}
 use Rattle.fx_resolver.specs.declared.known.KnownEndpoint.{KnownEndpoint}
-use Rattle.fx_node_laws.specs.Tied.{item_at, held_of, known_endpoint, served_profiles, served_known}
+use Rattle.fx_node_laws.specs.Tied.{held_of, known_endpoint, served_profiles, served_known}
 use Rattle.fx_node_laws.specs.Changes.{Taken, with_served_endpoint, with_other_endpoint, without_endpoint, with_net_set, without_net_set}
 use Rattle.fx_node_laws.proofs.OneKey.{here_inserted, here_removed, there_inserted, there_removed, known_inserted, known_removed, keys_inserted, keys_removed}
 use Rattle.fx_node_laws.proofs.ItemsAt.{same_item_at, same_profiles, same_known}

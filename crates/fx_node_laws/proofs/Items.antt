@@ -13,13 +13,14 @@ use Rattle.fx_model.specs.declared.resources.Item.{Item}
 use Rattle.fx_model.specs.declared.resources.Item.TheVariants as item
 use Rattle.fx_model.specs.declared.resources.Resources.{Resources}
 use Rattle.fx_model.specs.Labels.{labelled, effective, labels_of}
+use Rattle.fx_model.specs.Tests.{item_at}
 use Rattle.fx_label_index.specs.declared.held.Inputs as index
 use Rattle.fx_label_index.specs.Matched.{holds_on, labels_of as held_labels}
 use Rattle.fx_active.specs.declared.inputs.Inputs as active
 use Rattle.fx_graph_rules.specs.Composed.{holds_at}
 use Rattle.fx_resolver.specs.declared.inputs.Inputs as resolver
 use Rattle.fx_members.specs.declared.inputs.Inputs as members
-use Rattle.fx_node_laws.specs.Tied.{item_at, held_of, IsTied}
+use Rattle.fx_node_laws.specs.Tied.{held_of, IsTied}
 
 module _ {dg : Digest} {R : Resources} {n : index.Inputs} {a : active.Inputs} {r : resolver.Inputs} {m : members.Inputs} (tied : IsTied dg R n a r m) where
   -- an endpoint that is there is the item at its key, and so is a network set

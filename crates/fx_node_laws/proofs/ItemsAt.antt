@@ -10,7 +10,8 @@ use Rattle.fx_model.specs.declared.resources.Endpoint.{Endpoint}
 use Rattle.fx_model.specs.declared.resources.Item.TheVariants as item
 use Rattle.fx_model.specs.declared.resources.Resources.{Resources}
 use Rattle.fx_model.specs.Resources.{is_served}
-use Rattle.fx_node_laws.specs.Tied.{item_at, known_endpoint, served_profiles, served_known}
+use Rattle.fx_model.specs.Tests.{item_at}
+use Rattle.fx_node_laws.specs.Tied.{known_endpoint, served_profiles, served_known}
 
 -- the same endpoint and the same network set
 pub same_item_at : (R S : Resources) (k : ItemKey) → map.get S.endpoints k ≡ map.get R.endpoints k → map.get S.net_sets k ≡ map.get R.net_sets k → item_at S k ≡ item_at R k

@@ -29,6 +29,7 @@ use Rattle.fx_model.specs.declared.set_use.SetUse.{SetUse}
 use Rattle.fx_model.specs.Labels.{labels_of}
 use Rattle.fx_model.specs.Resources.{items_of}
 use Rattle.fx_model.specs.Sets.{contributed, contributions, selected, set_members}
+use Rattle.fx_model.specs.Tests.{item_at}
 use Rattle.fx_label_index.specs.declared.held.Inputs as index
 use Rattle.fx_active.specs.declared.inputs.Inputs as active
 use Rattle.fx_graph_rules.specs.Composed.{holds_at}
@@ -37,7 +38,7 @@ use Rattle.fx_members.specs.declared.inputs.Inputs as members
 use Rattle.fx_members.specs.Members.{matched_items, members_for}
 use Rattle.fx_members.specs.UseText.{text_of}
 use Rattle.fx_members.proofs.MemberLemmas.{same_members}
-use Rattle.fx_node_laws.specs.Tied.{item_at, IsTied}
+use Rattle.fx_node_laws.specs.Tied.{IsTied}
 use Rattle.fx_node_laws.proofs.Items.{endpoint_item, set_item, holds_item}
 use Rattle.fx_node_laws.proofs.Lists.{filter-map}
 use Rattle.fx_node_laws.proofs.SomeEntry.{any-flat_map, found_entry, from_entry}

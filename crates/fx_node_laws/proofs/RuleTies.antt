@@ -15,7 +15,8 @@ use Rattle.fx_model.specs.declared.resources.Profile.{Profile}
 use Rattle.fx_model.specs.declared.resources.Resources.{Resources}
 use Rattle.fx_model.specs.declared.resources.Update.TheVariants as update
 use Rattle.fx_model.specs.Resources.{after}
-use Rattle.fx_node_laws.specs.Tied.{item_at, held_of, served_profiles, served_known}
+use Rattle.fx_model.specs.Tests.{item_at}
+use Rattle.fx_node_laws.specs.Tied.{held_of, served_profiles, served_known}
 use Rattle.fx_node_laws.specs.Changes.{Taken, with_profile, without_profile, with_tier, without_tier, with_policy, without_policy}
 use Rattle.fx_node_laws.proofs.OneKey.{here_inserted, here_removed, there_inserted, there_removed, known_inserted, known_removed}
 use Rattle.fx_node_laws.proofs.ItemsAt.{same_item_at, same_profiles, same_known}

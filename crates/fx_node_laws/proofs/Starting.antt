@@ -23,6 +23,7 @@ use Rattle.fx_model.specs.Pairs.{policy_pair_cmp}
 use Rattle.fx_model.specs.Resources.{empty_resources}
 use Rattle.fx_model.specs.Sets.{policy_uses}
 use Rattle.fx_model.specs.Views.{policy_key, policy_entry, uses_if_there, empty_view}
+use Rattle.fx_model.specs.Tests.{item_at}
 use Rattle.fx_active.specs.Active.{is_in}
 use Rattle.fx_graph_rules.specs.Composed.{acting, concerns, IsComposed}
 use Rattle.fx_scanner.specs.Apart.{IsUsed}
@@ -30,7 +31,7 @@ use Rattle.fx_scanner.specs.Scanned.{profile_entry, use_entry, IsScanned}
 use Rattle.fx_resolver.specs.Known.{known_policy}
 use Rattle.fx_resolver.proofs.Resolving.{nothing_wanted}
 use Rattle.fx_members.proofs.MemberLemmas.{none_used}
-use Rattle.fx_node_laws.specs.Tied.{item_at, held_of, served_profiles, served_known, IsTied}
+use Rattle.fx_node_laws.specs.Tied.{held_of, served_profiles, served_known, IsTied}
 use Rattle.fx_node_laws.specs.Told.{IsTold}
 use Rattle.fx_node_laws.specs.Empty.{no_items, no_rules, no_active, no_endpoints, no_sets}
 

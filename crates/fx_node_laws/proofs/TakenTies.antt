@@ -9,11 +9,12 @@ use Rattle.fx_model.specs.declared.policy.NetSet.{NetSet}
 use Rattle.fx_model.specs.declared.resources.Endpoint.{Endpoint}
 use Rattle.fx_model.specs.declared.resources.Resources.{Resources}
 use Rattle.fx_model.specs.Formed.{is_endpoint_key, is_net_set_key}
+use Rattle.fx_model.specs.Tests.{item_at}
 use Rattle.fx_label_index.specs.declared.held.Inputs as index
 use Rattle.fx_active.specs.declared.inputs.Inputs as active
 use Rattle.fx_resolver.specs.declared.inputs.Inputs as resolver
 use Rattle.fx_members.specs.declared.inputs.Inputs as members
-use Rattle.fx_node_laws.specs.Tied.{item_at, held_of, served_profiles, served_known, IsTied}
+use Rattle.fx_node_laws.specs.Tied.{held_of, served_profiles, served_known, IsTied}
 use Rattle.fx_node_laws.specs.Changes.{Taken, taken}
 
 pub record IsTaken (dg : Digest) (R : Resources) (t : Taken) : Type 0 where

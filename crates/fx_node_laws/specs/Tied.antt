@@ -3,28 +3,22 @@ use Rattle.std.specs.Prelude.{◌≡◌, ℕ, true, cond, List, map as each, Opt
 use Rattle.std.specs.FinMap as map
 use Rattle.fx_names.specs.Digests.{Digest}
 use Rattle.fx_model.specs.declared.ids.ItemKey.{ItemKey}
-use Rattle.fx_model.specs.declared.ids.ItemKey.TheVariants as item_key
 use Rattle.fx_model.specs.declared.ids.Key.TheVariants as key
 use Rattle.fx_model.specs.declared.policy.NetSet.{NetSet}
 use Rattle.fx_model.specs.declared.resources.Endpoint.{Endpoint}
 use Rattle.fx_model.specs.declared.resources.Item.{Item}
-use Rattle.fx_model.specs.declared.resources.Item.TheVariants as item
 use Rattle.fx_model.specs.declared.resources.Resources.{Resources}
 use Rattle.fx_model.specs.Formed.{is_endpoint_key, is_net_set_key}
 use Rattle.fx_model.specs.Labels.{labelled}
 use Rattle.fx_model.specs.Resources.{is_served}
 use Rattle.fx_model.specs.Views.{profile_key}
+use Rattle.fx_model.specs.Tests.{item_at}
 use Rattle.fx_label_index.specs.declared.held.Held.{Held}
 use Rattle.fx_label_index.specs.declared.held.Inputs as index
 use Rattle.fx_active.specs.declared.inputs.Inputs as active
 use Rattle.fx_resolver.specs.declared.known.KnownEndpoint.{KnownEndpoint}
 use Rattle.fx_resolver.specs.declared.inputs.Inputs as resolver
 use Rattle.fx_members.specs.declared.inputs.Inputs as members
-
--- the endpoint or the network set at a key
-abbrev pub item_at : Resources → ItemKey → Option Item
-item_at R (item_key.Endpoint ns name) = option_map item.Endpoint (map.get R.endpoints (item_key.Endpoint ns name))
-item_at R (item_key.NetSet ns name) = option_map item.NetSet (map.get R.net_sets (item_key.NetSet ns name))
 
 -- what the index holds of an item: its labels, and the names of its parents
 abbrev pub held_of : ItemKey → Option Item → Option Held
