@@ -71,11 +71,6 @@ impl Ord for Member {
     }
 }
 
-/// Members compare by kind, then by address, and only then by what else they have. It does nothing.
-pub fn members_compare_as_stated()
-    ensures { (a b : Member) → ⟦<Member as Ord>⟧.cmp a b ≡ members_compared a b }
-{}
-
 impl Exact for Member {
     ghost same = { same_member };
 

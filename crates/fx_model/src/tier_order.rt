@@ -3,9 +3,8 @@ ghost use Rattle.std.specs.Prelude.{◌≡◌, [], ◌∷◌, ◌++◌, map, IfO
 ghost use Rattle.std.specs.Option.{option_copied};
 ghost use Rattle.std.specs.FinMap as maps;
 ghost use Rattle.fx_model.specs.declared.tier_order.PolicyPlace.{PolicyPlace};
-ghost use Rattle.fx_model.specs.contracts.tier_order.PolicyPlaceOrd.TheImpl as place_cmp;
 ghost use Rattle.fx_model.specs.SamePlaces.{same_place, copies_place};
-ghost use Rattle.fx_model.specs.TierOrder.{order_of, tier_stand, policy_place, places_compared, head_of, view_tier, tier_by_tier, pushed, grown};
+ghost use Rattle.fx_model.specs.TierOrder.{order_of, tier_stand, policy_place, head_of, view_tier, tier_by_tier, pushed, grown};
 
 use crate::ids::PolicyId;
 use crate::place_map::PlaceMap;
@@ -96,11 +95,6 @@ impl PolicyPlace {
         })
     }
 }
-
-/// Places compare by their tier's order and name, and in the tier by their own order and text. It does nothing.
-pub fn places_compare_as_stated()
-    ensures { (a b : PolicyPlace) → place_cmp.cmp-value.it a b ≡ places_compared a b }
-{}
 
 /// The tiers that the policies of these keys make, in the order of their places.
 #[tactic(auto, using(crate::proofs::TierLemmas::all_pushed_is))]

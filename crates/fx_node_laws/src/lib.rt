@@ -3,8 +3,6 @@
 #![tactic(auto)]
 
 pub mod laws;
-pub mod ties;
 pub mod waiting;
-pub mod waits;
 
 pub use waiting::Waiting;

@@ -2,13 +2,13 @@
 //! profiles change.
 #![tactic(auto)]
 
-pub use apart::fewer_are_apart;
+pub use laws::fewer_are_apart;
 pub use scanner::RuleScanner;
 
-mod apart;
 mod changes;
 mod counts;
 mod inputs;
+mod laws;
 mod scanner;
 mod state;
 mod used;

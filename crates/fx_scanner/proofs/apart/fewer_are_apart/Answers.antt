@@ -1,5 +1,0 @@
-use Rattle.fx_scanner.proofs.ApartUses.{fewer}
-use Rattle.fx_scanner.proofs.apart.fewer_are_apart.Goals as goal
-
-pub returns : goal.returns
-returns c = fewer
