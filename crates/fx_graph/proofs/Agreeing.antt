@@ -19,14 +19,14 @@ use Rattle.fx_node_laws.specs.Told.{IsTold}
 use Rattle.fx_node_laws.specs.Waits.{AreWaiting}
 use Rattle.fx_node_laws.proofs.Viewing.{view_is_made}
 use Rattle.fx_graph.specs.Graphs.{AreOf, IsGraphOf}
-use Rattle.fx_graph.specs.Settled.{IsSettled}
+use Rattle.fx_graph.specs.InStep.{IsInStep}
 use Rattle.fx_graph.specs.declared.nodes.Nodes.{Nodes}
 use Rattle.fx_graph.specs.declared.state.GraphState.{GraphState}
 
 more : (a b : ℕ) → 0 < b → 0 < a + b
 more a b h = omega (arith, h)
 
-module _ (dg : Digest) (g : Nodes) (s : IsSettled dg None g) where
+module _ (dg : Digest) (g : Nodes) (s : IsInStep dg None g) where
   -- the index told where the selector of a used set holds
   matched : (name : List ℕ) (u : SetUse) → map.get g.uses name ≡ Some u → (i : ItemKey) → set.contains g.members.matched (canonical_text u.selector, i) ≡ holds_at g.upper.joined.index u.selector i
   matched name u at i =
@@ -51,7 +51,7 @@ module _ (dg : Digest) (g : Nodes) (s : IsSettled dg None g) where
   }
 
 -- and so a graph is that of the resources which its nodes hold
-pub graph_of : (dg : Digest) (g : GraphState) → IsSettled dg None g.nodes → (R : Resources) → g.node ≡ R.node → g.in_sync ≡ R.in_sync
+pub graph_of : (dg : Digest) (g : GraphState) → IsInStep dg None g.nodes → (R : Resources) → g.node ≡ R.node → g.in_sync ≡ R.in_sync
     → IsTied dg R g.nodes.upper.joined.index g.nodes.upper.joined.active g.nodes.resolver g.nodes.members → AreWaiting R g.nodes.waiting → IsGraphOf dg R g
 graph_of dg g s R node in_sync tied waiting = record {
   node = node;

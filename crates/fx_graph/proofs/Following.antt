@@ -30,7 +30,7 @@ use Rattle.fx_node_laws.proofs.RuleTies.{profile_put_taken, profile_gone_taken, 
 use Rattle.fx_node_laws.proofs.TakenTies.{IsTaken, taken_is, tied_by}
 use Rattle.fx_node_laws.proofs.WaitTies.{waiting_put, other_put, waiting_gone, waiting_stays, served_waits_not, waiting_in_sync}
 use Rattle.fx_graph.specs.Graphs.{IsGraphOf, IsAccepted}
-use Rattle.fx_graph.specs.Settled.{IsSettled}
+use Rattle.fx_graph.specs.InStep.{IsInStep}
 use Rattle.fx_graph.specs.Taking.{AreApart, IsBeside, taken_of, with_served, with_other, without_item, labelled_other, unlabelled, contributing, withdrawn}
 use Rattle.fx_graph.specs.declared.nodes.Nodes.{Nodes}
 use Rattle.fx_graph.specs.declared.state.GraphState.{GraphState}
@@ -81,16 +81,16 @@ module _ (dg : Digest) (R : Resources) (old : GraphState) (h : IsGraphOf dg R ol
   served_here e same ready = both_so R.in_sync (is_local R e) (sym h.in_sync ∙ ready) (ap (bytes_eq e.node) (sym h.node) ∙ same)
 
   -- what is held afterwards is that of the resources then
-  made : (S : Resources) (t : Taken) (g_now : Nodes) → IsTaken dg S t → IsSettled dg None g_now → taken_of g_now ≡ t → S.node ≡ R.node → S.in_sync ≡ R.in_sync → AreWaiting S g_now.waiting → IsGraphOf dg S (record old { nodes = g_now })
+  made : (S : Resources) (t : Taken) (g_now : Nodes) → IsTaken dg S t → IsInStep dg None g_now → taken_of g_now ≡ t → S.node ≡ R.node → S.in_sync ≡ R.in_sync → AreWaiting S g_now.waiting → IsGraphOf dg S (record old { nodes = g_now })
   made S t g_now is settled now nodes marks waiting = graph_of dg (record old { nodes = g_now }) settled S (h.node ∙ sym nodes) (h.in_sync ∙ sym marks) (tied_by t now is) waiting
 
   -- resources whose endpoints stay
-  stays : (S : Resources) (t : Taken) (g_now : Nodes) → IsTaken dg S t → IsSettled dg None g_now → taken_of g_now ≡ t → IsBeside g g_now → S.node ≡ R.node → S.in_sync ≡ R.in_sync → S.endpoints ≡ R.endpoints → IsGraphOf dg S (record old { nodes = g_now })
+  stays : (S : Resources) (t : Taken) (g_now : Nodes) → IsTaken dg S t → IsInStep dg None g_now → taken_of g_now ≡ t → IsBeside g g_now → S.node ≡ R.node → S.in_sync ≡ R.in_sync → S.endpoints ≡ R.endpoints → IsGraphOf dg S (record old { nodes = g_now })
   stays S t g_now is settled now beside nodes marks endpoints = made S t g_now is settled now nodes marks
       (subst (AreWaiting S) (sym beside.waiting) (waiting_stays R S marks nodes endpoints g.waiting h.nodes.waiting))
 
   -- ---- profiles, tiers and policies
-  module _ (g_now : Nodes) (settled : IsSettled dg None g_now) (beside : IsBeside g g_now) where
+  module _ (g_now : Nodes) (settled : IsInStep dg None g_now) (beside : IsBeside g g_now) where
     pub after_profile_put : (name : List ℕ) (p : Profile) → taken_of g_now ≡ with_profile name p (taken_of g) → IsGraphOf dg (after R (update.Put (key.Profile name) (item.Profile p))) (record old { nodes = g_now })
     after_profile_put name p now = stays (after R (update.Put (key.Profile name) (item.Profile p))) (with_profile name p (taken_of g)) g_now (profile_put_taken holds_taken name p) settled now beside refl refl refl
 
@@ -119,7 +119,7 @@ module _ (dg : Digest) (R : Resources) (old : GraphState) (h : IsGraphOf dg R ol
     after_set_gone (item_key.NetSet ns name) kind now = stays _ _ g_now (net_set_gone_taken holds_taken ns name) settled now beside refl refl refl
 
   -- ---- endpoints
-  module _ (g_now : Nodes) (settled : IsSettled dg None g_now) where
+  module _ (g_now : Nodes) (settled : IsInStep dg None g_now) where
     elsewhere : (e : Endpoint) → bytes_eq e.node old.node ≡ false → is_local R e ≡ false
     elsewhere e other = ap (bytes_eq e.node) (sym h.node) ∙ other
 

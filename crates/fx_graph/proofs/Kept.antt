@@ -17,7 +17,7 @@ use Rattle.fx_sequencer.specs.Sides.{SameSentAndSets}
 use Rattle.fx_sequencer.specs.declared.sides.Sides.{Sides}
 use Rattle.fx_graph_rules.specs.Counting.{with_some}
 use Rattle.fx_graph_rules.specs.Run.{IsRun, IsPairRun}
-use Rattle.fx_graph_rules.specs.Uppers.{IsUpper}
+use Rattle.fx_graph_rules.specs.Uppers.{AreInStep}
 use Rattle.fx_graph_rules.specs.declared.nodes.Upper.{Upper}
 use Rattle.fx_graph_rules.specs.declared.pair_log.PairChange.{PairChange}
 use Rattle.fx_graph_view.specs.Kept.{SameButSets}
@@ -27,15 +27,15 @@ use Rattle.fx_graph_rules.specs.declared.active_log.Logged.{Logged}
 use Rattle.fx_graph_rules.specs.declared.active_told.ActiveTold.{ActiveTold}
 use Rattle.fx_graph.specs.Used.{used_in}
 use Rattle.fx_node_laws.specs.Waits.{Queue}
-use Rattle.fx_graph.specs.Ahead.{IsAhead}
-use Rattle.fx_graph.specs.Settled.{IsSettled}
+use Rattle.fx_graph.specs.BehindBy.{IsBehindBy}
+use Rattle.fx_graph.specs.InStep.{IsInStep}
 use Rattle.fx_graph.specs.Graphs.{IsGraphOf, sides_of}
 use Rattle.fx_graph.specs.declared.nodes.Nodes.{Nodes}
 use Rattle.fx_graph.specs.declared.state.GraphState.{GraphState}
 
-module _ (dg : Digest) (before : Option (List ℕ)) (g : Nodes) (s : IsSettled dg before g) where
+module _ (dg : Digest) (before : Option (List ℕ)) (g : Nodes) (s : IsInStep dg before g) where
   -- members that know the same sets and pairs
-  pub settled_members : (m : members.Inputs) (q : Sides) → m.uses ≡ g.members.uses → m.matched ≡ g.members.matched → AreMembers m q.now.sets → SameButSets g.sequencer q → IsSettled dg before (record g { members = m; sequencer = q })
+  pub settled_members : (m : members.Inputs) (q : Sides) → m.uses ≡ g.members.uses → m.matched ≡ g.members.matched → AreMembers m q.now.sets → SameButSets g.sequencer q → IsInStep dg before (record g { members = m; sequencer = q })
   settled_members m q uses matched told b = record {
     upper = s.upper;
     policies = s.policies;
@@ -51,7 +51,7 @@ module _ (dg : Digest) (before : Option (List ℕ)) (g : Nodes) (s : IsSettled d
   }
 
   -- a resolver that knows the same policies and pairs
-  pub settled_resolver : (r : resolver.Inputs) (q : Sides) → r.policies ≡ g.resolver.policies → r.pairs ≡ g.resolver.pairs → IsResolved r q.now.endpoints → SameSentAndSets g.sequencer q → q.now.policies ≡ g.sequencer.now.policies → q.now.profiles ≡ g.sequencer.now.profiles → IsSettled dg before (record g { resolver = r; sequencer = q })
+  pub settled_resolver : (r : resolver.Inputs) (q : Sides) → r.policies ≡ g.resolver.policies → r.pairs ≡ g.resolver.pairs → IsResolved r q.now.endpoints → SameSentAndSets g.sequencer q → q.now.policies ≡ g.sequencer.now.policies → q.now.profiles ≡ g.sequencer.now.profiles → IsInStep dg before (record g { resolver = r; sequencer = q })
   settled_resolver r q policies pairs told b view_policies view_profiles = record {
     upper = s.upper;
     policies = s.policies;
@@ -67,7 +67,7 @@ module _ (dg : Digest) (before : Option (List ℕ)) (g : Nodes) (s : IsSettled d
   }
 
   -- a view was sent, and the wanted one stays
-  pub settled_sent : (q : Sides) → q.now ≡ g.sequencer.now → IsSettled dg before (record g { sequencer = q })
+  pub settled_sent : (q : Sides) → q.now ≡ g.sequencer.now → IsInStep dg before (record g { sequencer = q })
   settled_sent q now = record {
     upper = s.upper;
     policies = s.policies;
@@ -82,7 +82,7 @@ module _ (dg : Digest) (before : Option (List ℕ)) (g : Nodes) (s : IsSettled d
     formed = s.formed;
   }
 
-  pub settled_waiting : (w : Queue) → IsSettled dg before (record g { waiting = w })
+  pub settled_waiting : (w : Queue) → IsInStep dg before (record g { waiting = w })
   settled_waiting w = record {
     upper = s.upper;
     policies = s.policies;
@@ -98,8 +98,8 @@ module _ (dg : Digest) (before : Option (List ℕ)) (g : Nodes) (s : IsSettled d
   }
 
 -- the upper nodes told something, and the log has what may have changed
-module _ (dg : Digest) (g : Nodes) (s : IsSettled dg None g) (start : ActiveTold) (logged : Logged) (is : g.told ≡ start) (since : IsLogged start logged) where
-  pub ahead : (before : Option (List ℕ)) (changes : List PairChange) (upper : Upper) (told : ActiveTold) → IsUpper upper.joined (with_some before (used_in g.uses)) logged.told.policies logged.told.profiles logged.told.pairs → IsRun changes g.upper.joined.pairs upper.joined.pairs → IsAhead dg before (record g { upper = upper; told = told }) changes logged
+module _ (dg : Digest) (g : Nodes) (s : IsInStep dg None g) (start : ActiveTold) (logged : Logged) (is : g.told ≡ start) (since : IsLogged start logged) where
+  pub ahead : (before : Option (List ℕ)) (changes : List PairChange) (upper : Upper) (told : ActiveTold) → AreInStep upper.joined (with_some before (used_in g.uses)) logged.told.policies logged.told.profiles logged.told.pairs → IsRun changes g.upper.joined.pairs upper.joined.pairs → IsBehindBy dg before (record g { upper = upper; told = told }) changes logged
   ahead before changes upper told u run = record {
     upper = u;
     policies = subst (λ m. IsTouched logged.policies m logged.told.policies) (sym (s.policies ∙ ap (λ t. t.policies) is)) since.policies;

@@ -28,7 +28,7 @@ use Rattle.fx_node_laws.proofs.UpdateTies.{second_mark}
 use Rattle.fx_node_laws.proofs.Brought.{brought}
 use Rattle.fx_node_laws.proofs.WaitTies.{mark_brings, no_locals_yet, none_waits_in_sync, none_waits_marked}
 use Rattle.fx_graph.specs.Graphs.{IsGraphOf, IsAccepted}
-use Rattle.fx_graph.specs.Settled.{IsSettled}
+use Rattle.fx_graph.specs.InStep.{IsInStep}
 use Rattle.fx_graph.specs.Taking.{AreApart, AreOwnTogether, AreShort, IsThereOrWaits, taken_of}
 use Rattle.fx_graph.specs.declared.nodes.Nodes.{Nodes}
 use Rattle.fx_graph.specs.declared.state.GraphState.{GraphState}
@@ -72,7 +72,7 @@ module _ (dg : Digest) (R : Resources) (old : GraphState) (h : IsGraphOf dg R ol
       {r_now = record g.resolver { endpoints = (with_waiting dg g.waiting (taken_of g)).locals }}
       {m_now = g.members} refl)
 
-  pub after_mark : (g_now : Nodes) → IsSettled dg None g_now → taken_of g_now ≡ with_waiting dg g.waiting (taken_of g) → g_now.waiting ≡ map.empty → IsGraphOf dg marked (record old { nodes = g_now; in_sync = true })
+  pub after_mark : (g_now : Nodes) → IsInStep dg None g_now → taken_of g_now ≡ with_waiting dg g.waiting (taken_of g) → g_now.waiting ≡ map.empty → IsGraphOf dg marked (record old { nodes = g_now; in_sync = true })
   after_mark g_now settled now waiting = graph_of dg (record old { nodes = g_now; in_sync = true }) settled marked h.node refl
       (tied_by (with_waiting dg g.waiting (taken_of g)) now (taken_marked R.in_sync refl))
       (subst (AreWaiting marked) (sym waiting) (none_waits_marked R))

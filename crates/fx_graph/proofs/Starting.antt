@@ -17,11 +17,11 @@ use Rattle.fx_resolver.specs.Resolved.{IsResolved}
 use Rattle.fx_scanner.specs.Scanned.{IsScanned}
 use Rattle.fx_sequencer.specs.declared.sides.Sides.{Sides}
 use Rattle.fx_graph_rules.specs.Counting.{none_used}
-use Rattle.fx_graph_rules.specs.Uppers.{IsUpper}
+use Rattle.fx_graph_rules.specs.Uppers.{AreInStep}
 use Rattle.fx_graph_rules.specs.declared.active_told.ActiveTold.{ActiveTold}
 use Rattle.fx_graph.specs.Used.{used_in, used_among}
 use Rattle.fx_node_laws.specs.Empty.{no_active, no_endpoints, no_sets}
-use Rattle.fx_graph.specs.Settled.{IsSettled}
+use Rattle.fx_graph.specs.InStep.{IsInStep}
 use Rattle.fx_graph.specs.declared.nodes.Nodes.{Nodes}
 
 no_use : (u : SetUse) → None ≡ Some u → ⊥
@@ -31,15 +31,15 @@ none_in : (uses : Uses) → uses ≡ map.empty → (t : List ℕ) → none_used 
 none_in uses none t = sym (ap (λ (m : Uses). used_in m t) none ∙ ap (used_among t) (entries-empty (slice_cmp nat_cmp)))
 
 module _ (dg : Digest) (g : Nodes) (told : g.told ≡ record { policies = map.empty; profiles = map.empty; pairs = set.empty })
-    (upper : IsUpper g.upper.joined none_used map.empty map.empty set.empty) (pairs : g.upper.joined.pairs ≡ set.empty)
+    (upper : AreInStep g.upper.joined none_used map.empty map.empty set.empty) (pairs : g.upper.joined.pairs ≡ set.empty)
     (scanner : g.scanner ≡ no_active) (scanned : IsScanned dg g.scanner map.empty map.empty map.empty) (uses : g.uses ≡ map.empty)
     (resolver : g.resolver ≡ no_endpoints) (resolved : IsResolved g.resolver map.empty)
     (members : g.members ≡ no_sets) (are : AreMembers g.members map.empty)
     (sequencer : g.sequencer ≡ record { sent = empty_view; now = empty_view }) where
-  pub settled_first : IsSettled dg None g
+  pub settled_first : IsInStep dg None g
   settled_first = record {
-    upper = subst (λ (t : ActiveTold). IsUpper g.upper.joined (used_in g.uses) t.policies t.profiles t.pairs) (sym told)
-        (subst (λ (used : List ℕ → ℕ). IsUpper g.upper.joined used map.empty map.empty set.empty) (λ j t. none_in g.uses uses t j) upper);
+    upper = subst (λ (t : ActiveTold). AreInStep g.upper.joined (used_in g.uses) t.policies t.profiles t.pairs) (sym told)
+        (subst (λ (used : List ℕ → ℕ). AreInStep g.upper.joined used map.empty map.empty set.empty) (λ j t. none_in g.uses uses t j) upper);
     policies = (λ j. (scanner j).policies) ∙ (λ j. (sym told j).policies);
     profiles = (λ j. (scanner j).profiles) ∙ (λ j. (sym told j).profiles);
     scanned = subst (λ (q : Sides). IsScanned dg g.scanner q.now.policies q.now.profiles g.uses) (sym sequencer)

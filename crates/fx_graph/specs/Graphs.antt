@@ -10,13 +10,13 @@ use Rattle.fx_model.specs.declared.resources.Update.{Update}
 use Rattle.fx_sequencer.specs.declared.sides.Sides.{Sides}
 use Rattle.fx_node_laws.specs.Tied.{IsTied}
 use Rattle.fx_node_laws.specs.Waits.{AreWaiting}
-use Rattle.fx_graph.specs.Settled.{IsSettled}
+use Rattle.fx_graph.specs.InStep.{IsInStep}
 use Rattle.fx_graph.specs.declared.nodes.Nodes.{Nodes}
 use Rattle.fx_graph.specs.declared.state.GraphState.{GraphState}
 
 -- the nodes agree, and what they hold is the resources'
 pub record AreOf (dg : Digest) (R : Resources) (g : Nodes) : Type 0 where
-  pub settled : IsSettled dg None g
+  pub settled : IsInStep dg None g
   pub tied : IsTied dg R g.upper.joined.index g.upper.joined.active g.resolver g.members
   pub waiting : AreWaiting R g.waiting
 

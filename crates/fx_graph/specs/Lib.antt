@@ -1,7 +1,7 @@
 pub mod Used
 pub mod Fed
 pub mod Since
-pub mod Settled
-pub mod Ahead
+pub mod InStep
+pub mod BehindBy
 pub mod Taking
 pub mod Graphs

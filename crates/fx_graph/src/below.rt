@@ -4,7 +4,7 @@ ghost use Rattle.std.specs.FinMap as map;
 ghost use Rattle.fx_model.specs.Views.{profile_key};
 ghost use Rattle.fx_node_laws.specs.Changes.{with_tier, without_tier};
 ghost use Rattle.fx_resolver.specs.Resolved.{HaveOwnInterfaces};
-ghost use Rattle.fx_graph.specs.Settled.{IsSettled};
+ghost use Rattle.fx_graph.specs.InStep.{IsInStep};
 ghost use Rattle.fx_graph.specs.Taking.{contributing, withdrawn, placed, displaced, IsBeside, taken_of};
 
 use crate::nodes::Nodes;
@@ -31,10 +31,10 @@ fn profile_keys<R: DigestRule, F: DigestFunction<R> + Drop>(
 impl Nodes {
     /// Puts an item among those that give members to sets.
     pub fn contribute<R: DigestRule>(&mut self, key: &ItemKey, item: &Item) -> Result<(), Memory>
-        requires { IsSettled R.digest_of None self.old }
+        requires { IsInStep R.digest_of None self.old }
         ensures taken { OnOk result (taken_of self.new ≡ contributing key.now item.now (taken_of self.old)) }
         ensures beside { OnOk result (IsBeside self.old self.new) }
-        ensures settled { OnOk result (IsSettled R.digest_of None self.new) }
+        ensures settled { OnOk result (IsInStep R.digest_of None self.new) }
     {
         put_item(
             self.alloc,
@@ -48,10 +48,10 @@ impl Nodes {
 
     /// Removes an item from those.
     pub fn withdraw<R: DigestRule>(&mut self, key: &ItemKey) -> Result<(), Memory>
-        requires { IsSettled R.digest_of None self.old }
+        requires { IsInStep R.digest_of None self.old }
         ensures taken { OnOk result (taken_of self.new ≡ withdrawn key.now (taken_of self.old)) }
         ensures beside { OnOk result (IsBeside self.old self.new) }
-        ensures settled { OnOk result (IsSettled R.digest_of None self.new) }
+        ensures settled { OnOk result (IsInStep R.digest_of None self.new) }
     {
         remove_item(self.alloc, key, &mut self.members, &mut self.sequencer)?;
         Ok(())
@@ -67,10 +67,10 @@ impl Nodes {
     ) -> Result<(), Memory>
         requires short { length iface.now ≤ 15 }
         requires apart { HaveOwnInterfaces (map.insert self.old.resolver.endpoints key.now (record { iface = iface.now; profiles = each (profile_key R.digest_of) profiles.now })) }
-        requires settled { IsSettled R.digest_of None self.old }
+        requires settled { IsInStep R.digest_of None self.old }
         ensures taken { OnOk result (taken_of self.new ≡ placed key.now (record { iface = iface.now; profiles = each (profile_key R.digest_of) profiles.now }) (taken_of self.old)) }
         ensures beside { OnOk result (IsBeside self.old self.new) }
-        ensures settled { OnOk result (IsSettled R.digest_of None self.new) }
+        ensures settled { OnOk result (IsInStep R.digest_of None self.new) }
     {
         let keys = profile_keys(self.alloc, profiles, namer)?;
         let resolver = &mut self.resolver;
@@ -80,10 +80,10 @@ impl Nodes {
 
     /// Removes an endpoint from those, if it is one.
     pub fn displace<R: DigestRule>(&mut self, key: &ItemKey) -> Result<(), Memory>
-        requires { IsSettled R.digest_of None self.old }
+        requires { IsInStep R.digest_of None self.old }
         ensures taken { OnOk result (taken_of self.new ≡ displaced key.now (taken_of self.old)) }
         ensures beside { OnOk result (IsBeside self.old self.new) }
-        ensures settled { OnOk result (IsSettled R.digest_of None self.new) }
+        ensures settled { OnOk result (IsInStep R.digest_of None self.new) }
     {
         remove_endpoint(self.alloc, key, &mut self.resolver, &mut self.sequencer)?;
         Ok(())
@@ -91,10 +91,10 @@ impl Nodes {
 
     /// Puts a tier.
     pub fn order_tier<R: DigestRule>(&mut self, name: &Text, tier: &Tier) -> Result<(), Memory>
-        requires { IsSettled R.digest_of None self.old }
+        requires { IsInStep R.digest_of None self.old }
         ensures taken { OnOk result (taken_of self.new ≡ with_tier name.now tier.now (taken_of self.old)) }
         ensures beside { OnOk result (IsBeside self.old self.new) }
-        ensures settled { OnOk result (IsSettled R.digest_of None self.new) }
+        ensures settled { OnOk result (IsInStep R.digest_of None self.new) }
     {
         put_tier(
             self.alloc,
@@ -108,10 +108,10 @@ impl Nodes {
 
     /// Removes a tier.
     pub fn drop_tier<R: DigestRule>(&mut self, name: &Text) -> Result<(), Memory>
-        requires { IsSettled R.digest_of None self.old }
+        requires { IsInStep R.digest_of None self.old }
         ensures taken { OnOk result (taken_of self.new ≡ without_tier name.now (taken_of self.old)) }
         ensures beside { OnOk result (IsBeside self.old self.new) }
-        ensures settled { OnOk result (IsSettled R.digest_of None self.new) }
+        ensures settled { OnOk result (IsInStep R.digest_of None self.new) }
     {
         remove_tier(self.alloc, name, &mut self.resolver, &mut self.sequencer)?;
         Ok(())

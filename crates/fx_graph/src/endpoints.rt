@@ -4,7 +4,7 @@ ghost use Rattle.std.specs.FinMap as map;
 ghost use Rattle.fx_model.specs.declared.resources.Item.TheVariants as items;
 ghost use Rattle.fx_node_laws.specs.Tied.{known_endpoint};
 ghost use Rattle.fx_resolver.specs.Resolved.{HaveOwnInterfaces};
-ghost use Rattle.fx_graph.specs.Settled.{IsSettled};
+ghost use Rattle.fx_graph.specs.InStep.{IsInStep};
 ghost use Rattle.fx_graph.specs.Taking.{with_served, with_other, without_item, AreApart, IsBeside, taken_of};
 
 use crate::nodes::Nodes;
@@ -26,10 +26,10 @@ impl Nodes {
         requires short { length endpoint.now.iface ≤ 15 }
         requires own { HaveOwnInterfaces (map.insert self.old.resolver.endpoints key.now (known_endpoint R.digest_of endpoint.now)) }
         requires apart { AreApart R.digest_of (with_served R.digest_of key.now endpoint.now (taken_of self.old)) }
-        requires settled { IsSettled R.digest_of None self.old }
+        requires settled { IsInStep R.digest_of None self.old }
         ensures taken { OnOk result (taken_of self.new ≡ with_served R.digest_of key.now endpoint.now (taken_of self.old)) }
         ensures beside { OnOk result (IsBeside self.old self.new) }
-        ensures settled { OnOk result (IsSettled R.digest_of None self.new) }
+        ensures settled { OnOk result (IsInStep R.digest_of None self.new) }
     {
         let profiles = endpoint.profiles.as_slice();
         self.contribute::<R>(key, item)?;
@@ -49,10 +49,10 @@ impl Nodes {
     ) -> Result<(), Memory>
         requires item { item.now ≡ items.Endpoint endpoint.now }
         requires apart { AreApart R.digest_of (with_other key.now endpoint.now (taken_of self.old)) }
-        requires settled { IsSettled R.digest_of None self.old }
+        requires settled { IsInStep R.digest_of None self.old }
         ensures taken { OnOk result (taken_of self.new ≡ with_other key.now endpoint.now (taken_of self.old)) }
         ensures beside { OnOk result (IsBeside self.old self.new) }
-        ensures settled { OnOk result (IsSettled R.digest_of None self.new) }
+        ensures settled { OnOk result (IsInStep R.digest_of None self.new) }
     {
         let profiles = endpoint.profiles.as_slice();
         self.contribute::<R>(key, item)?;
@@ -69,10 +69,10 @@ impl Nodes {
         ticks: &mut T,
     ) -> Result<(), Memory>
         requires apart { AreApart R.digest_of (without_item key.now (taken_of self.old)) }
-        requires settled { IsSettled R.digest_of None self.old }
+        requires settled { IsInStep R.digest_of None self.old }
         ensures taken { OnOk result (taken_of self.new ≡ without_item key.now (taken_of self.old)) }
         ensures beside { OnOk result (IsBeside self.old self.new) }
-        ensures settled { OnOk result (IsSettled R.digest_of None self.new) }
+        ensures settled { OnOk result (IsInStep R.digest_of None self.new) }
     {
         self.withdraw::<R>(key)?;
         self.displace::<R>(key)?;

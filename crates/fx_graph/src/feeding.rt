@@ -1,9 +1,9 @@
 //! The label index, brought to the sets that are used.
 ghost use Rattle.std.specs.Prelude.{◌≡◌, ℕ, List, Option, OnOk};
-ghost use Rattle.fx_graph.specs.Since.{IsUpperSince};
+ghost use Rattle.fx_graph.specs.Since.{AreBehindBy};
 ghost use Rattle.fx_graph.specs.Used.{used_in};
 ghost use Rattle.fx_graph_rules.specs.Counting.{with_some};
-ghost use Rattle.fx_graph_rules.specs.Uppers.{IsUpper};
+ghost use Rattle.fx_graph_rules.specs.Uppers.{AreInStep};
 ghost use Rattle.fx_members.specs.Members.{AreMembers};
 ghost use Rattle.fx_graph_view.specs.Kept.{SameButSets};
 ghost use Rattle.fx_graph_view.specs.Noted.{AreFormed};
@@ -33,15 +33,15 @@ pub fn feed<S: ActiveSink, T: Ticker>(
     sequencer: &mut Sequencer,
     ticks: &mut T,
 ) -> Result<(), Memory>
-    requires since { (before : Option (List ℕ)) × IsUpperSince notes.now uses.now before upper.old.joined (S.policies sink.old) (S.profiles sink.old) (S.pairs sink.old) }
+    requires since { (before : Option (List ℕ)) × AreBehindBy notes.now uses.now before upper.old.joined (S.policies sink.old) (S.profiles sink.old) (S.pairs sink.old) }
     requires formed { AreFormed uses.now }
     requires matched { members.old.matched ≡ upper.old.joined.pairs }
     requires members { AreMembers members.old sequencer.old.now.sets }
     ensures index { OnOk result (upper.new.joined.index ≡ record upper.old.joined.index { selectors = upper.new.joined.index.selectors }) }
     ensures active { OnOk result (upper.new.joined.active ≡ record upper.old.joined.active { matched = upper.new.joined.pairs }) }
     ensures upper { OnOk result ((before : Option (List ℕ))
-        → IsUpperSince notes.now uses.now before upper.old.joined (S.policies sink.old) (S.profiles sink.old) (S.pairs sink.old)
-        → IsUpper upper.new.joined (with_some before (used_in uses.now)) (S.policies sink.new) (S.profiles sink.new) (S.pairs sink.new)) }
+        → AreBehindBy notes.now uses.now before upper.old.joined (S.policies sink.old) (S.profiles sink.old) (S.pairs sink.old)
+        → AreInStep upper.new.joined (with_some before (used_in uses.now)) (S.policies sink.new) (S.profiles sink.new) (S.pairs sink.new)) }
     ensures policies { OnOk result (S.policies sink.new ≡ S.policies sink.old) }
     ensures profiles { OnOk result (S.profiles sink.new ≡ S.profiles sink.old) }
     ensures pairs { OnOk result (S.pairs sink.new ≡ S.pairs sink.old) }

@@ -1,6 +1,6 @@
 //! Items change in the two upper nodes: their labels and parents, and which are endpoints of this node in service.
 ghost use Rattle.std.specs.Prelude.{◌≡◌, None, OnOk};
-ghost use Rattle.fx_graph.specs.Settled.{IsSettled};
+ghost use Rattle.fx_graph.specs.InStep.{IsInStep};
 ghost use Rattle.fx_graph.specs.Taking.{labelled_served, labelled_other, unlabelled, AreApart, IsBeside, taken_of};
 
 use crate::nodes::Nodes;
@@ -22,11 +22,11 @@ impl Nodes {
         namer: &Namer<R, F>,
         ticks: &mut T,
     ) -> Result<(), Memory>
-        requires settled { IsSettled R.digest_of None self.old }
+        requires settled { IsInStep R.digest_of None self.old }
         requires apart { AreApart R.digest_of (labelled_served key.now labels.now parents.now (taken_of self.old)) }
         ensures taken { OnOk result (taken_of self.new ≡ labelled_served key.now labels.now parents.now (taken_of self.old)) }
         ensures beside { OnOk result (IsBeside self.old self.new) }
-        ensures settled { OnOk result (IsSettled R.digest_of None self.new) }
+        ensures settled { OnOk result (IsInStep R.digest_of None self.new) }
     {
         self.label_served_by::<Brand, R, F, T>(key, labels, parents, namer, ticks)?;
         Ok(())
@@ -41,11 +41,11 @@ impl Nodes {
         ticks: &mut T,
     ) -> Result<(), Memory>
         requires start { self.old.told ≡ K.told_then }
-        requires settled { IsSettled R.digest_of None self.old }
+        requires settled { IsInStep R.digest_of None self.old }
         requires apart { AreApart R.digest_of (labelled_served key.now labels.now parents.now (taken_of self.old)) }
         ensures taken { OnOk result (taken_of self.new ≡ labelled_served key.now labels.now parents.now (taken_of self.old)) }
         ensures beside { OnOk result (IsBeside self.old self.new) }
-        ensures settled { OnOk result (IsSettled R.digest_of None self.new) }
+        ensures settled { OnOk result (IsInStep R.digest_of None self.new) }
     {
         let told = mem::replace(&mut self.told, ActiveTold::new(self.alloc));
         let mut log: ActiveLog<K> = ActiveLog::new(self.alloc, told);
@@ -65,11 +65,11 @@ impl Nodes {
         namer: &Namer<R, F>,
         ticks: &mut T,
     ) -> Result<(), Memory>
-        requires settled { IsSettled R.digest_of None self.old }
+        requires settled { IsInStep R.digest_of None self.old }
         requires apart { AreApart R.digest_of (labelled_other key.now labels.now parents.now (taken_of self.old)) }
         ensures taken { OnOk result (taken_of self.new ≡ labelled_other key.now labels.now parents.now (taken_of self.old)) }
         ensures beside { OnOk result (IsBeside self.old self.new) }
-        ensures settled { OnOk result (IsSettled R.digest_of None self.new) }
+        ensures settled { OnOk result (IsInStep R.digest_of None self.new) }
     {
         self.label_other_by::<Brand, R, F, T>(key, labels, parents, namer, ticks)?;
         Ok(())
@@ -84,11 +84,11 @@ impl Nodes {
         ticks: &mut T,
     ) -> Result<(), Memory>
         requires start { self.old.told ≡ K.told_then }
-        requires settled { IsSettled R.digest_of None self.old }
+        requires settled { IsInStep R.digest_of None self.old }
         requires apart { AreApart R.digest_of (labelled_other key.now labels.now parents.now (taken_of self.old)) }
         ensures taken { OnOk result (taken_of self.new ≡ labelled_other key.now labels.now parents.now (taken_of self.old)) }
         ensures beside { OnOk result (IsBeside self.old self.new) }
-        ensures settled { OnOk result (IsSettled R.digest_of None self.new) }
+        ensures settled { OnOk result (IsInStep R.digest_of None self.new) }
     {
         let told = mem::replace(&mut self.told, ActiveTold::new(self.alloc));
         let mut log: ActiveLog<K> = ActiveLog::new(self.alloc, told);
@@ -104,11 +104,11 @@ impl Nodes {
         namer: &Namer<R, F>,
         ticks: &mut T,
     ) -> Result<(), Memory>
-        requires settled { IsSettled R.digest_of None self.old }
+        requires settled { IsInStep R.digest_of None self.old }
         requires apart { AreApart R.digest_of (unlabelled key.now (taken_of self.old)) }
         ensures taken { OnOk result (taken_of self.new ≡ unlabelled key.now (taken_of self.old)) }
         ensures beside { OnOk result (IsBeside self.old self.new) }
-        ensures settled { OnOk result (IsSettled R.digest_of None self.new) }
+        ensures settled { OnOk result (IsInStep R.digest_of None self.new) }
     {
         self.unlabel_by::<Brand, R, F, T>(key, namer, ticks)?;
         Ok(())
@@ -121,11 +121,11 @@ impl Nodes {
         ticks: &mut T,
     ) -> Result<(), Memory>
         requires start { self.old.told ≡ K.told_then }
-        requires settled { IsSettled R.digest_of None self.old }
+        requires settled { IsInStep R.digest_of None self.old }
         requires apart { AreApart R.digest_of (unlabelled key.now (taken_of self.old)) }
         ensures taken { OnOk result (taken_of self.new ≡ unlabelled key.now (taken_of self.old)) }
         ensures beside { OnOk result (IsBeside self.old self.new) }
-        ensures settled { OnOk result (IsSettled R.digest_of None self.new) }
+        ensures settled { OnOk result (IsInStep R.digest_of None self.new) }
     {
         let told = mem::replace(&mut self.told, ActiveTold::new(self.alloc));
         let mut log: ActiveLog<K> = ActiveLog::new(self.alloc, told);

@@ -2,7 +2,7 @@
 ghost use Rattle.std.specs.Prelude.{◌≡◌, None, OnOk};
 ghost use Rattle.fx_model.specs.declared.resources.Item.TheVariants as items;
 ghost use Rattle.fx_model.specs.Labels.{namespace_parents, set_namespace};
-ghost use Rattle.fx_graph.specs.Settled.{IsSettled};
+ghost use Rattle.fx_graph.specs.InStep.{IsInStep};
 ghost use Rattle.fx_graph.specs.Taking.{contributing, withdrawn, labelled_other, unlabelled, AreApart, IsBeside, taken_of};
 
 use crate::nodes::Nodes;
@@ -23,11 +23,11 @@ impl Nodes {
         requires item { item.now ≡ items.NetSet net_set.now }
         requires apart { AreApart R.digest_of (labelled_other key.now net_set.now.labels (namespace_parents (set_namespace key.now))
             (contributing key.now (items.NetSet net_set.now) (taken_of self.old))) }
-        requires settled { IsSettled R.digest_of None self.old }
+        requires settled { IsInStep R.digest_of None self.old }
         ensures taken { OnOk result (taken_of self.new ≡ labelled_other key.now net_set.now.labels (namespace_parents (set_namespace key.now))
             (contributing key.now (items.NetSet net_set.now) (taken_of self.old))) }
         ensures beside { OnOk result (IsBeside self.old self.new) }
-        ensures settled { OnOk result (IsSettled R.digest_of None self.new) }
+        ensures settled { OnOk result (IsInStep R.digest_of None self.new) }
     {
         let parents = namespace_parents(self.alloc, key)?;
         self.contribute::<R>(key, item)?;
@@ -43,10 +43,10 @@ impl Nodes {
         ticks: &mut T,
     ) -> Result<(), Memory>
         requires apart { AreApart R.digest_of (unlabelled key.now (withdrawn key.now (taken_of self.old))) }
-        requires settled { IsSettled R.digest_of None self.old }
+        requires settled { IsInStep R.digest_of None self.old }
         ensures taken { OnOk result (taken_of self.new ≡ unlabelled key.now (withdrawn key.now (taken_of self.old))) }
         ensures beside { OnOk result (IsBeside self.old self.new) }
-        ensures settled { OnOk result (IsSettled R.digest_of None self.new) }
+        ensures settled { OnOk result (IsInStep R.digest_of None self.new) }
     {
         self.withdraw::<R>(key)?;
         self.unlabel(key, namer, ticks)?;

@@ -5,7 +5,7 @@ ghost use Rattle.fx_model.specs.Views.{empty_view};
 ghost use Rattle.fx_names.specs.Digests.{Digest};
 ghost use Rattle.fx_node_laws.specs.Changes.{taken};
 ghost use Rattle.fx_node_laws.specs.Empty.{no_items, no_rules, no_endpoints, no_sets};
-ghost use Rattle.fx_graph.specs.Settled.{IsSettled};
+ghost use Rattle.fx_graph.specs.InStep.{IsInStep};
 ghost use Rattle.fx_graph.specs.Taking.{taken_of};
 
 use fx_base::SetMap;
@@ -35,7 +35,7 @@ pub struct Nodes {
 
 impl Nodes {
     pub fn new(alloc: Global) -> Self
-        ensures settled { (dg : Digest) → IsSettled dg None result }
+        ensures settled { (dg : Digest) → IsInStep dg None result }
         ensures taken { taken_of result ≡ taken no_items no_rules no_endpoints no_sets }
         ensures waiting { result.waiting ≡ map.empty }
         ensures sequencer { result.sequencer ≡ record { sent = empty_view; now = empty_view } }

@@ -1,7 +1,7 @@
 //! Policies come and go.
 ghost use Rattle.std.specs.Prelude.{◌≡◌, None, OnOk};
 ghost use Rattle.fx_node_laws.specs.Changes.{with_policy, without_policy};
-ghost use Rattle.fx_graph.specs.Settled.{IsSettled};
+ghost use Rattle.fx_graph.specs.InStep.{IsInStep};
 ghost use Rattle.fx_graph.specs.Taking.{AreApart, IsBeside, taken_of};
 
 use crate::nodes::Nodes;
@@ -22,11 +22,11 @@ impl Nodes {
         namer: &Namer<R, F>,
         ticks: &mut T,
     ) -> Result<(), Memory>
-        requires settled { IsSettled R.digest_of None self.old }
+        requires settled { IsInStep R.digest_of None self.old }
         requires apart { AreApart R.digest_of (with_policy id.now policy.now (taken_of self.old)) }
         ensures taken { OnOk result (taken_of self.new ≡ with_policy id.now policy.now (taken_of self.old)) }
         ensures beside { OnOk result (IsBeside self.old self.new) }
-        ensures settled { OnOk result (IsSettled R.digest_of None self.new) }
+        ensures settled { OnOk result (IsInStep R.digest_of None self.new) }
     {
         self.put_policy_by::<Brand, R, F, T>(id, policy, namer, ticks)?;
         Ok(())
@@ -40,11 +40,11 @@ impl Nodes {
         ticks: &mut T,
     ) -> Result<(), Memory>
         requires start { self.old.told ≡ K.told_then }
-        requires settled { IsSettled R.digest_of None self.old }
+        requires settled { IsInStep R.digest_of None self.old }
         requires apart { AreApart R.digest_of (with_policy id.now policy.now (taken_of self.old)) }
         ensures taken { OnOk result (taken_of self.new ≡ with_policy id.now policy.now (taken_of self.old)) }
         ensures beside { OnOk result (IsBeside self.old self.new) }
-        ensures settled { OnOk result (IsSettled R.digest_of None self.new) }
+        ensures settled { OnOk result (IsInStep R.digest_of None self.new) }
     {
         let told = mem::replace(&mut self.told, ActiveTold::new(self.alloc));
         let mut log: ActiveLog<K> = ActiveLog::new(self.alloc, told);
@@ -61,11 +61,11 @@ impl Nodes {
         namer: &Namer<R, F>,
         ticks: &mut T,
     ) -> Result<(), Memory>
-        requires settled { IsSettled R.digest_of None self.old }
+        requires settled { IsInStep R.digest_of None self.old }
         requires apart { AreApart R.digest_of (without_policy id.now (taken_of self.old)) }
         ensures taken { OnOk result (taken_of self.new ≡ without_policy id.now (taken_of self.old)) }
         ensures beside { OnOk result (IsBeside self.old self.new) }
-        ensures settled { OnOk result (IsSettled R.digest_of None self.new) }
+        ensures settled { OnOk result (IsInStep R.digest_of None self.new) }
     {
         self.remove_policy_by::<Brand, R, F, T>(id, namer, ticks)?;
         Ok(())
@@ -78,11 +78,11 @@ impl Nodes {
         ticks: &mut T,
     ) -> Result<(), Memory>
         requires start { self.old.told ≡ K.told_then }
-        requires settled { IsSettled R.digest_of None self.old }
+        requires settled { IsInStep R.digest_of None self.old }
         requires apart { AreApart R.digest_of (without_policy id.now (taken_of self.old)) }
         ensures taken { OnOk result (taken_of self.new ≡ without_policy id.now (taken_of self.old)) }
         ensures beside { OnOk result (IsBeside self.old self.new) }
-        ensures settled { OnOk result (IsSettled R.digest_of None self.new) }
+        ensures settled { OnOk result (IsInStep R.digest_of None self.new) }
     {
         let told = mem::replace(&mut self.told, ActiveTold::new(self.alloc));
         let mut log: ActiveLog<K> = ActiveLog::new(self.alloc, told);

@@ -1,7 +1,7 @@
 //! Profiles come and go, and with them the labels that items inherit.
 ghost use Rattle.std.specs.Prelude.{◌≡◌, None, OnOk};
 ghost use Rattle.fx_node_laws.specs.Changes.{with_profile, without_profile};
-ghost use Rattle.fx_graph.specs.Settled.{IsSettled};
+ghost use Rattle.fx_graph.specs.InStep.{IsInStep};
 ghost use Rattle.fx_graph.specs.Taking.{AreApart, IsBeside, taken_of};
 
 use crate::nodes::Nodes;
@@ -21,11 +21,11 @@ impl Nodes {
         namer: &Namer<R, F>,
         ticks: &mut T,
     ) -> Result<(), Memory>
-        requires settled { IsSettled R.digest_of None self.old }
+        requires settled { IsInStep R.digest_of None self.old }
         requires apart { AreApart R.digest_of (with_profile name.now profile.now (taken_of self.old)) }
         ensures taken { OnOk result (taken_of self.new ≡ with_profile name.now profile.now (taken_of self.old)) }
         ensures beside { OnOk result (IsBeside self.old self.new) }
-        ensures settled { OnOk result (IsSettled R.digest_of None self.new) }
+        ensures settled { OnOk result (IsInStep R.digest_of None self.new) }
     {
         self.put_profile_by::<Brand, R, F, T>(name, profile, namer, ticks)?;
         Ok(())
@@ -39,11 +39,11 @@ impl Nodes {
         ticks: &mut T,
     ) -> Result<(), Memory>
         requires start { self.old.told ≡ K.told_then }
-        requires settled { IsSettled R.digest_of None self.old }
+        requires settled { IsInStep R.digest_of None self.old }
         requires apart { AreApart R.digest_of (with_profile name.now profile.now (taken_of self.old)) }
         ensures taken { OnOk result (taken_of self.new ≡ with_profile name.now profile.now (taken_of self.old)) }
         ensures beside { OnOk result (IsBeside self.old self.new) }
-        ensures settled { OnOk result (IsSettled R.digest_of None self.new) }
+        ensures settled { OnOk result (IsInStep R.digest_of None self.new) }
     {
         let told = mem::replace(&mut self.told, ActiveTold::new(self.alloc));
         let mut log: ActiveLog<K> = ActiveLog::new(self.alloc, told);
@@ -59,11 +59,11 @@ impl Nodes {
         namer: &Namer<R, F>,
         ticks: &mut T,
     ) -> Result<(), Memory>
-        requires settled { IsSettled R.digest_of None self.old }
+        requires settled { IsInStep R.digest_of None self.old }
         requires apart { AreApart R.digest_of (without_profile name.now (taken_of self.old)) }
         ensures taken { OnOk result (taken_of self.new ≡ without_profile name.now (taken_of self.old)) }
         ensures beside { OnOk result (IsBeside self.old self.new) }
-        ensures settled { OnOk result (IsSettled R.digest_of None self.new) }
+        ensures settled { OnOk result (IsInStep R.digest_of None self.new) }
     {
         self.remove_profile_by::<Brand, R, F, T>(name, namer, ticks)?;
         Ok(())
@@ -76,11 +76,11 @@ impl Nodes {
         ticks: &mut T,
     ) -> Result<(), Memory>
         requires start { self.old.told ≡ K.told_then }
-        requires settled { IsSettled R.digest_of None self.old }
+        requires settled { IsInStep R.digest_of None self.old }
         requires apart { AreApart R.digest_of (without_profile name.now (taken_of self.old)) }
         ensures taken { OnOk result (taken_of self.new ≡ without_profile name.now (taken_of self.old)) }
         ensures beside { OnOk result (IsBeside self.old self.new) }
-        ensures settled { OnOk result (IsSettled R.digest_of None self.new) }
+        ensures settled { OnOk result (IsInStep R.digest_of None self.new) }
     {
         let told = mem::replace(&mut self.told, ActiveTold::new(self.alloc));
         let mut log: ActiveLog<K> = ActiveLog::new(self.alloc, told);

@@ -4,9 +4,9 @@ ghost use Rattle.std.specs.Prelude.{map as each};
 ghost use Rattle.std.specs.FinMap as map;
 ghost use Rattle.fx_base.specs.Extended.{extended};
 ghost use Rattle.fx_graph_rules.specs.Composed.{IsComposed};
-ghost use Rattle.fx_graph_rules.specs.Uppers.{IsUpper, IsUpperForSome};
+ghost use Rattle.fx_graph_rules.specs.Uppers.{AreInStep, AreInStepForSome};
 ghost use Rattle.fx_node_laws.specs.Waits.{known_waiting, with_waiting};
-ghost use Rattle.fx_graph.specs.Settled.{IsSettled};
+ghost use Rattle.fx_graph.specs.InStep.{IsInStep};
 ghost use Rattle.fx_graph.specs.Taking.{AreApart, IsBeside, taken_of, serving, AreOwnTogether, AreShort};
 
 use crate::nodes::Nodes;
@@ -24,15 +24,15 @@ fn serve_each<S: ActiveSink>(
     upper: &mut Upper,
     sink: &mut S,
 ) -> Result<(), Memory>
-    requires { IsUpperForSome upper.old.joined (S.policies sink.old) (S.profiles sink.old) (S.pairs sink.old) }
+    requires { AreInStepForSome upper.old.joined (S.policies sink.old) (S.profiles sink.old) (S.pairs sink.old) }
     ensures index { OnOk result (upper.new.joined.index ≡ upper.old.joined.index) }
     ensures pairs { OnOk result (upper.new.joined.pairs ≡ upper.old.joined.pairs) }
     ensures active { OnOk result (upper.new.joined.active ≡ record upper.old.joined.active {
       endpoints = extended upper.old.joined.active.endpoints
           (each (λ x. (x.0, x.1.profiles)) (map.entries waiting.now));
     }) }
-    ensures upper { OnOk result ((used : List ℕ → ℕ) → IsUpper upper.old.joined used (S.policies sink.old) (S.profiles sink.old) (S.pairs sink.old)
-        → IsUpper upper.new.joined used (S.policies sink.new) (S.profiles sink.new) (S.pairs sink.new)) }
+    ensures upper { OnOk result ((used : List ℕ → ℕ) → AreInStep upper.old.joined used (S.policies sink.old) (S.profiles sink.old) (S.pairs sink.old)
+        → AreInStep upper.new.joined used (S.policies sink.new) (S.profiles sink.new) (S.pairs sink.new)) }
     ensures composed { OnOk result (IsComposed upper.new.joined.index upper.new.joined.active (S.policies sink.new) (S.profiles sink.new) (S.pairs sink.new)) }
 {
     for (key, endpoint) in waiting.iter() {
@@ -51,11 +51,11 @@ impl Nodes {
         requires short { AreShort self.old.waiting }
         requires own { AreOwnTogether R.digest_of self.old.waiting (taken_of self.old) }
         requires apart { AreApart R.digest_of (with_waiting R.digest_of self.old.waiting (taken_of self.old)) }
-        requires settled { IsSettled R.digest_of None self.old }
+        requires settled { IsInStep R.digest_of None self.old }
         ensures taken { OnOk result (taken_of self.new ≡ with_waiting R.digest_of self.old.waiting (taken_of self.old)) }
         ensures waiting { OnOk result (self.new.waiting ≡ map.empty) }
         ensures sent { OnOk result (self.new.sequencer.sent ≡ self.old.sequencer.sent) }
-        ensures settled { OnOk result (IsSettled R.digest_of None self.new) }
+        ensures settled { OnOk result (IsInStep R.digest_of None self.new) }
     {
         let waiting = mem::replace(&mut self.waiting, ItemMap::new(self.alloc));
         self.place_each(&waiting, namer)?;
@@ -70,13 +70,13 @@ impl Nodes {
     ) -> Result<(), Memory>
         requires short { AreShort waiting.now }
         requires own { AreOwnTogether R.digest_of waiting.now (taken_of self.old) }
-        requires settled { IsSettled R.digest_of None self.old }
+        requires settled { IsInStep R.digest_of None self.old }
         ensures taken { OnOk result (taken_of self.new ≡ record (taken_of self.old) {
           locals = extended (taken_of self.old).locals
               (each (λ x. (x.0, known_waiting R.digest_of x.1)) (map.entries waiting.now));
         }) }
         ensures beside { OnOk result (IsBeside self.old self.new) }
-        ensures settled { OnOk result (IsSettled R.digest_of None self.new) }
+        ensures settled { OnOk result (IsInStep R.digest_of None self.new) }
     {
         for (key, endpoint) in waiting.iter() {
             let profiles = endpoint.profiles.as_slice();
@@ -91,11 +91,11 @@ impl Nodes {
         namer: &Namer<R, F>,
         ticks: &mut T,
     ) -> Result<(), Memory>
-        requires settled { IsSettled R.digest_of None self.old }
+        requires settled { IsInStep R.digest_of None self.old }
         requires apart { AreApart R.digest_of (serving waiting.now (taken_of self.old)) }
         ensures taken { OnOk result (taken_of self.new ≡ serving waiting.now (taken_of self.old)) }
         ensures beside { OnOk result (IsBeside self.old self.new) }
-        ensures settled { OnOk result (IsSettled R.digest_of None self.new) }
+        ensures settled { OnOk result (IsInStep R.digest_of None self.new) }
     {
         self.serve_all_by::<Brand, R, F, T>(waiting, namer, ticks)?;
         Ok(())
@@ -108,11 +108,11 @@ impl Nodes {
         ticks: &mut T,
     ) -> Result<(), Memory>
         requires start { self.old.told ≡ K.told_then }
-        requires settled { IsSettled R.digest_of None self.old }
+        requires settled { IsInStep R.digest_of None self.old }
         requires apart { AreApart R.digest_of (serving waiting.now (taken_of self.old)) }
         ensures taken { OnOk result (taken_of self.new ≡ serving waiting.now (taken_of self.old)) }
         ensures beside { OnOk result (IsBeside self.old self.new) }
-        ensures settled { OnOk result (IsSettled R.digest_of None self.new) }
+        ensures settled { OnOk result (IsInStep R.digest_of None self.new) }
     {
         let told = mem::replace(&mut self.told, ActiveTold::new(self.alloc));
         let mut log: ActiveLog<K> = ActiveLog::new(self.alloc, told);

@@ -1,8 +1,8 @@
 //! What the two upper nodes told, handed to the nodes below; and what comes into use below, put back into the index.
 ghost use Rattle.std.specs.Prelude.{◌≡◌, ℕ, List, Option, None, OnOk};
 ghost use Rattle.fx_scanner.specs.Apart.{IsApart};
-ghost use Rattle.fx_graph.specs.Ahead.{IsAhead};
-ghost use Rattle.fx_graph.specs.Settled.{IsSettled};
+ghost use Rattle.fx_graph.specs.BehindBy.{IsBehindBy};
+ghost use Rattle.fx_graph.specs.InStep.{IsInStep};
 ghost use Rattle.fx_graph.specs.Taking.{IsBeside, taken_of};
 
 use crate::feeding::feed;
@@ -23,12 +23,12 @@ impl Nodes {
         namer: &Namer<R, F>,
         ticks: &mut T,
     ) -> Result<(), Memory>
-        requires ahead { (before : Option (List ℕ)) × IsAhead R.digest_of before self.old changes.now logged }
+        requires ahead { (before : Option (List ℕ)) × IsBehindBy R.digest_of before self.old changes.now logged }
         requires apart { IsApart R.digest_of (record { policies = logged.told.policies; profiles = logged.told.profiles }) }
         ensures taken { OnOk result (taken_of self.new ≡ taken_of self.old) }
         ensures beside { OnOk result (IsBeside self.old self.new) }
-        ensures settled { OnOk result ((before : Option (List ℕ)) → IsAhead R.digest_of before self.old changes.now logged
-            → IsSettled R.digest_of before self.new) }
+        ensures settled { OnOk result ((before : Option (List ℕ)) → IsBehindBy R.digest_of before self.old changes.now logged
+            → IsInStep R.digest_of before self.new) }
     {
         let alloc = self.alloc;
         let pairs = &self.upper.joined.pairs;
@@ -66,10 +66,10 @@ impl Nodes {
         text: Option<Text>,
         ticks: &mut T,
     ) -> Result<(), Memory>
-        requires { IsSettled R.digest_of text self.old }
+        requires { IsInStep R.digest_of text self.old }
         ensures taken { OnOk result (taken_of self.new ≡ taken_of self.old) }
         ensures beside { OnOk result (IsBeside self.old self.new) }
-        ensures settled { OnOk result (IsSettled R.digest_of None self.new) }
+        ensures settled { OnOk result (IsInStep R.digest_of None self.new) }
     {
         let changes = self.upper.forget(text, &mut self.told, ticks)?;
         let pairs = &self.upper.joined.pairs;

@@ -14,10 +14,10 @@ use Rattle.fx_active.specs.Active.{text_of, where_active, applies_to}
 use Rattle.fx_graph_rules.specs.declared.join.Joined.{Joined}
 use Rattle.fx_graph_rules.specs.Counting.{total}
 use Rattle.fx_graph_rules.specs.Composed.{holds_at, acting, concerns, IsComposed}
-use Rattle.fx_graph_rules.specs.Uppers.{IsUpper}
+use Rattle.fx_graph_rules.specs.Uppers.{AreInStep}
 use Rattle.fx_graph_rules.proofs.Counts.{counted_tests, policy_counted}
 
-module _ (j : Joined) (used : List ℕ → ℕ) (P : Policies) (Q : Profiles) (S : PolicyPairs) (u : IsUpper j used P Q S) where
+module _ (j : Joined) (used : List ℕ → ℕ) (P : Policies) (Q : Profiles) (S : PolicyPairs) (u : AreInStep j used P Q S) where
   -- the index told where a policy's selector holds
   told : (id : PolicyId) (p : Policy) → map.get j.active.policies id ≡ Some p → (i : ItemKey) → set.contains j.active.matched (text_of p, i) ≡ holds_at j.index p.selector i
   told id p e i =

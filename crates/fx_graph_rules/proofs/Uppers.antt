@@ -22,7 +22,7 @@ use Rattle.fx_active.specs.Active.{text_of, selector_text}
 use Rattle.fx_graph_rules.specs.declared.join.Joined.{Joined}
 use Rattle.fx_graph_rules.specs.Counting.{weight, weight_of, times_among, times, total, none_used, with_one, with_some, IsCounted}
 use Rattle.fx_graph_rules.specs.Joining.{IsJoined}
-use Rattle.fx_graph_rules.specs.Uppers.{IsUpper}
+use Rattle.fx_graph_rules.specs.Uppers.{AreInStep}
 use Rattle.fx_graph_rules.proofs.Counts.{raised_counted, lowered_counted, times_apart, times_insert}
 use Rattle.fx_base.proofs.Cases.{moved, none_more}
 
@@ -87,11 +87,11 @@ selectors_gone m id h = λ q r e.
     ] (sym (map.get-remove policy_total m id q) ∙ e)
 
 -- ---- the nodes after a call
-module _ (j : Joined) (used : List ℕ → ℕ) (P : Policies) (Q : Profiles) (S : PolicyPairs) (u : IsUpper j used P Q S) (j' : Joined) (P' : Policies) (Q' : Profiles) (S' : PolicyPairs) (joined : IsJoined j' P' Q' S') where
+module _ (j : Joined) (used : List ℕ → ℕ) (P : Policies) (Q : Profiles) (S : PolicyPairs) (u : AreInStep j used P Q S) (j' : Joined) (P' : Policies) (Q' : Profiles) (S' : PolicyPairs) (joined : IsJoined j' P' Q' S') where
   -- a policy was put
   pub upper_put : (id : PolicyId) (p : Policy) (text : List ℕ) → IsSelector p.selector → text ≡ canonical_text p.selector
       → j'.index.selectors ≡ raised j.index.selectors text p.selector → j'.active.policies ≡ map.insert j.active.policies id p
-      → (before : Option (List ℕ)) → before ≡ selector_text (map.get j.active.policies id) → IsUpper j' (with_some before used) P' Q' S'
+      → (before : Option (List ℕ)) → before ≡ selector_text (map.get j.active.policies id) → AreInStep j' (with_some before used) P' Q' S'
   upper_put id p text is at counted put before was = record {
     joined = joined;
     counted = subst (λ o. IsCounted j'.index.selectors (total j'.active.policies (with_some o used))) (sym was)
@@ -103,7 +103,7 @@ module _ (j : Joined) (used : List ℕ → ℕ) (P : Policies) (Q : Profiles) (S
 
   -- a policy was removed
   pub upper_gone : (id : PolicyId) → j'.index.selectors ≡ j.index.selectors → j'.active.policies ≡ map.remove j.active.policies id
-      → (before : Option (List ℕ)) → before ≡ selector_text (map.get j.active.policies id) → IsUpper j' (with_some before used) P' Q' S'
+      → (before : Option (List ℕ)) → before ≡ selector_text (map.get j.active.policies id) → AreInStep j' (with_some before used) P' Q' S'
   upper_gone id same removed before was = record {
     joined = joined;
     counted = subst (λ o. IsCounted j'.index.selectors (total j'.active.policies (with_some o used))) (sym was)
@@ -114,7 +114,7 @@ module _ (j : Joined) (used : List ℕ → ℕ) (P : Policies) (Q : Profiles) (S
   }
 
   -- neither the policies nor the counted selectors changed
-  pub upper_stays : j'.index.selectors ≡ j.index.selectors → j'.active.policies ≡ j.active.policies → IsUpper j' used P' Q' S'
+  pub upper_stays : j'.index.selectors ≡ j.index.selectors → j'.active.policies ≡ j.active.policies → AreInStep j' used P' Q' S'
   upper_stays same kept = record {
     joined = joined;
     counted = subst (λ s. IsCounted s (total j'.active.policies used)) (sym same) (subst (λ m. IsCounted j.index.selectors (total m used)) (sym kept) u.counted);
@@ -122,9 +122,9 @@ module _ (j : Joined) (used : List ℕ → ℕ) (P : Policies) (Q : Profiles) (S
   }
 
 -- a selector is used once less
-pub upper_less : (j : Joined) (used : List ℕ → ℕ) (P : Policies) (Q : Profiles) (S : PolicyPairs) (text : List ℕ) → IsUpper j (with_one text used) P Q S
+pub upper_less : (j : Joined) (used : List ℕ → ℕ) (P : Policies) (Q : Profiles) (S : PolicyPairs) (text : List ℕ) → AreInStep j (with_one text used) P Q S
     → (j' : Joined) (P' : Policies) (Q' : Profiles) (S' : PolicyPairs) → IsJoined j' P' Q' S'
-    → j'.index.selectors ≡ lowered j.index.selectors text → j'.active.policies ≡ j.active.policies → IsUpper j' used P' Q' S'
+    → j'.index.selectors ≡ lowered j.index.selectors text → j'.active.policies ≡ j.active.policies → AreInStep j' used P' Q' S'
 upper_less j used P Q S text u j' P' Q' S' joined counted kept = record {
   joined = joined;
   counted = subst (λ s. IsCounted s (total j'.active.policies used)) (sym counted)
@@ -142,7 +142,7 @@ counted_none = record {
 }
 
 pub upper_none : (j : Joined) → IsJoined j map.empty map.empty set.empty → j.index.selectors ≡ map.empty → j.active.policies ≡ map.empty
-    → IsUpper j none_used map.empty map.empty set.empty
+    → AreInStep j none_used map.empty map.empty set.empty
 upper_none j joined none empty = record {
   joined = joined;
   counted = subst (λ s. IsCounted s (total j.active.policies none_used)) (sym none) (subst (λ m. IsCounted map.empty (total m none_used)) (sym empty) counted_none);
@@ -151,5 +151,5 @@ upper_none j joined none empty = record {
 
 -- a text that is there counts once
 pub upper_at : (j : Joined) (before : Option (List ℕ)) (text : List ℕ) (used : List ℕ → ℕ) (P : Policies) (Q : Profiles) (S : PolicyPairs)
-    → before ≡ Some text → IsUpper j (with_some before used) P Q S → IsUpper j (with_one text used) P Q S
-upper_at j before text used P Q S is upper = subst (λ x. IsUpper j (with_some x used) P Q S) is upper
+    → before ≡ Some text → AreInStep j (with_some before used) P Q S → AreInStep j (with_one text used) P Q S
+upper_at j before text used P Q S is upper = subst (λ x. AreInStep j (with_some x used) P Q S) is upper

@@ -6,7 +6,7 @@
 //!   endpoint lists, and the pairs of a policy and an endpoint. `ActiveLog` is such a sink, and keeps what may have changed since
 //!   its start.
 //! - **Answers** each call with the pairs of a selector and an item that came or went, in their order.
-//! - **Definition**: `IsUpper` of the nodes together, and `IsComposed` of what was told, over the inputs alone. In Felix these
+//! - **Definition**: `AreInStep` of the nodes together, and `IsComposed` of what was told, over the inputs alone. In Felix these
 //!   nodes are the `InheritIndex` and the `ActiveRulesCalculator`.
 #![tactic(auto)]
 

@@ -7,7 +7,7 @@ ghost use Rattle.fx_active.specs.Active.{selector_text};
 ghost use Rattle.fx_graph_rules.specs.Composed.{IsComposed};
 ghost use Rattle.fx_graph_rules.specs.Counting.{none_used, with_one, with_some};
 ghost use Rattle.fx_graph_rules.specs.Run.{IsRun};
-ghost use Rattle.fx_graph_rules.specs.Uppers.{IsUpper, IsUpperForSome};
+ghost use Rattle.fx_graph_rules.specs.Uppers.{AreInStep, AreInStepForSome};
 
 use crate::join::Joined;
 use crate::pair_log::PairChange;
@@ -16,7 +16,7 @@ use fx_model::{ActiveSink, ItemKey, Policy, PolicyId, Profile};
 use fx_selector::Labels;
 use std::alloc::Global;
 
-/// Both nodes. The index counts each policy's selector once, and besides them those that are put as used: if `IsUpper` holds of
+/// Both nodes. The index counts each policy's selector once, and besides them those that are put as used: if `AreInStep` holds of
 /// the nodes, the uses and what the active rules told before a call, it holds after it. Each call answers with the changes of pairs.
 /// After want of memory the value isn't used again.
 #[derive(Drop)]
@@ -47,7 +47,7 @@ impl Upper {
         ensures index { result.joined.index ≡ record { items = map.empty; parents = map.empty; selectors = map.empty } }
         ensures active { result.joined.active
             ≡ record { policies = map.empty; profiles = map.empty; endpoints = map.empty; matched = set.empty } }
-        ensures upper { IsUpper result.joined none_used map.empty map.empty set.empty }
+        ensures upper { AreInStep result.joined none_used map.empty map.empty set.empty }
     {
         Upper {
             alloc,
@@ -63,14 +63,14 @@ impl Upper {
         sink: &mut S,
         ticks: &mut T,
     ) -> Result<Replaced, Memory>
-        requires { IsUpperForSome self.old.joined (S.policies sink.old) (S.profiles sink.old) (S.pairs sink.old) }
+        requires { AreInStepForSome self.old.joined (S.policies sink.old) (S.profiles sink.old) (S.pairs sink.old) }
         ensures index { OnOk result (self.new.joined.index ≡ record self.old.joined.index { selectors = self.new.joined.index.selectors }) }
         ensures active { OnOk result (self.new.joined.active ≡ record self.old.joined.active
             { policies = map.insert self.old.joined.active.policies id.now policy.now; matched = self.new.joined.pairs }) }
         ensures before { IfOk result (λ replaced. replaced.before ≡ selector_text (map.get self.old.joined.active.policies id.now)) }
         ensures changes { IfOk result (λ replaced. IsRun replaced.changes self.old.joined.pairs self.new.joined.pairs) }
-        ensures upper { IfOk result (λ replaced. (used : List ℕ → ℕ) → IsUpper self.old.joined used (S.policies sink.old) (S.profiles sink.old) (S.pairs sink.old)
-            → IsUpper self.new.joined (with_some replaced.before used) (S.policies sink.new) (S.profiles sink.new) (S.pairs sink.new)) }
+        ensures upper { IfOk result (λ replaced. (used : List ℕ → ℕ) → AreInStep self.old.joined used (S.policies sink.old) (S.profiles sink.old) (S.pairs sink.old)
+            → AreInStep self.new.joined (with_some replaced.before used) (S.policies sink.new) (S.profiles sink.new) (S.pairs sink.new)) }
         ensures composed { OnOk result (IsComposed self.new.joined.index self.new.joined.active
             (S.policies sink.new) (S.profiles sink.new) (S.pairs sink.new)) }
     {
@@ -90,14 +90,14 @@ impl Upper {
         id: &PolicyId,
         sink: &mut S,
     ) -> Result<Option<Text>, Memory>
-        requires { IsUpperForSome self.old.joined (S.policies sink.old) (S.profiles sink.old) (S.pairs sink.old) }
+        requires { AreInStepForSome self.old.joined (S.policies sink.old) (S.profiles sink.old) (S.pairs sink.old) }
         ensures index { OnOk result (self.new.joined.index ≡ self.old.joined.index) }
         ensures pairs { OnOk result (self.new.joined.pairs ≡ self.old.joined.pairs) }
         ensures active { OnOk result (self.new.joined.active
             ≡ record self.old.joined.active { policies = map.remove self.old.joined.active.policies id.now }) }
         ensures before { IfOk result (λ before. before ≡ selector_text (map.get self.old.joined.active.policies id.now)) }
-        ensures upper { IfOk result (λ before. (used : List ℕ → ℕ) → IsUpper self.old.joined used (S.policies sink.old) (S.profiles sink.old) (S.pairs sink.old)
-            → IsUpper self.new.joined (with_some before used) (S.policies sink.new) (S.profiles sink.new) (S.pairs sink.new)) }
+        ensures upper { IfOk result (λ before. (used : List ℕ → ℕ) → AreInStep self.old.joined used (S.policies sink.old) (S.profiles sink.old) (S.pairs sink.old)
+            → AreInStep self.new.joined (with_some before used) (S.policies sink.new) (S.profiles sink.new) (S.pairs sink.new)) }
         ensures composed { OnOk result (IsComposed self.new.joined.index self.new.joined.active
             (S.policies sink.new) (S.profiles sink.new) (S.pairs sink.new)) }
     {
@@ -113,12 +113,12 @@ impl Upper {
         sink: &mut S,
         ticks: &mut T,
     ) -> Result<Seq<PairChange>, Memory>
-        requires { (used : List ℕ → ℕ) × IsUpper self.old.joined (with_one text.now used) (S.policies sink.old) (S.profiles sink.old) (S.pairs sink.old) }
+        requires { (used : List ℕ → ℕ) × AreInStep self.old.joined (with_one text.now used) (S.policies sink.old) (S.profiles sink.old) (S.pairs sink.old) }
         ensures index { OnOk result (self.new.joined.index ≡ record self.old.joined.index { selectors = self.new.joined.index.selectors }) }
         ensures changes { IfOk result (λ changes. IsRun changes self.old.joined.pairs self.new.joined.pairs) }
         ensures active { OnOk result (self.new.joined.active ≡ record self.old.joined.active { matched = self.new.joined.pairs }) }
-        ensures upper { OnOk result ((used : List ℕ → ℕ) → IsUpper self.old.joined (with_one text.now used) (S.policies sink.old) (S.profiles sink.old) (S.pairs sink.old)
-            → IsUpper self.new.joined used (S.policies sink.new) (S.profiles sink.new) (S.pairs sink.new)) }
+        ensures upper { OnOk result ((used : List ℕ → ℕ) → AreInStep self.old.joined (with_one text.now used) (S.policies sink.old) (S.profiles sink.old) (S.pairs sink.old)
+            → AreInStep self.new.joined used (S.policies sink.new) (S.profiles sink.new) (S.pairs sink.new)) }
         ensures composed { OnOk result (IsComposed self.new.joined.index self.new.joined.active
             (S.policies sink.new) (S.profiles sink.new) (S.pairs sink.new)) }
         ensures policies { OnOk result (S.policies sink.new ≡ S.policies sink.old) }
@@ -136,12 +136,12 @@ impl Upper {
         sink: &mut S,
         ticks: &mut T,
     ) -> Result<Seq<PairChange>, Memory>
-        requires { (used : List ℕ → ℕ) × IsUpper self.old.joined (with_some text used) (S.policies sink.old) (S.profiles sink.old) (S.pairs sink.old) }
+        requires { (used : List ℕ → ℕ) × AreInStep self.old.joined (with_some text used) (S.policies sink.old) (S.profiles sink.old) (S.pairs sink.old) }
         ensures index { OnOk result (self.new.joined.index ≡ record self.old.joined.index { selectors = self.new.joined.index.selectors }) }
         ensures changes { IfOk result (λ changes. IsRun changes self.old.joined.pairs self.new.joined.pairs) }
         ensures active { OnOk result (self.new.joined.active ≡ record self.old.joined.active { matched = self.new.joined.pairs }) }
-        ensures upper { OnOk result ((used : List ℕ → ℕ) → IsUpper self.old.joined (with_some text used) (S.policies sink.old) (S.profiles sink.old) (S.pairs sink.old)
-            → IsUpper self.new.joined used (S.policies sink.new) (S.profiles sink.new) (S.pairs sink.new)) }
+        ensures upper { OnOk result ((used : List ℕ → ℕ) → AreInStep self.old.joined (with_some text used) (S.policies sink.old) (S.profiles sink.old) (S.pairs sink.old)
+            → AreInStep self.new.joined used (S.policies sink.new) (S.profiles sink.new) (S.pairs sink.new)) }
         ensures composed { OnOk result (IsComposed self.new.joined.index self.new.joined.active
             (S.policies sink.new) (S.profiles sink.new) (S.pairs sink.new)) }
         ensures policies { OnOk result (S.policies sink.new ≡ S.policies sink.old) }
@@ -163,13 +163,13 @@ impl Upper {
         sink: &mut S,
         ticks: &mut T,
     ) -> Result<Seq<PairChange>, Memory>
-        requires { IsUpperForSome self.old.joined (S.policies sink.old) (S.profiles sink.old) (S.pairs sink.old) }
+        requires { AreInStepForSome self.old.joined (S.policies sink.old) (S.profiles sink.old) (S.pairs sink.old) }
         ensures index { OnOk result (self.new.joined.index ≡ record self.old.joined.index { parents = map.insert self.old.joined.index.parents name.now profile.now.labels }) }
         ensures changes { IfOk result (λ changes. IsRun changes self.old.joined.pairs self.new.joined.pairs) }
         ensures active { OnOk result (self.new.joined.active ≡ record self.old.joined.active
             { profiles = map.insert self.old.joined.active.profiles name.now profile.now; matched = self.new.joined.pairs }) }
-        ensures upper { OnOk result ((used : List ℕ → ℕ) → IsUpper self.old.joined used (S.policies sink.old) (S.profiles sink.old) (S.pairs sink.old)
-            → IsUpper self.new.joined used (S.policies sink.new) (S.profiles sink.new) (S.pairs sink.new)) }
+        ensures upper { OnOk result ((used : List ℕ → ℕ) → AreInStep self.old.joined used (S.policies sink.old) (S.profiles sink.old) (S.pairs sink.old)
+            → AreInStep self.new.joined used (S.policies sink.new) (S.profiles sink.new) (S.pairs sink.new)) }
         ensures composed { OnOk result (IsComposed self.new.joined.index self.new.joined.active
             (S.policies sink.new) (S.profiles sink.new) (S.pairs sink.new)) }
     {
@@ -185,13 +185,13 @@ impl Upper {
         sink: &mut S,
         ticks: &mut T,
     ) -> Result<Seq<PairChange>, Memory>
-        requires { IsUpperForSome self.old.joined (S.policies sink.old) (S.profiles sink.old) (S.pairs sink.old) }
+        requires { AreInStepForSome self.old.joined (S.policies sink.old) (S.profiles sink.old) (S.pairs sink.old) }
         ensures index { OnOk result (self.new.joined.index ≡ record self.old.joined.index { parents = map.remove self.old.joined.index.parents name.now }) }
         ensures changes { IfOk result (λ changes. IsRun changes self.old.joined.pairs self.new.joined.pairs) }
         ensures active { OnOk result (self.new.joined.active ≡ record self.old.joined.active
             { profiles = map.remove self.old.joined.active.profiles name.now; matched = self.new.joined.pairs }) }
-        ensures upper { OnOk result ((used : List ℕ → ℕ) → IsUpper self.old.joined used (S.policies sink.old) (S.profiles sink.old) (S.pairs sink.old)
-            → IsUpper self.new.joined used (S.policies sink.new) (S.profiles sink.new) (S.pairs sink.new)) }
+        ensures upper { OnOk result ((used : List ℕ → ℕ) → AreInStep self.old.joined used (S.policies sink.old) (S.profiles sink.old) (S.pairs sink.old)
+            → AreInStep self.new.joined used (S.policies sink.new) (S.profiles sink.new) (S.pairs sink.new)) }
         ensures composed { OnOk result (IsComposed self.new.joined.index self.new.joined.active
             (S.policies sink.new) (S.profiles sink.new) (S.pairs sink.new)) }
     {
@@ -209,13 +209,13 @@ impl Upper {
         sink: &mut S,
         ticks: &mut T,
     ) -> Result<Seq<PairChange>, Memory>
-        requires { IsUpperForSome self.old.joined (S.policies sink.old) (S.profiles sink.old) (S.pairs sink.old) }
+        requires { AreInStepForSome self.old.joined (S.policies sink.old) (S.profiles sink.old) (S.pairs sink.old) }
         ensures index { OnOk result (self.new.joined.index ≡ record self.old.joined.index { items = map.insert self.old.joined.index.items key.now (record { labels = labels.now; parents = profiles.now }) }) }
         ensures changes { IfOk result (λ changes. IsRun changes self.old.joined.pairs self.new.joined.pairs) }
         ensures active { OnOk result (self.new.joined.active ≡ record self.old.joined.active
             { endpoints = map.insert self.old.joined.active.endpoints key.now profiles.now; matched = self.new.joined.pairs }) }
-        ensures upper { OnOk result ((used : List ℕ → ℕ) → IsUpper self.old.joined used (S.policies sink.old) (S.profiles sink.old) (S.pairs sink.old)
-            → IsUpper self.new.joined used (S.policies sink.new) (S.profiles sink.new) (S.pairs sink.new)) }
+        ensures upper { OnOk result ((used : List ℕ → ℕ) → AreInStep self.old.joined used (S.policies sink.old) (S.profiles sink.old) (S.pairs sink.old)
+            → AreInStep self.new.joined used (S.policies sink.new) (S.profiles sink.new) (S.pairs sink.new)) }
         ensures composed { OnOk result (IsComposed self.new.joined.index self.new.joined.active
             (S.policies sink.new) (S.profiles sink.new) (S.pairs sink.new)) }
     {
@@ -231,13 +231,13 @@ impl Upper {
         listed: &[Text],
         sink: &mut S,
     ) -> Result<(), Memory>
-        requires { IsUpperForSome self.old.joined (S.policies sink.old) (S.profiles sink.old) (S.pairs sink.old) }
+        requires { AreInStepForSome self.old.joined (S.policies sink.old) (S.profiles sink.old) (S.pairs sink.old) }
         ensures index { OnOk result (self.new.joined.index ≡ self.old.joined.index) }
         ensures pairs { OnOk result (self.new.joined.pairs ≡ self.old.joined.pairs) }
         ensures active { OnOk result (self.new.joined.active ≡ record self.old.joined.active
             { endpoints = map.insert self.old.joined.active.endpoints key.now listed.now }) }
-        ensures upper { OnOk result ((used : List ℕ → ℕ) → IsUpper self.old.joined used (S.policies sink.old) (S.profiles sink.old) (S.pairs sink.old)
-            → IsUpper self.new.joined used (S.policies sink.new) (S.profiles sink.new) (S.pairs sink.new)) }
+        ensures upper { OnOk result ((used : List ℕ → ℕ) → AreInStep self.old.joined used (S.policies sink.old) (S.profiles sink.old) (S.pairs sink.old)
+            → AreInStep self.new.joined used (S.policies sink.new) (S.profiles sink.new) (S.pairs sink.new)) }
         ensures composed { OnOk result (IsComposed self.new.joined.index self.new.joined.active
             (S.policies sink.new) (S.profiles sink.new) (S.pairs sink.new)) }
     {
@@ -255,13 +255,13 @@ impl Upper {
         sink: &mut S,
         ticks: &mut T,
     ) -> Result<Seq<PairChange>, Memory>
-        requires { IsUpperForSome self.old.joined (S.policies sink.old) (S.profiles sink.old) (S.pairs sink.old) }
+        requires { AreInStepForSome self.old.joined (S.policies sink.old) (S.profiles sink.old) (S.pairs sink.old) }
         ensures index { OnOk result (self.new.joined.index ≡ record self.old.joined.index { items = map.insert self.old.joined.index.items key.now (record { labels = labels.now; parents = profiles.now }) }) }
         ensures changes { IfOk result (λ changes. IsRun changes self.old.joined.pairs self.new.joined.pairs) }
         ensures active { OnOk result (self.new.joined.active ≡ record self.old.joined.active
             { endpoints = map.remove self.old.joined.active.endpoints key.now; matched = self.new.joined.pairs }) }
-        ensures upper { OnOk result ((used : List ℕ → ℕ) → IsUpper self.old.joined used (S.policies sink.old) (S.profiles sink.old) (S.pairs sink.old)
-            → IsUpper self.new.joined used (S.policies sink.new) (S.profiles sink.new) (S.pairs sink.new)) }
+        ensures upper { OnOk result ((used : List ℕ → ℕ) → AreInStep self.old.joined used (S.policies sink.old) (S.profiles sink.old) (S.pairs sink.old)
+            → AreInStep self.new.joined used (S.policies sink.new) (S.profiles sink.new) (S.pairs sink.new)) }
         ensures composed { OnOk result (IsComposed self.new.joined.index self.new.joined.active
             (S.policies sink.new) (S.profiles sink.new) (S.pairs sink.new)) }
     {
@@ -277,13 +277,13 @@ impl Upper {
         sink: &mut S,
         ticks: &mut T,
     ) -> Result<Seq<PairChange>, Memory>
-        requires { IsUpperForSome self.old.joined (S.policies sink.old) (S.profiles sink.old) (S.pairs sink.old) }
+        requires { AreInStepForSome self.old.joined (S.policies sink.old) (S.profiles sink.old) (S.pairs sink.old) }
         ensures index { OnOk result (self.new.joined.index ≡ record self.old.joined.index { items = map.remove self.old.joined.index.items key.now }) }
         ensures changes { IfOk result (λ changes. IsRun changes self.old.joined.pairs self.new.joined.pairs) }
         ensures active { OnOk result (self.new.joined.active ≡ record self.old.joined.active
             { endpoints = map.remove self.old.joined.active.endpoints key.now; matched = self.new.joined.pairs }) }
-        ensures upper { OnOk result ((used : List ℕ → ℕ) → IsUpper self.old.joined used (S.policies sink.old) (S.profiles sink.old) (S.pairs sink.old)
-            → IsUpper self.new.joined used (S.policies sink.new) (S.profiles sink.new) (S.pairs sink.new)) }
+        ensures upper { OnOk result ((used : List ℕ → ℕ) → AreInStep self.old.joined used (S.policies sink.old) (S.profiles sink.old) (S.pairs sink.old)
+            → AreInStep self.new.joined used (S.policies sink.new) (S.profiles sink.new) (S.pairs sink.new)) }
         ensures composed { OnOk result (IsComposed self.new.joined.index self.new.joined.active
             (S.policies sink.new) (S.profiles sink.new) (S.pairs sink.new)) }
     {

@@ -19,5 +19,5 @@ abbrev pub AreKnown : Digest → Policies → KnownPolicies → Type 0
 AreKnown dg policies known = (id : PolicyId) → map.get known id ≡ known_at dg policies id
 
 -- the same, but for those that were touched
-abbrev pub IsBehind : Digest → Keys policy_cmp.cmp-value.it → Policies → KnownPolicies → Type 0
-IsBehind dg touched policies known = (id : PolicyId) → map.get touched id ≡ None → map.get known id ≡ known_at dg policies id
+abbrev pub AreKnownBut : Digest → Keys policy_cmp.cmp-value.it → Policies → KnownPolicies → Type 0
+AreKnownBut dg touched policies known = (id : PolicyId) → map.get touched id ≡ None → map.get known id ≡ known_at dg policies id

@@ -8,7 +8,7 @@ ghost use Rattle.fx_scanner.specs.Apart.{IsApart};
 ghost use Rattle.fx_scanner.specs.Scanned.{IsScanned};
 ghost use Rattle.fx_sequencer.specs.Sides.{SameSentAndSets};
 ghost use Rattle.fx_graph_view.specs.Kept.{SameButSets};
-ghost use Rattle.fx_graph_view.specs.Knowing.{AreKnown, IsBehind};
+ghost use Rattle.fx_graph_view.specs.Knowing.{AreKnown, AreKnownBut};
 ghost use Rattle.fx_graph_view.specs.Noted.{AreNoted, AreFormed};
 ghost use Rattle.fx_graph_rules.specs.Touched.{IsTouched};
 
@@ -95,7 +95,7 @@ fn resolve_by<K: Beside, R: DigestRule, F: DigestFunction<R> + Drop>(
     sequencer: &mut Sequencer,
 ) -> Result<(), Memory>
     requires stood { sequencer.old ≡ K.stood }
-    requires behind { IsBehind R.digest_of logged.now.policies logged.now.told.policies resolver.old.policies }
+    requires behind { AreKnownBut R.digest_of logged.now.policies logged.now.told.policies resolver.old.policies }
     requires run { IsPairRun logged.now.pairs resolver.old.pairs logged.now.told.pairs }
     requires resolved { IsResolved resolver.old sequencer.old.now.endpoints }
     ensures inputs { OnOk result (resolver.new ≡ record resolver.old { policies = resolver.new.policies; pairs = logged.now.told.pairs }) }
@@ -120,7 +120,7 @@ pub fn resolve<R: DigestRule, F: DigestFunction<R> + Drop>(
     resolver: &mut Resolver,
     sequencer: &mut Sequencer,
 ) -> Result<(), Memory>
-    requires behind { IsBehind R.digest_of logged.now.policies logged.now.told.policies resolver.old.policies }
+    requires behind { AreKnownBut R.digest_of logged.now.policies logged.now.told.policies resolver.old.policies }
     requires run { IsPairRun logged.now.pairs resolver.old.pairs logged.now.told.pairs }
     requires resolved { IsResolved resolver.old sequencer.old.now.endpoints }
     ensures inputs { OnOk result (resolver.new ≡ record resolver.old { policies = resolver.new.policies; pairs = logged.now.told.pairs }) }

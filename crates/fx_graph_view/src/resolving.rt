@@ -2,7 +2,7 @@
 ghost use Rattle.std.specs.Prelude.{◌≡◌, OnOk, IfOk};
 ghost use Rattle.fx_model.specs.Views.{policy_key};
 ghost use Rattle.fx_resolver.specs.Resolved.{IsResolved};
-ghost use Rattle.fx_graph_view.specs.Knowing.{IsBehind, AreKnown};
+ghost use Rattle.fx_graph_view.specs.Knowing.{AreKnownBut, AreKnown};
 ghost use Rattle.fx_graph_rules.specs.Run.{IsPairRun};
 
 use fx_base::{Memory, NameKey};
@@ -32,7 +32,7 @@ fn resolve_policies<R: DigestRule, F: DigestFunction<R> + Drop, S: ViewSink>(
     resolver: &mut Resolver,
     sink: &mut S,
 ) -> Result<(), Memory>
-    requires behind { IsBehind R.digest_of touched.now policies.now resolver.old.policies }
+    requires behind { AreKnownBut R.digest_of touched.now policies.now resolver.old.policies }
     requires resolved { IsResolved resolver.old (S.endpoints sink.old) }
     ensures inputs { OnOk result (resolver.new ≡ record resolver.old { policies = resolver.new.policies }) }
     ensures known { OnOk result (AreKnown R.digest_of policies.now resolver.new.policies) }
@@ -83,7 +83,7 @@ pub fn resolve_through<R: DigestRule, F: DigestFunction<R> + Drop, S: ViewSink>(
     resolver: &mut Resolver,
     sink: &mut S,
 ) -> Result<(), Memory>
-    requires behind { IsBehind R.digest_of logged.now.policies logged.now.told.policies resolver.old.policies }
+    requires behind { AreKnownBut R.digest_of logged.now.policies logged.now.told.policies resolver.old.policies }
     requires run { IsPairRun logged.now.pairs resolver.old.pairs logged.now.told.pairs }
     requires resolved { IsResolved resolver.old (S.endpoints sink.old) }
     ensures inputs { OnOk result (resolver.new ≡ record resolver.old { policies = resolver.new.policies; pairs = logged.now.told.pairs }) }

@@ -1,23 +1,23 @@
 use Rattle.std.proofs.Common.{◌≡◌, None, refl, sym, ◌∙◌, subst}
 use Rattle.fx_graph_rules.specs.Composed.{IsComposed}
 use Rattle.fx_graph_rules.specs.Counting.{with_some}
-use Rattle.fx_graph_rules.specs.Uppers.{IsUpper}
+use Rattle.fx_graph_rules.specs.Uppers.{AreInStep}
 use Rattle.fx_graph.specs.Used.{used_in}
 use Rattle.fx_graph.specs.Taking.{taken_of}
-use Rattle.fx_graph.specs.Ahead.{IsAhead}
+use Rattle.fx_graph.specs.BehindBy.{IsBehindBy}
 use Rattle.fx_graph.proofs.Kept.{ahead}
 use Rattle.fx_graph.proofs.nodes.Nodes.label_other_by.Goals as goal
 
 pub put_other-requires : goal.put_other-requires
 put_other-requires g c =
-    (used_in c.args.self.now.uses, subst (λ t. IsUpper c.args.self.now.upper.joined (used_in c.args.self.now.uses) t.policies t.profiles t.pairs) (sym (c.new-log.ensures ∙ c.replace-told.ensures.value)) c.requires.settled.upper)
+    (used_in c.args.self.now.uses, subst (λ t. AreInStep c.args.self.now.upper.joined (used_in c.args.self.now.uses) t.policies t.profiles t.pairs) (sym (c.new-log.ensures ∙ c.replace-told.ensures.value)) c.requires.settled.upper)
 
 pub settle-requires-clause-ahead : goal.settle-requires-clause-ahead
 settle-requires-clause-ahead g c =
-    let first = subst (λ t. IsUpper c.args.self.now.upper.joined (used_in c.args.self.now.uses) t.policies t.profiles t.pairs) (sym (c.new-log.ensures ∙ c.replace-told.ensures.value)) c.requires.settled.upper in (
+    let first = subst (λ t. AreInStep c.args.self.now.upper.joined (used_in c.args.self.now.uses) t.policies t.profiles t.pairs) (sym (c.new-log.ensures ∙ c.replace-told.ensures.value)) c.requires.settled.upper in (
       None,
       ahead g.R.DigestRule.digest_of c.args.self.now c.requires.settled g.K.ActiveStart.told_then c.into_logged.result c.requires.start c.into_logged.ensures.since None _ _ _
-          (subst (λ l. IsUpper c.put_other.new.self.joined (with_some None (used_in c.args.self.now.uses)) l.told.policies l.told.profiles l.told.pairs) (sym c.into_logged.ensures.logged) (c.in_ok-changes.ensures.upper (used_in c.args.self.now.uses) first))
+          (subst (λ l. AreInStep c.put_other.new.self.joined (with_some None (used_in c.args.self.now.uses)) l.told.policies l.told.profiles l.told.pairs) (sym c.into_logged.ensures.logged) (c.in_ok-changes.ensures.upper (used_in c.args.self.now.uses) first))
           c.in_ok-changes.ensures.changes,
     )
 
@@ -37,8 +37,8 @@ returns-clause-taken g c =
 
 pub returns-clause-settled : goal.returns-clause-settled
 returns-clause-settled g c =
-    let first = subst (λ t. IsUpper c.args.self.now.upper.joined (used_in c.args.self.now.uses) t.policies t.profiles t.pairs) (sym (c.new-log.ensures ∙ c.replace-told.ensures.value)) c.requires.settled.upper in
+    let first = subst (λ t. AreInStep c.args.self.now.upper.joined (used_in c.args.self.now.uses) t.policies t.profiles t.pairs) (sym (c.new-log.ensures ∙ c.replace-told.ensures.value)) c.requires.settled.upper in
     c.in_ok-settle.ensures.settled None
     (ahead g.R.DigestRule.digest_of c.args.self.now c.requires.settled g.K.ActiveStart.told_then c.into_logged.result c.requires.start c.into_logged.ensures.since None _ _ _
-    (subst (λ l. IsUpper c.put_other.new.self.joined (with_some None (used_in c.args.self.now.uses)) l.told.policies l.told.profiles l.told.pairs) (sym c.into_logged.ensures.logged) (c.in_ok-changes.ensures.upper (used_in c.args.self.now.uses) first))
+    (subst (λ l. AreInStep c.put_other.new.self.joined (with_some None (used_in c.args.self.now.uses)) l.told.policies l.told.profiles l.told.pairs) (sym c.into_logged.ensures.logged) (c.in_ok-changes.ensures.upper (used_in c.args.self.now.uses) first))
     c.in_ok-changes.ensures.changes)

@@ -3,7 +3,7 @@ use Rattle.std.specs.FinMap as map
 use Rattle.fx_base.specs.Extended.{extended}
 use Rattle.fx_base.proofs.Walk.{IsRest}
 use Rattle.fx_node_laws.specs.Waits.{known_waiting}
-use Rattle.fx_graph.specs.Settled.{IsSettled}
+use Rattle.fx_graph.specs.InStep.{IsInStep}
 use Rattle.fx_graph.specs.Taking.{IsBeside, taken_of}
 use Rattle.fx_graph.proofs.Serving.{AreThere, IsPlacing}
 use Rattle.fx_graph.proofs.nodes.Nodes.place_each.Given as goal
@@ -15,5 +15,5 @@ invariant-loop-key g l = record {
   there : AreThere g.R.DigestRule.digest_of l.waiting (taken_of l.fn.self) l.self.resolver.endpoints;
   others : taken_of l.self ≡ record (taken_of l.fn.self) { locals = l.self.resolver.endpoints };
   beside : IsBeside l.fn.self l.self;
-  settled : IsSettled g.R.DigestRule.digest_of None l.self;
+  settled : IsInStep g.R.DigestRule.digest_of None l.self;
 }

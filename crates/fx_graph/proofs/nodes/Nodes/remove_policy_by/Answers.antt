@@ -1,23 +1,23 @@
 use Rattle.std.proofs.Common.{◌≡◌, None, refl, sym, ◌∙◌, subst}
 use Rattle.fx_graph_rules.specs.Composed.{IsComposed}
 use Rattle.fx_graph_rules.specs.Counting.{with_some}
-use Rattle.fx_graph_rules.specs.Uppers.{IsUpper}
+use Rattle.fx_graph_rules.specs.Uppers.{AreInStep}
 use Rattle.fx_graph.specs.Used.{used_in}
 use Rattle.fx_graph.specs.Taking.{taken_of}
-use Rattle.fx_graph.specs.Ahead.{IsAhead}
+use Rattle.fx_graph.specs.BehindBy.{IsBehindBy}
 use Rattle.fx_graph.proofs.Kept.{ahead, no_changes}
 use Rattle.fx_graph.proofs.nodes.Nodes.remove_policy_by.Goals as goal
 
 pub remove_policy-requires : goal.remove_policy-requires
 remove_policy-requires g c =
-    (used_in c.args.self.now.uses, subst (λ t. IsUpper c.args.self.now.upper.joined (used_in c.args.self.now.uses) t.policies t.profiles t.pairs) (sym (c.new-log.ensures ∙ c.replace-told.ensures.value)) c.requires.settled.upper)
+    (used_in c.args.self.now.uses, subst (λ t. AreInStep c.args.self.now.upper.joined (used_in c.args.self.now.uses) t.policies t.profiles t.pairs) (sym (c.new-log.ensures ∙ c.replace-told.ensures.value)) c.requires.settled.upper)
 
 pub settle-requires-clause-ahead : goal.settle-requires-clause-ahead
 settle-requires-clause-ahead g c =
-    let first = subst (λ t. IsUpper c.args.self.now.upper.joined (used_in c.args.self.now.uses) t.policies t.profiles t.pairs) (sym (c.new-log.ensures ∙ c.replace-told.ensures.value)) c.requires.settled.upper in (
+    let first = subst (λ t. AreInStep c.args.self.now.upper.joined (used_in c.args.self.now.uses) t.policies t.profiles t.pairs) (sym (c.new-log.ensures ∙ c.replace-told.ensures.value)) c.requires.settled.upper in (
       c.in_ok-before.before,
       ahead g.R.DigestRule.digest_of c.args.self.now c.requires.settled g.K.ActiveStart.told_then c.into_logged.result c.requires.start c.into_logged.ensures.since c.in_ok-before.before _ _ _
-          (subst (λ l. IsUpper c.remove_policy.new.self.joined (with_some c.in_ok-before.before (used_in c.args.self.now.uses)) l.told.policies l.told.profiles l.told.pairs) (sym c.into_logged.ensures.logged) (c.in_ok-before.ensures.upper (used_in c.args.self.now.uses) first))
+          (subst (λ l. AreInStep c.remove_policy.new.self.joined (with_some c.in_ok-before.before (used_in c.args.self.now.uses)) l.told.policies l.told.profiles l.told.pairs) (sym c.into_logged.ensures.logged) (c.in_ok-before.ensures.upper (used_in c.args.self.now.uses) first))
           (no_changes _ c.new-changes.ensures _ _ (sym c.in_ok-before.ensures.pairs)),
     )
 
@@ -37,8 +37,8 @@ returns-clause-taken g c =
 
 pub forget-requires : goal.forget-requires
 forget-requires g c =
-    let first = subst (λ t. IsUpper c.args.self.now.upper.joined (used_in c.args.self.now.uses) t.policies t.profiles t.pairs) (sym (c.new-log.ensures ∙ c.replace-told.ensures.value)) c.requires.settled.upper in
+    let first = subst (λ t. AreInStep c.args.self.now.upper.joined (used_in c.args.self.now.uses) t.policies t.profiles t.pairs) (sym (c.new-log.ensures ∙ c.replace-told.ensures.value)) c.requires.settled.upper in
     c.in_ok-settle.ensures.settled c.in_ok-before.before
     (ahead g.R.DigestRule.digest_of c.args.self.now c.requires.settled g.K.ActiveStart.told_then c.into_logged.result c.requires.start c.into_logged.ensures.since c.in_ok-before.before _ _ _
-    (subst (λ l. IsUpper c.remove_policy.new.self.joined (with_some c.in_ok-before.before (used_in c.args.self.now.uses)) l.told.policies l.told.profiles l.told.pairs) (sym c.into_logged.ensures.logged) (c.in_ok-before.ensures.upper (used_in c.args.self.now.uses) first))
+    (subst (λ l. AreInStep c.remove_policy.new.self.joined (with_some c.in_ok-before.before (used_in c.args.self.now.uses)) l.told.policies l.told.profiles l.told.pairs) (sym c.into_logged.ensures.logged) (c.in_ok-before.ensures.upper (used_in c.args.self.now.uses) first))
     (no_changes _ c.new-changes.ensures _ _ (sym c.in_ok-before.ensures.pairs)))

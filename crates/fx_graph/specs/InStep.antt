@@ -1,19 +1,19 @@
--- The nodes agree: what each was given is what the one above it told, and what it told is its definition over that.
+-- The nodes are in step: what each was given is what the one above it told, and what it told is its definition over that.
 use Rattle.std.specs.Prelude.{◌≡◌, ℕ, List, Option}
 use Rattle.fx_names.specs.Digests.{Digest}
 use Rattle.fx_members.specs.Members.{AreMembers}
 use Rattle.fx_resolver.specs.Resolved.{IsResolved}
 use Rattle.fx_scanner.specs.Scanned.{IsScanned}
 use Rattle.fx_graph_rules.specs.Counting.{with_some}
-use Rattle.fx_graph_rules.specs.Uppers.{IsUpper}
+use Rattle.fx_graph_rules.specs.Uppers.{AreInStep}
 use Rattle.fx_graph_view.specs.Knowing.{AreKnown}
 use Rattle.fx_graph_view.specs.Noted.{AreFormed}
 use Rattle.fx_graph.specs.Used.{used_in}
 use Rattle.fx_graph.specs.declared.nodes.Nodes.{Nodes}
 
 -- the index counts the selectors of the policies and of the used sets, and besides them the text that a policy had before, if any
-pub record IsSettled (dg : Digest) (before : Option (List ℕ)) (g : Nodes) : Type 0 where
-  pub upper : IsUpper g.upper.joined (with_some before (used_in g.uses)) g.told.policies g.told.profiles g.told.pairs
+pub record IsInStep (dg : Digest) (before : Option (List ℕ)) (g : Nodes) : Type 0 where
+  pub upper : AreInStep g.upper.joined (with_some before (used_in g.uses)) g.told.policies g.told.profiles g.told.pairs
   pub policies : g.scanner.policies ≡ g.told.policies
   pub profiles : g.scanner.profiles ≡ g.told.profiles
   pub scanned : IsScanned dg g.scanner g.sequencer.now.policies g.sequencer.now.profiles g.uses
