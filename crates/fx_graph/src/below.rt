@@ -1,5 +1,5 @@
 //! What the nodes below have of resources, apart from rules: items that give members to sets, endpoints of this node, and tiers.
-ghost use Rattle.std.specs.Prelude.{◌≡◌, ◌≤◌, None, IfOk, OnOk, length, map as each};
+ghost use Rattle.std.specs.Prelude.{◌≡◌, ◌≤◌, None, OnOk, length, map as each};
 ghost use Rattle.std.specs.FinMap as map;
 ghost use Rattle.fx_model.specs.Views.{profile_key};
 ghost use Rattle.fx_node_laws.specs.Changes.{with_tier, without_tier};
@@ -8,25 +8,10 @@ ghost use Rattle.fx_graph.specs.InStep.{IsInStep};
 ghost use Rattle.fx_graph.specs.Taking.{contributing, withdrawn, placed, displaced, IsBeside, taken_of};
 
 use crate::nodes::Nodes;
-use fx_base::{Memory, NameKey, Text};
+use fx_base::{Memory, Text};
 use fx_graph_view::{put_endpoint, put_item, put_tier, remove_endpoint, remove_item, remove_tier};
-use fx_model::{Item, ItemKey, Tier};
-use fx_names::{DigestFunction, DigestRule, Namer, Prefix};
-use std::alloc::Global;
-
-fn profile_keys<R: DigestRule, F: DigestFunction<R> + Drop>(
-    alloc: Global,
-    profiles: &[Text],
-    namer: &Namer<R, F>,
-) -> Result<Vec<NameKey>, Memory>
-    ensures { IfOk result (λ keys. keys.items ≡ each (profile_key R.digest_of) profiles.now) }
-{
-    let mut keys = Vec::new(alloc);
-    for name in profiles {
-        keys.push(namer.key(Prefix::ProfileIn, name.bytes()))?;
-    }
-    Ok(keys)
-}
+use fx_model::{Item, ItemKey, Tier, profile_keys};
+use fx_names::{DigestFunction, DigestRule, Namer};
 
 impl Nodes {
     /// Puts an item among those that give members to sets.

@@ -1,27 +1,15 @@
 //! The resolver, brought to the policies and pairs that the active rules told.
-ghost use Rattle.std.specs.Prelude.{◌≡◌, OnOk, IfOk};
-ghost use Rattle.fx_model.specs.Views.{policy_key};
+ghost use Rattle.std.specs.Prelude.{◌≡◌, OnOk};
 ghost use Rattle.fx_resolver.specs.Resolved.{IsResolved};
 ghost use Rattle.fx_graph_view.specs.Knowing.{AreKnownBut, AreKnown};
 ghost use Rattle.fx_graph_rules.specs.Run.{IsPairRun};
 
-use fx_base::{Memory, NameKey};
+use fx_base::Memory;
 use fx_graph_rules::{Logged, PolicyPairChange};
-use fx_model::{Policy, PolicyId, PolicyMap, PolicyPairSet, ViewSink};
-use fx_names::{DigestFunction, DigestRule, Namer, Prefix};
+use fx_model::{Policy, PolicyMap, PolicyPairSet, ViewSink, policy_key};
+use fx_names::{DigestFunction, DigestRule, Namer};
 use fx_resolver::Resolver;
 use std::alloc::Global;
-
-fn policy_key<R: DigestRule, F: DigestFunction<R> + Drop>(
-    alloc: Global,
-    id: &PolicyId,
-    namer: &Namer<R, F>,
-) -> Result<NameKey, Memory>
-    ensures { IfOk result (λ key. key ≡ policy_key R.digest_of id.now) }
-{
-    let text = id.text(alloc)?;
-    Ok(namer.key(Prefix::PolicyIn, text.bytes()))
-}
 
 /// A policy that stays is put in its place: its endpoints' lists change only where the policy's place or directions do.
 fn resolve_policies<R: DigestRule, F: DigestFunction<R> + Drop, S: ViewSink>(

@@ -6,6 +6,7 @@ pub use contributions::{contributed, contributed_by_endpoint, contributed_by_net
 pub use ids::{ItemKey, Key, PolicyId};
 pub use item_keys::{item_name, namespace_of, namespace_parents};
 pub use item_map::ItemMap;
+pub use kernel_keys::{policy_key, profile_key, profile_keys};
 pub use key_map::KeyMap;
 pub use laws::{members_compare_as_stated, places_compare_as_stated};
 pub use member::{Member, MemberSet};
@@ -33,6 +34,7 @@ mod emptiness;
 mod ids;
 mod item_keys;
 mod item_map;
+mod kernel_keys;
 mod key_map;
 mod laws;
 mod member;

@@ -11,8 +11,8 @@ use crate::counts::UseCounts;
 use crate::inputs::Inputs;
 use crate::used::{profile_of, uses_of_policy, uses_of_profile};
 use fx_base::{Memory, Text};
-use fx_model::{Policy, PolicyId, Profile, UseSink};
-use fx_names::{DigestFunction, DigestRule, Namer, Prefix};
+use fx_model::{Policy, PolicyId, Profile, UseSink, policy_key, profile_key};
+use fx_names::{DigestFunction, DigestRule, Namer};
 use fx_wanted::{view_policy, view_profile};
 use std::alloc::Global;
 
@@ -61,8 +61,7 @@ impl State {
         let before = uses_of_policy(alloc, self.inputs.policies.get(id))?;
         let after = uses_of_policy(alloc, Some(policy))?;
         replace(alloc, &mut self.counts, before, &after, namer, sink)?;
-        let text = id.text(alloc)?;
-        let key = namer.key(Prefix::PolicyIn, text.bytes());
+        let key = policy_key(alloc, id, namer)?;
         sink.policy_put(key, view_policy(alloc, id, policy, namer)?)?;
         self.inputs.policies.insert(id.clone()?, policy.clone()?)?;
         Ok(())
@@ -91,8 +90,7 @@ impl State {
         };
         let before = uses_of_policy(alloc, Some(&policy))?;
         give_up(alloc, &mut self.counts, &before, namer, sink)?;
-        let text = id.text(alloc)?;
-        sink.policy_gone(namer.key(Prefix::PolicyIn, text.bytes()))?;
+        sink.policy_gone(policy_key(alloc, id, namer)?)?;
         Ok(())
     }
 
@@ -123,7 +121,7 @@ impl State {
         let before = uses_of_profile(alloc, profile_of(active))?;
         let after = uses_of_profile(alloc, profile)?;
         replace(alloc, &mut self.counts, before, &after, namer, sink)?;
-        let key = namer.key(Prefix::ProfileIn, name.bytes());
+        let key = profile_key(name, namer);
         sink.profile_put(key, view_profile(alloc, name, profile, namer)?)?;
         let own = own_profile(profile)?;
         self.inputs.profiles.insert(name.clone()?, own)?;
@@ -153,7 +151,7 @@ impl State {
         };
         let before = uses_of_profile(alloc, profile.as_ref())?;
         give_up(alloc, &mut self.counts, &before, namer, sink)?;
-        sink.profile_gone(namer.key(Prefix::ProfileIn, name.bytes()))?;
+        sink.profile_gone(profile_key(name, namer))?;
         Ok(())
     }
 }

@@ -15,7 +15,7 @@ use crate::view_rules::view_rules;
 use fx_base::{Counter, Memory, NameKey, NameMap, Seq};
 use fx_model::{
     Endpoint, PlaceMap, Policy, PolicyId, PolicyPlace, Resources, SetUse, TierStand, ViewPolicy,
-    ViewTier, push_both, tiers_in_order,
+    ViewTier, policy_key, push_both, tiers_in_order,
 };
 use fx_names::{DigestFunction, DigestRule, Namer, Prefix};
 use fx_selector::Labels;
@@ -55,8 +55,8 @@ fn put_policy<R: DigestRule, F: DigestFunction<R> + Drop>(
     ensures { OnOk result (policies.new ≡ extended policies.old (map (policy_entry R.digest_of) ((id.now, policy.now) ∷ []))) }
 {
     let wanted = view_policy(alloc, id, policy, namer)?;
-    let text = id.text(alloc)?;
-    policies.insert(&namer.key(Prefix::PolicyIn, text.bytes()), wanted)?;
+    let key = policy_key(alloc, id, namer)?;
+    policies.insert(&key, wanted)?;
     Ok(())
 }
 

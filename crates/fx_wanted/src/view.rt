@@ -13,9 +13,9 @@ use crate::view_rules::view_rules;
 use fx_base::{Memory, NameKey, NameMap, Seq, Text};
 use fx_model::{
     Endpoint, ItemKey, Profile, Resources, SetUse, View, ViewEndpoint, ViewProfile, item_name,
-    namespace_of, push_both,
+    namespace_of, profile_key, profile_keys, push_both,
 };
-use fx_names::{DigestFunction, DigestRule, Namer, Prefix};
+use fx_names::{DigestFunction, DigestRule, Namer};
 use std::alloc::Global;
 
 /// What the node needs of the resources.
@@ -98,7 +98,7 @@ fn put_profiles<R: DigestRule, F: DigestFunction<R> + Drop>(
 {
     for name in names.as_slice() {
         let profile = view_profile(alloc, name, resources.profiles.get(name), namer)?;
-        profiles.insert(&namer.key(Prefix::ProfileIn, name.bytes()), profile)?;
+        profiles.insert(&profile_key(name, namer), profile)?;
     }
     Ok(())
 }
@@ -157,9 +157,6 @@ fn keys_of<R: DigestRule, F: DigestFunction<R> + Drop>(
 ) -> Result<Seq<NameKey>, Memory>
     ensures { IfOk result (λ keys. keys ≡ map (profile_key R.digest_of) names.now) }
 {
-    let mut keys = Seq::new(alloc);
-    for name in names.as_slice() {
-        keys.push(namer.key(Prefix::ProfileIn, name.bytes()))?;
-    }
-    Ok(keys)
+    let keys = profile_keys(alloc, names.as_slice(), namer)?;
+    Ok(Seq::from_vec(keys))
 }

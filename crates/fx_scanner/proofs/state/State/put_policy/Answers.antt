@@ -1,8 +1,6 @@
 use Rattle.std.proofs.Common.{◌≡◌, List, ◌++◌, Some, sym, ap, ◌∙◌, subst}
 use Rattle.std.specs.List.{AllByRecursion}
 use Rattle.std.specs.FinMap as map
-use Rattle.fx_names.specs.Names.{key_of}
-use Rattle.fx_names.specs.declared.prefix.Prefix.TheVariants.{PolicyIn}
 use Rattle.fx_model.specs.SameIds.{copies_policy_id}
 use Rattle.fx_model.specs.Sets.{AreSelectors, IsUse}
 use Rattle.fx_model.specs.declared.set_use.SetUse.{SetUse}
@@ -79,7 +77,7 @@ returns-clause-scanned g c =
     (policy_put dg n P Q U c.requires.scanned id p c.replace.new.counts (g.S.UseSink.uses c.policy_put.new.self) told c.requires.apart
     (g.S.ViewSink.policies c.policy_put.new.self) (g.S.ViewSink.profiles c.policy_put.new.self)
     (c.in_ok-policy_put.ensures.policies
-    ∙ (λ j. map.insert (c.in_ok-replace.ensures.policies j) ((c.key-key.ensures.key ∙ ap (key_of dg PolicyIn) (c.bytes.ensures ∙ c.in_ok-text.ensures)) j) (c.in_ok-view_policy.ensures j)))
+    ∙ (λ j. map.insert (c.in_ok-replace.ensures.policies j) (c.in_ok-key.ensures j) (c.in_ok-view_policy.ensures j)))
     (c.in_ok-policy_put.ensures.profiles ∙ c.in_ok-replace.ensures.profiles))
 
 pub returns-clause-inputs : goal.returns-clause-inputs

@@ -2,8 +2,6 @@ use Rattle.std.proofs.Common.{◌≡◌, List, ◌++◌, sym, ap, ◌∙◌, sub
 use Rattle.std.specs.List.{AllByRecursion}
 use Rattle.std.specs.FinMap as map
 use Rattle.std.specs.Option.{option_copied}
-use Rattle.fx_names.specs.Names.{key_of}
-use Rattle.fx_names.specs.declared.prefix.Prefix.TheVariants.{ProfileIn}
 use Rattle.fx_model.specs.Sets.{AreSelectors, IsUse}
 use Rattle.fx_model.specs.Views.{uses_if_there}
 use Rattle.fx_model.specs.declared.set_use.SetUse.{SetUse}
@@ -81,4 +79,4 @@ returns-clause-scanned g c =
     (g.S.ViewSink.policies c.profile_put.new.self) (g.S.ViewSink.profiles c.profile_put.new.self)
     (c.in_ok-profile_put.ensures.policies ∙ c.in_ok-replace.ensures.policies)
     (c.in_ok-profile_put.ensures.profiles
-    ∙ (λ j. map.insert (c.in_ok-replace.ensures.profiles j) ((c.key-key.ensures.key ∙ ap (key_of dg ProfileIn) c.bytes.ensures) j) (c.in_ok-view_profile.ensures j))))
+    ∙ (λ j. map.insert (c.in_ok-replace.ensures.profiles j) (c.profile_key-key.ensures j) (c.in_ok-view_profile.ensures j))))

@@ -1,7 +1,5 @@
 use Rattle.std.proofs.Common.{◌≡◌, ◌++◌, IsSome, sym, ap, ◌∙◌, subst}
 use Rattle.std.specs.FinMap as map
-use Rattle.fx_names.specs.Names.{key_of}
-use Rattle.fx_names.specs.declared.prefix.Prefix.TheVariants.{PolicyIn}
 use Rattle.fx_scanner.specs.declared.inputs.Inputs.{Inputs}
 use Rattle.fx_scanner.specs.Scanned.{all_uses, uses_of_policy, IsScanned}
 use Rattle.fx_scanner.specs.Told.{AreCounts, AreHeld}
@@ -29,8 +27,8 @@ policy_gone-requires g c =
     let n = c.args.self.now.inputs in
     let id = c.args.id.now in
     let P = g.S.ViewSink.policies c.args.sink.now in
-    subst (λ m. IsSome (map.get m c.key.result)) (sym c.in_ok-give_up.ensures.policies)
-    (subst (λ k. IsSome (map.get P k)) (sym (c.key.ensures.key ∙ ap (key_of dg PolicyIn) (c.bytes.ensures ∙ c.in_ok-text.ensures)))
+    subst (λ m. IsSome (map.get m c.in_ok-policy_key.field-0)) (sym c.in_ok-give_up.ensures.policies)
+    (subst (λ k. IsSome (map.get P k)) (sym c.in_ok-policy_key.ensures)
     (policy_there dg n P (g.S.ViewSink.profiles c.args.sink.now) (g.S.UseSink.uses c.args.sink.now) c.requires.scanned id c.in-Some.policy (sym c.remove.ensures.before ∙ c.in-Some.is)))
 
 pub returns-in_default-clause-scanned : goal.returns-in_default-clause-scanned
@@ -73,7 +71,7 @@ returns-clause-scanned g c =
     subst (λ m. IsScanned dg (record n { policies = m }) (g.S.ViewSink.policies c.policy_gone.new.self) (g.S.ViewSink.profiles c.policy_gone.new.self) (g.S.UseSink.uses c.policy_gone.new.self)) (sym now)
     (policy_gone dg n P Q U c.requires.scanned id c.in-Some.policy (sym c.remove.ensures.before ∙ c.in-Some.is) c.give_up.new.counts (g.S.UseSink.uses c.policy_gone.new.self)
     (subst (λ u. AreHeld dg c.give_up.new.counts u rest) (sym uses) held) (g.S.ViewSink.policies c.policy_gone.new.self) (g.S.ViewSink.profiles c.policy_gone.new.self)
-    (c.in_ok-policy_gone.ensures.policies ∙ (λ j. map.remove (c.in_ok-give_up.ensures.policies j) ((c.key.ensures.key ∙ ap (key_of dg PolicyIn) (c.bytes.ensures ∙ c.in_ok-text.ensures)) j)))
+    (c.in_ok-policy_gone.ensures.policies ∙ (λ j. map.remove (c.in_ok-give_up.ensures.policies j) (c.in_ok-policy_key.ensures j)))
     (c.in_ok-policy_gone.ensures.profiles ∙ c.in_ok-give_up.ensures.profiles))
 
 pub returns-in_default-clause-kept : goal.returns-in_default-clause-kept

@@ -1,7 +1,5 @@
 use Rattle.std.proofs.Common.{◌≡◌, ◌++◌, IsSome, sym, ap, ◌∙◌, subst}
 use Rattle.std.specs.FinMap as map
-use Rattle.fx_names.specs.Names.{key_of}
-use Rattle.fx_names.specs.declared.prefix.Prefix.TheVariants.{ProfileIn}
 use Rattle.fx_model.specs.Views.{uses_if_there}
 use Rattle.fx_scanner.specs.declared.inputs.Inputs.{Inputs}
 use Rattle.fx_scanner.specs.Scanned.{all_uses, profile_of, IsScanned}
@@ -30,8 +28,8 @@ profile_gone-requires g c =
     let n = c.args.self.now.inputs in
     let name = c.args.name.now in
     let Q = g.S.ViewSink.profiles c.args.sink.now in
-    subst (λ m. IsSome (map.get m c.key.result)) (sym c.in_ok-give_up.ensures.profiles)
-    (subst (λ k. IsSome (map.get Q k)) (sym (c.key.ensures.key ∙ ap (key_of dg ProfileIn) c.bytes.ensures))
+    subst (λ m. IsSome (map.get m c.profile_key.result)) (sym c.in_ok-give_up.ensures.profiles)
+    (subst (λ k. IsSome (map.get Q k)) (sym c.profile_key.ensures)
     (profile_there dg n (g.S.ViewSink.policies c.args.sink.now) Q (g.S.UseSink.uses c.args.sink.now) c.requires.scanned name c.in-Some.profile (sym c.remove.ensures.before ∙ c.in-Some.is)))
 
 pub returns-in_default-clause-scanned : goal.returns-in_default-clause-scanned
@@ -75,7 +73,7 @@ returns-clause-scanned g c =
     (profile_gone dg n P Q U c.requires.scanned name c.in-Some.profile (sym c.remove.ensures.before ∙ c.in-Some.is) c.give_up.new.counts (g.S.UseSink.uses c.profile_gone.new.self)
     (subst (λ u. AreHeld dg c.give_up.new.counts u rest) (sym uses) held) (g.S.ViewSink.policies c.profile_gone.new.self) (g.S.ViewSink.profiles c.profile_gone.new.self)
     (c.in_ok-profile_gone.ensures.policies ∙ c.in_ok-give_up.ensures.policies)
-    (c.in_ok-profile_gone.ensures.profiles ∙ (λ j. map.remove (c.in_ok-give_up.ensures.profiles j) ((c.key.ensures.key ∙ ap (key_of dg ProfileIn) c.bytes.ensures) j))))
+    (c.in_ok-profile_gone.ensures.profiles ∙ (λ j. map.remove (c.in_ok-give_up.ensures.profiles j) (c.profile_key.ensures j))))
 
 pub returns-in_default-clause-kept : goal.returns-in_default-clause-kept
 returns-in_default-clause-kept g c =
