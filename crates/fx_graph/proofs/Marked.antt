@@ -22,7 +22,7 @@ use Rattle.fx_laws.proofs.FormedLemmas.{endpoints_formed}
 use Rattle.fx_laws.proofs.Removing.{found_passes}
 use Rattle.fx_node_laws.specs.Changes.{Taken}
 use Rattle.fx_node_laws.specs.Waits.{AreWaiting, Queue, known_waiting, waiting_if, waiting_of, waits, with_waiting}
-use Rattle.fx_node_laws.specs.declared.waiting.Waiting.{Waiting}
+use Rattle.fx_model.specs.declared.waiting.Waiting.{Waiting}
 use Rattle.fx_node_laws.proofs.TakenTies.{IsTaken, taken_is, tied_by}
 use Rattle.fx_node_laws.proofs.UpdateTies.{second_mark}
 use Rattle.fx_node_laws.proofs.Brought.{brought}

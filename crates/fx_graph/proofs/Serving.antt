@@ -10,7 +10,7 @@ use Rattle.fx_resolver.specs.declared.known.KnownEndpoint.{KnownEndpoint}
 use Rattle.fx_resolver.specs.Resolved.{HaveOwnInterfaces}
 use Rattle.fx_node_laws.specs.Changes.{Taken}
 use Rattle.fx_node_laws.specs.Waits.{Queue, known_waiting}
-use Rattle.fx_node_laws.specs.declared.waiting.Waiting.{Waiting}
+use Rattle.fx_model.specs.declared.waiting.Waiting.{Waiting}
 use Rattle.fx_node_laws.proofs.OneKey.{at_each, here_inserted, there_inserted}
 use Rattle.fx_graph.specs.Taking.{AreOwnTogether, IsThereOrWaits, placed}
 

@@ -18,7 +18,7 @@ use Rattle.fx_graph_rules.specs.Composed.{IsComposed}
 use Rattle.fx_node_laws.specs.Changes.{Taken, taken}
 use Rattle.fx_node_laws.specs.Tied.{known_endpoint}
 use Rattle.fx_node_laws.specs.Waits.{Queue, known_waiting}
-use Rattle.fx_node_laws.specs.declared.waiting.Waiting.{Waiting}
+use Rattle.fx_model.specs.declared.waiting.Waiting.{Waiting}
 use Rattle.fx_graph.specs.declared.nodes.Nodes.{Nodes}
 
 abbrev pub taken_of : Nodes → Taken

@@ -9,9 +9,8 @@ ghost use Rattle.fx_graph.specs.Graphs.{CanFollow, Follows, sides_of};
 
 use crate::state::GraphState;
 use fx_base::{Memory, Ticker};
-use fx_model::{Endpoint, Item, ItemKey};
+use fx_model::{Endpoint, Item, ItemKey, Waiting};
 use fx_names::{DigestFunction, DigestRule, Namer};
-use fx_node_laws::Waiting;
 
 impl GraphState {
     fn is_local(&self, endpoint: &Endpoint) -> bool

@@ -12,9 +12,8 @@ ghost use Rattle.fx_graph.specs.Taking.{AreApart, IsBeside, taken_of, serving, A
 use crate::nodes::Nodes;
 use fx_base::{Memory, Seq, Ticker};
 use fx_graph_rules::{ActiveLog, ActiveStart, ActiveTold, Upper};
-use fx_model::{ActiveSink, ItemMap};
+use fx_model::{ActiveSink, ItemMap, Waiting};
 use fx_names::{DigestFunction, DigestRule, Namer};
-use fx_node_laws::Waiting;
 use std::marker::Brand;
 use std::mem;
 

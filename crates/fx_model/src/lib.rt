@@ -27,6 +27,7 @@ pub use sinks::{ActiveSink, MatchSink, SetSink, UseSink, ViewSink};
 pub use tier_order::{Order, PolicyPlace, TierStand, tiers_in_order};
 pub use view::{View, ViewEndpoint, ViewPolicy, ViewProfile, ViewTier};
 pub use view_rule::{ViewPort, ViewRule, ViewSide};
+pub use waiting::Waiting;
 
 mod chain;
 mod contributions;
@@ -55,3 +56,4 @@ mod sinks;
 mod tier_order;
 mod view;
 mod view_rule;
+mod waiting;

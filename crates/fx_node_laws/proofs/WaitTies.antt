@@ -16,7 +16,7 @@ use Rattle.fx_active.specs.declared.inputs.Inputs as active
 use Rattle.fx_label_index.specs.declared.held.Inputs as index
 use Rattle.fx_resolver.specs.declared.inputs.Inputs as resolver
 use Rattle.fx_members.specs.declared.inputs.Inputs as members
-use Rattle.fx_node_laws.specs.declared.waiting.Waiting.{Waiting}
+use Rattle.fx_model.specs.declared.waiting.Waiting.{Waiting}
 use Rattle.fx_node_laws.specs.Tied.{known_endpoint, served_profiles, served_known, IsTied}
 use Rattle.fx_node_laws.specs.Waits.{waiting_of, waits, waiting_if, known_waiting, Queue, AreWaiting, with_waiting}
 use Rattle.fx_node_laws.specs.Changes.{taken, with_endpoints}

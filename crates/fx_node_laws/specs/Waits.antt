@@ -11,7 +11,7 @@ use Rattle.fx_model.specs.Views.{profile_key}
 use Rattle.fx_resolver.specs.declared.known.KnownEndpoint.{KnownEndpoint}
 use Rattle.fx_base.specs.Extended.{extended}
 use Rattle.fx_node_laws.specs.Changes.{Taken}
-use Rattle.fx_node_laws.specs.declared.waiting.Waiting.{Waiting}
+use Rattle.fx_model.specs.declared.waiting.Waiting.{Waiting}
 
 -- what is kept of an endpoint until it is served
 abbrev pub waiting_of : Endpoint → Waiting

@@ -39,7 +39,7 @@ ghost use Rattle.fx_model.specs.declared.resources.Item.TheVariants as item;
 ghost use Rattle.fx_model.specs.declared.resources.Profile.{Profile};
 ghost use Rattle.fx_model.specs.declared.resources.Update.TheVariants as update;
 ghost use Rattle.fx_node_laws.specs.Changes.{taken, with_served_endpoint, with_other_endpoint, without_endpoint, with_net_set, without_net_set, with_profile, without_profile, with_tier, without_tier, with_policy, without_policy, with_endpoints, KeepsTies, is_of_kind};
-ghost use Rattle.fx_node_laws.specs.declared.waiting.Waiting.{Waiting};
+ghost use Rattle.fx_model.specs.declared.waiting.Waiting.{Waiting};
 ghost use Rattle.fx_node_laws.specs.Waits.{waiting_of, waits, known_waiting, Queue, AreWaiting, with_waiting};
 
 /// Nodes without inputs, which told nothing, are those of no resources.

@@ -3,6 +3,3 @@
 #![tactic(auto)]
 
 pub mod laws;
-pub mod waiting;
-
-pub use waiting::Waiting;
