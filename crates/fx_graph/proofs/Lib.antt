@@ -8,6 +8,6 @@ pub mod Named
 pub mod Agreeing
 pub mod Kept
 pub mod Following
-pub mod Marked
+pub mod InSync
 pub mod Serving
 pub mod Starting

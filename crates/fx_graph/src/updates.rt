@@ -193,7 +193,7 @@ impl GraphState {
         Ok(())
     }
 
-    /// The datastore is in sync: the endpoints of this node that wait come into service. A second mark finds none.
+    /// The datastore is in sync: the endpoints of this node that wait come into service. A second time it finds none.
     pub(crate) fn begin<R: DigestRule, F: DigestFunction<R> + Drop, T: Ticker>(
         &mut self,
         namer: &Namer<R, F>,

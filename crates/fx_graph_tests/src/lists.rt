@@ -1,4 +1,4 @@
 //! Stored lists of updates, of all kinds.
-pub mod after_the_mark;
-pub mod around_the_mark;
-pub mod before_the_mark;
+pub mod after_in_sync;
+pub mod around_in_sync;
+pub mod before_in_sync;

@@ -2,7 +2,7 @@
 ghost use Rattle.fx_graph_tests.specs.Benches.{AreAlike};
 
 use crate::bench::{PlainGraph, agrees, deliver, give};
-use crate::lists::{after_the_mark, around_the_mark, before_the_mark};
+use crate::lists::{after_in_sync, around_in_sync, before_in_sync};
 use fx_base::Text;
 use fx_graph::Graph;
 use fx_names::{Namer, PlainRule};
@@ -40,19 +40,19 @@ fn run(rt: &impl Abort, alloc: Global, list: &str) -> Result<(), Fail> {
 }
 
 #[test]
-fn the_view_follows_updates_before_the_mark(rt: HostRuntime) -> Result<(), Fail> {
-    run(&rt, rt.alloc(), before_the_mark::LINES)?;
+fn the_view_follows_updates_before_in_sync(rt: HostRuntime) -> Result<(), Fail> {
+    run(&rt, rt.alloc(), before_in_sync::LINES)?;
     Ok(())
 }
 
 #[test]
-fn the_view_follows_updates_after_the_mark(rt: HostRuntime) -> Result<(), Fail> {
-    run(&rt, rt.alloc(), after_the_mark::LINES)?;
+fn the_view_follows_updates_after_in_sync(rt: HostRuntime) -> Result<(), Fail> {
+    run(&rt, rt.alloc(), after_in_sync::LINES)?;
     Ok(())
 }
 
 #[test]
-fn the_view_follows_updates_around_the_mark(rt: HostRuntime) -> Result<(), Fail> {
-    run(&rt, rt.alloc(), around_the_mark::LINES)?;
+fn the_view_follows_updates_around_in_sync(rt: HostRuntime) -> Result<(), Fail> {
+    run(&rt, rt.alloc(), around_in_sync::LINES)?;
     Ok(())
 }

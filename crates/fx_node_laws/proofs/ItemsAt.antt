@@ -18,7 +18,7 @@ pub same_item_at : (R S : Resources) (k : ItemKey) → map.get S.endpoints k ≡
 same_item_at R S (item_key.Endpoint ns name) endpoint set = ap (λ o. option_map item.Endpoint o) endpoint
 same_item_at R S (item_key.NetSet ns name) endpoint set = ap (λ o. option_map item.NetSet o) set
 
--- the node and the mark are the same
+-- the node is the same, and whether the datastore is in sync
 module _ (R S : Resources) (marks : S.in_sync ≡ R.in_sync) (nodes : S.node ≡ R.node) where
   pub same_served : (e : Endpoint) → is_served S e ≡ is_served R e
   same_served e = λ j. marks j && bytes_eq e.node (nodes j)

@@ -1,4 +1,4 @@
--- What the nodes' inputs hold of the resources after an update of a profile, of a tier or of a policy, and after the mark.
+-- What the nodes' inputs hold of the resources after an update of a profile, of a tier or of a policy, and once the datastore is in sync.
 use Rattle.std.proofs.Common.{◌≡◌, ℕ, List, refl, sym, ap, ◌∙◌}
 use Rattle.std.specs.Prelude.{option_map}
 use Rattle.std.specs.Cmp.Lexicographic.{nat_list_cmp_total}
@@ -23,7 +23,7 @@ use Rattle.fx_node_laws.proofs.ItemsAt.{same_item_at, same_profiles, same_known}
 use Rattle.fx_node_laws.proofs.TakenTies.{IsTaken}
 
 module _ {dg : Digest} {R : Resources} {t : Taken} (is : IsTaken dg R t) where
-  -- ---- the endpoints and network sets stay, and so do the node and the mark
+  -- ---- the endpoints and network sets stay, and so do the node and whether the datastore is in sync
 
   module _ (S : Resources) (endpoints : S.endpoints ≡ R.endpoints) (sets : S.net_sets ≡ R.net_sets) where
     same_item : (k : ItemKey) → item_at S k ≡ item_at R k

@@ -99,13 +99,13 @@ module _ {dg : Digest} {R : Resources} {n : index.Inputs} {a : active.Inputs} {r
           → IsTied dg (after R (update.Delete (key.Policy id))) n_now a_now r_now m_now
       delete_policy now = tied_by (without_policy id (taken n a r m)) now (policy_gone_taken (taken_is tied) id)
 
-    -- ---- the mark: all endpoints of the node are served
+    -- ---- in sync: all endpoints of the node are served
 
-    pub mark : ((k : ItemKey) → map.get a_now.endpoints k ≡ served_profiles (after R update.InSync) (map.get R.endpoints k))
+    pub in_sync_tied : ((k : ItemKey) → map.get a_now.endpoints k ≡ served_profiles (after R update.InSync) (map.get R.endpoints k))
         → ((k : ItemKey) → map.get r_now.endpoints k ≡ served_known dg (after R update.InSync) (map.get R.endpoints k))
         → taken n_now a_now r_now m_now ≡ with_endpoints a_now.endpoints r_now.endpoints (taken n a r m)
         → IsTied dg (after R update.InSync) n_now a_now r_now m_now
-    mark endpoints locals now = tied_by (with_endpoints a_now.endpoints r_now.endpoints (taken n a r m)) now (record {
+    in_sync_tied endpoints locals now = tied_by (with_endpoints a_now.endpoints r_now.endpoints (taken n a r m)) now (record {
       kinds_endpoints = tied.kinds_endpoints;
       kinds_sets = tied.kinds_sets;
       items = λ k. tied.items k ∙ ap (held_of k) (sym (same_item_at R (after R update.InSync) k refl refl));
@@ -120,8 +120,8 @@ module _ {dg : Digest} {R : Resources} {n : index.Inputs} {a : active.Inputs} {r
 
 -- ---- updates that change no resource
 
-pub second_mark : (R : Resources) → R.in_sync ≡ true → after R update.InSync ≡ R
-second_mark R h = λ j. record R { in_sync = sym h j }
+pub second_in_sync : (R : Resources) → R.in_sync ≡ true → after R update.InSync ≡ R
+second_in_sync R h = λ j. record R { in_sync = sym h j }
 
 pub put_of_other_kind : (R : Resources) (k : Key) (x : Item) → is_of_kind k x ≡ false → after R (update.Put k x) ≡ R
 put_of_other_kind R (key.Item (item_key.Endpoint ns name)) (item.Endpoint e) h = cc

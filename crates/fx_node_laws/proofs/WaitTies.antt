@@ -1,4 +1,4 @@
--- What waits after each update, and what the mark makes of it.
+-- What waits after each update, and what becomes of it once the datastore is in sync.
 use Rattle.std.proofs.Common.{◌≡◌, ℕ, Bool, true, false, not, cond, ◌&&◌, List, Option, Some, None, refl, sym, ap, ◌∙◌}
 use Rattle.std.specs.Prelude.{option_map}
 use Rattle.std.specs.Ordering.{eq_by_cmp}
@@ -21,10 +21,10 @@ use Rattle.fx_node_laws.specs.Tied.{known_endpoint, served_profiles, served_know
 use Rattle.fx_node_laws.specs.Waits.{waiting_of, waits, waiting_if, known_waiting, Queue, AreWaiting, with_waiting}
 use Rattle.fx_node_laws.specs.Changes.{taken, with_endpoints}
 use Rattle.fx_node_laws.proofs.Brought.{brought}
-use Rattle.fx_node_laws.proofs.UpdateTies.{mark}
+use Rattle.fx_node_laws.proofs.UpdateTies.{in_sync_tied}
 use Rattle.fx_node_laws.proofs.OneKey.{here_inserted, here_removed, there_inserted, there_removed, known_inserted, known_removed}
 
--- the same waits where the node and the mark are the same
+-- the same waits where the node is the same, and whether the datastore is in sync
 same_waiting : (R S : Resources) → S.in_sync ≡ R.in_sync → S.node ≡ R.node → (o : Option Endpoint) → waiting_if S o ≡ waiting_if R o
 same_waiting R S marks nodes None = refl
 same_waiting R S marks nodes (Some e) = λ j. cond (not (marks j) && bytes_eq e.node (nodes j)) (Some (waiting_of e)) None
@@ -52,11 +52,11 @@ served_waits_not R e h = not_both R.in_sync h
     not_both true g = refl
     not_both false g = cc
 
--- the mark lets nothing wait
-pub none_waits_marked : (R : Resources) → AreWaiting (after R update.InSync) map.empty
-none_waits_marked R = none_waits_in_sync (after R update.InSync) refl
+-- once the datastore is in sync nothing waits
+pub none_waits_after_in_sync : (R : Resources) → AreWaiting (after R update.InSync) map.empty
+none_waits_after_in_sync R = none_waits_in_sync (after R update.InSync) refl
 
--- an update that leaves endpoints, node and mark as they are
+-- an update that leaves endpoints, node and whether the datastore is in sync as they are
 pub waiting_stays : (R S : Resources) → S.in_sync ≡ R.in_sync → S.node ≡ R.node → S.endpoints ≡ R.endpoints → (w : Queue) → AreWaiting R w → AreWaiting S w
 waiting_stays R S marks nodes endpoints w is k = is k ∙ sym (same_waiting R S marks nodes (map.get R.endpoints k)) ∙ (λ j. waiting_if S (map.get (sym endpoints j) k))
 
@@ -89,7 +89,7 @@ module _ (R : Resources) (w : Queue) (is : AreWaiting R w) where
     waiting_gone = known_removed item_total exact_item (λ q. waiting_if R (map.get R.endpoints q)) (λ q. waiting_if gone (map.get gone.endpoints q)) w k is gone_off
         (ap (waiting_if gone) (here_removed item_total exact_item R.endpoints k))
 
-  -- ---- the mark
+  -- ---- in sync
 
   module _ (h : R.in_sync ≡ false) where
     waiting_profiles : (o : Option Endpoint) → option_map (λ (x : Waiting). x.profiles) (waiting_if R o) ≡ served_profiles (after R update.InSync) o
@@ -104,14 +104,14 @@ module _ (R : Resources) (w : Queue) (is : AreWaiting R w) where
         ap (λ b. option_map (known_waiting dg) (cond (not b && is_local R e) (Some (waiting_of e)) None)) h
         ∙ elim (is_local R e) as (λ b. option_map (known_waiting dg) (cond b (Some (waiting_of e)) None) ≡ cond b (Some (known_endpoint dg e)) None) [ true ↦ refl | false ↦ refl ]
 
-    -- what waited is what is served with the mark
-    pub mark_serves_profiles : (k : ItemKey) → option_map (λ (x : Waiting). x.profiles) (map.get w k) ≡ served_profiles (after R update.InSync) (map.get R.endpoints k)
-    mark_serves_profiles k = ap (λ o. option_map (λ (x : Waiting). x.profiles) o) (is k) ∙ waiting_profiles (map.get R.endpoints k)
+    -- what waited is what is served in sync
+    pub in_sync_serves_profiles : (k : ItemKey) → option_map (λ (x : Waiting). x.profiles) (map.get w k) ≡ served_profiles (after R update.InSync) (map.get R.endpoints k)
+    in_sync_serves_profiles k = ap (λ o. option_map (λ (x : Waiting). x.profiles) o) (is k) ∙ waiting_profiles (map.get R.endpoints k)
 
-    pub mark_serves_known : (dg : Digest) (k : ItemKey) → option_map (known_waiting dg) (map.get w k) ≡ served_known dg (after R update.InSync) (map.get R.endpoints k)
-    mark_serves_known dg k = ap (λ o. option_map (known_waiting dg) o) (is k) ∙ waiting_known dg (map.get R.endpoints k)
+    pub in_sync_serves_known : (dg : Digest) (k : ItemKey) → option_map (known_waiting dg) (map.get w k) ≡ served_known dg (after R update.InSync) (map.get R.endpoints k)
+    in_sync_serves_known dg k = ap (λ o. option_map (known_waiting dg) o) (is k) ∙ waiting_known dg (map.get R.endpoints k)
 
--- nothing is served before the mark
+-- nothing is served before the datastore is in sync
 module _ {dg : Digest} {R : Resources} {n : index.Inputs} {a : active.Inputs} {r : resolver.Inputs} {m : members.Inputs} (tied : IsTied dg R n a r m) (h : R.in_sync ≡ false) where
   unserved_profiles : (o : Option Endpoint) → served_profiles R o ≡ None
   unserved_profiles None = refl
@@ -129,8 +129,8 @@ module _ {dg : Digest} {R : Resources} {n : index.Inputs} {a : active.Inputs} {r
 
   -- so all that waits is put, one after another
   module _ (w : Queue) (is : AreWaiting R w) {n_now : index.Inputs} {a_now : active.Inputs} {r_now : resolver.Inputs} {m_now : members.Inputs} where
-    pub mark_brings : taken n_now a_now r_now m_now ≡ with_waiting dg w (taken n a r m) → IsTied dg (after R update.InSync) n_now a_now r_now m_now
-    mark_brings now =
-        let endpoints = λ (k : ItemKey). (λ j. map.get ((now j).endpoints) k) ∙ brought item_total exact_item (λ (x : Waiting). x.profiles) a.endpoints no_endpoints_yet w k ∙ mark_serves_profiles R w is h k in
-        let locals = λ (k : ItemKey). (λ j. map.get ((now j).locals) k) ∙ brought item_total exact_item (known_waiting dg) r.endpoints no_locals_yet w k ∙ mark_serves_known R w is h dg k in
-        mark tied endpoints locals (now ∙ (λ j. with_endpoints ((sym now j).endpoints) ((sym now j).locals) (taken n a r m)))
+    pub in_sync_brings : taken n_now a_now r_now m_now ≡ with_waiting dg w (taken n a r m) → IsTied dg (after R update.InSync) n_now a_now r_now m_now
+    in_sync_brings now =
+        let endpoints = λ (k : ItemKey). (λ j. map.get ((now j).endpoints) k) ∙ brought item_total exact_item (λ (x : Waiting). x.profiles) a.endpoints no_endpoints_yet w k ∙ in_sync_serves_profiles R w is h k in
+        let locals = λ (k : ItemKey). (λ j. map.get ((now j).locals) k) ∙ brought item_total exact_item (known_waiting dg) r.endpoints no_locals_yet w k ∙ in_sync_serves_known R w is h dg k in
+        in_sync_tied tied endpoints locals (now ∙ (λ j. with_endpoints ((sym now j).endpoints) ((sym now j).locals) (taken n a r m)))

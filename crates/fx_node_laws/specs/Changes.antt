@@ -117,7 +117,7 @@ with_policy id p t = record t { policies = map.insert t.policies id p }
 abbrev pub without_policy : PolicyId → Taken → Taken
 without_policy id t = record t { policies = map.remove t.policies id }
 
--- ---- the mark
+-- ---- in sync
 
 -- endpoints come into service
 abbrev pub with_endpoints : map.FinMap item_cmp.cmp-value.it (List (List ℕ)) → map.FinMap item_cmp.cmp-value.it KnownEndpoint → Taken → Taken

@@ -117,8 +117,8 @@ pub fn policy_updates_keep_ties()
         → KeepsTies dg R (update.Delete (key.Policy id)) (without_policy id) }
 {}
 
-/// With the mark all endpoints of the node come into service.
-pub fn the_mark_keeps_ties()
+/// Once the datastore is in sync all endpoints of the node come into service.
+pub fn in_sync_keeps_ties()
     ensures { (dg : Digest) (R : Resources) (n : index.Inputs) (a : active.Inputs) (r : resolver.Inputs) (m : members.Inputs)
         (n_now : index.Inputs) (a_now : active.Inputs) (r_now : resolver.Inputs) (m_now : members.Inputs) → IsTied dg R n a r m
         → ((k : ItemKey) → map.get a_now.endpoints k ≡ served_profiles (after R update.InSync) (map.get R.endpoints k))
@@ -127,7 +127,7 @@ pub fn the_mark_keeps_ties()
         → IsTied dg (after R update.InSync) n_now a_now r_now m_now }
 {}
 
-/// No resource changes with a second mark, or with a put of an item of another kind than its key.
+/// No resource changes where the datastore is told in sync a second time, or with a put of an item of another kind than its key.
 pub fn other_updates_change_nothing()
     ensures marked { (R : Resources) → R.in_sync ≡ true → after R update.InSync ≡ R }
     ensures mistaken { (R : Resources) (k : Key) (x : Item) → is_of_kind k x ≡ false → after R (update.Put k x) ≡ R }
@@ -148,14 +148,14 @@ pub fn other_inputs_are_free()
         → taken n_now a_now r_now m_now ≡ taken n a r m → IsTied dg R n_now a_now r_now m_now }
 {}
 
-/// Nothing waits at first, and nothing from the mark on.
+/// Nothing waits at first, and nothing once the datastore is in sync.
 pub fn nothing_waits_at_first_or_in_sync()
     ensures first { (node : List ℕ) → AreWaiting (empty_resources node) map.empty }
     ensures marked { (R : Resources) → AreWaiting (after R update.InSync) map.empty }
     ensures in_sync { (R : Resources) → R.in_sync ≡ true → AreWaiting R map.empty }
 {}
 
-/// An endpoint that runs on the node waits where it is put before the mark.
+/// An endpoint that runs on the node waits where it is put before the datastore is in sync.
 pub fn endpoint_updates_keep_what_waits()
     ensures waiting { (R : Resources) (w : Queue) (k : ItemKey) (e : Endpoint) → AreWaiting R w → waits R e ≡ true
         → AreWaiting (record R { endpoints = map.insert R.endpoints k e }) (map.insert w k (waiting_of e)) }
@@ -165,7 +165,7 @@ pub fn endpoint_updates_keep_what_waits()
         → AreWaiting (record R { endpoints = map.remove R.endpoints k }) (map.remove w k) }
 {}
 
-/// Only endpoints wait, and only before the mark.
+/// Only endpoints wait, and only before the datastore is in sync.
 pub fn other_updates_keep_what_waits()
     ensures in_sync { (R : Resources) (S : Resources) → R.in_sync ≡ true → S.in_sync ≡ true → (w : Queue) → AreWaiting R w → AreWaiting S w }
     ensures endpoints_stay { (R : Resources) (S : Resources) → S.in_sync ≡ R.in_sync → S.node ≡ R.node → S.endpoints ≡ R.endpoints → (w : Queue)
@@ -177,21 +177,21 @@ pub fn served_endpoints_wait_no_more()
     ensures { (R : Resources) (e : Endpoint) → is_served R e ≡ true → waits R e ≡ false }
 {}
 
-/// What waited is what is served with the mark.
-pub fn the_mark_serves_what_waits()
+/// What waited is what is served once the datastore is in sync.
+pub fn in_sync_serves_what_waits()
     ensures profiles { (R : Resources) (w : Queue) → AreWaiting R w → R.in_sync ≡ false → (k : ItemKey)
         → option_map (λ x. x.profiles) (map.get w k) ≡ served_profiles (after R update.InSync) (map.get R.endpoints k) }
     ensures known { (dg : Digest) (R : Resources) (w : Queue) → AreWaiting R w → R.in_sync ≡ false → (k : ItemKey)
         → option_map (known_waiting dg) (map.get w k) ≡ served_known dg (after R update.InSync) (map.get R.endpoints k) }
 {}
 
-/// With the mark all that waits is put, and no endpoint waits any more.
-pub fn the_mark_brings_what_waits()
+/// Once the datastore is in sync all that waits is put, and no endpoint waits any more.
+pub fn in_sync_brings_what_waits()
     ensures { (dg : Digest) (R : Resources) (w : Queue) → AreWaiting R w → R.in_sync ≡ false → KeepsTies dg R update.InSync (with_waiting dg w) }
 {}
 
-/// Before the mark nothing is served.
-pub fn nothing_is_served_before_the_mark()
+/// Before the datastore is in sync nothing is served.
+pub fn nothing_is_served_before_in_sync()
     ensures endpoints { (dg : Digest) (R : Resources) (n : index.Inputs) (a : active.Inputs) (r : resolver.Inputs) (m : members.Inputs)
         → IsTied dg R n a r m → R.in_sync ≡ false → a.endpoints ≡ map.empty }
     ensures locals { (dg : Digest) (R : Resources) (n : index.Inputs) (a : active.Inputs) (r : resolver.Inputs) (m : members.Inputs)
