@@ -51,9 +51,11 @@ impl Nodes {
         namer: &Namer<R, F>,
     ) -> Result<(), Memory>
         requires short { length iface.now ≤ 15 }
-        requires apart { HaveOwnInterfaces (map.insert self.old.resolver.endpoints key.now (record { iface = iface.now; profiles = each (profile_key R.digest_of) profiles.now })) }
+        requires apart { HaveOwnInterfaces
+            (map.insert self.old.resolver.endpoints key.now (record { iface = iface.now; profiles = each (profile_key R.digest_of) profiles.now })) }
         requires settled { IsInStep R.digest_of None self.old }
-        ensures taken { OnOk result (taken_of self.new ≡ placed key.now (record { iface = iface.now; profiles = each (profile_key R.digest_of) profiles.now }) (taken_of self.old)) }
+        ensures taken { OnOk result (taken_of self.new ≡ placed key.now
+            (record { iface = iface.now; profiles = each (profile_key R.digest_of) profiles.now }) (taken_of self.old)) }
         ensures beside { OnOk result (IsBeside self.old self.new) }
         ensures settled { OnOk result (IsInStep R.digest_of None self.new) }
     {

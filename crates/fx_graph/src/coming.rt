@@ -27,7 +27,8 @@ fn feed_one_in<S: ActiveSink, T: Ticker>(
     requires joined { IsJoined joined.old (S.policies sink.old) (S.profiles sink.old) (S.pairs sink.old) }
     requires matched { members.old.matched ≡ joined.old.pairs }
     requires members { AreMembers members.old sequencer.old.now.sets }
-    ensures index { OnOk result (joined.new.index ≡ record joined.old.index { selectors = raised_at joined.old.index.selectors (option_copied set.entry) }) }
+    ensures index { OnOk result (joined.new.index ≡ record joined.old.index
+        { selectors = raised_at joined.old.index.selectors (option_copied set.entry) }) }
     ensures active { OnOk result (joined.new.active ≡ record joined.old.active { matched = joined.new.pairs }) }
     ensures joined { OnOk result (IsJoined joined.new (S.policies sink.new) (S.profiles sink.new) (S.pairs sink.new)) }
     ensures inputs { OnOk result (members.new ≡ record members.old { matched = joined.new.pairs }) }
@@ -57,7 +58,8 @@ pub fn feed_in<S: ActiveSink, T: Ticker>(
     requires joined { IsJoined joined.old (S.policies sink.old) (S.profiles sink.old) (S.pairs sink.old) }
     requires matched { members.old.matched ≡ joined.old.pairs }
     requires members { AreMembers members.old sequencer.old.now.sets }
-    ensures index { OnOk result (joined.new.index ≡ record joined.old.index { selectors = raised_by uses.now (map.entries notes.now) joined.old.index.selectors }) }
+    ensures index { OnOk result (joined.new.index ≡ record joined.old.index
+        { selectors = raised_by uses.now (map.entries notes.now) joined.old.index.selectors }) }
     ensures active { OnOk result (joined.new.active ≡ record joined.old.active { matched = joined.new.pairs }) }
     ensures joined { OnOk result (IsJoined joined.new (S.policies sink.new) (S.profiles sink.new) (S.pairs sink.new)) }
     ensures inputs { OnOk result (members.new ≡ record members.old { matched = joined.new.pairs }) }

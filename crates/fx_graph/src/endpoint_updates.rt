@@ -31,7 +31,8 @@ impl GraphState {
         requires item { item.now ≡ items.Endpoint endpoint.now }
         requires update { is_formed (update.Put (keys.Item key.now) (items.Endpoint endpoint.now)) ≡ true }
         requires resources { CanFollow R.digest_of (update.Put (keys.Item key.now) (items.Endpoint endpoint.now)) self.old }
-        ensures follows { OnOk result (Follows R.digest_of (update.Put (keys.Item key.now) (items.Endpoint endpoint.now)) self.old self.new) }
+        ensures follows { OnOk result (Follows R.digest_of (update.Put (keys.Item key.now) (items.Endpoint endpoint.now))
+            self.old self.new) }
         ensures sent { OnOk result ((sides_of self.new).sent ≡ (sides_of self.old).sent) }
     {
         if !self.is_local(endpoint) {
@@ -59,7 +60,8 @@ impl GraphState {
         requires item { item.now ≡ items.Endpoint endpoint.now }
         requires update { is_formed (update.Put (keys.Item key.now) (items.Endpoint endpoint.now)) ≡ true }
         requires resources { CanFollow R.digest_of (update.Put (keys.Item key.now) (items.Endpoint endpoint.now)) self.old }
-        ensures follows { OnOk result (Follows R.digest_of (update.Put (keys.Item key.now) (items.Endpoint endpoint.now)) self.old self.new) }
+        ensures follows { OnOk result (Follows R.digest_of (update.Put (keys.Item key.now) (items.Endpoint endpoint.now))
+            self.old self.new) }
         ensures sent { OnOk result ((sides_of self.new).sent ≡ (sides_of self.old).sent) }
     {
         let nodes = &mut self.nodes;
@@ -82,7 +84,8 @@ impl GraphState {
         requires item { item.now ≡ items.Endpoint endpoint.now }
         requires update { is_formed (update.Put (keys.Item key.now) (items.Endpoint endpoint.now)) ≡ true }
         requires resources { CanFollow R.digest_of (update.Put (keys.Item key.now) (items.Endpoint endpoint.now)) self.old }
-        ensures follows { OnOk result (Follows R.digest_of (update.Put (keys.Item key.now) (items.Endpoint endpoint.now)) self.old self.new) }
+        ensures follows { OnOk result (Follows R.digest_of (update.Put (keys.Item key.now) (items.Endpoint endpoint.now))
+            self.old self.new) }
         ensures sent { OnOk result ((sides_of self.new).sent ≡ (sides_of self.old).sent) }
     {
         let waiting = Waiting {
@@ -109,7 +112,8 @@ impl GraphState {
         requires item { item.now ≡ items.Endpoint endpoint.now }
         requires update { is_formed (update.Put (keys.Item key.now) (items.Endpoint endpoint.now)) ≡ true }
         requires resources { CanFollow R.digest_of (update.Put (keys.Item key.now) (items.Endpoint endpoint.now)) self.old }
-        ensures follows { OnOk result (Follows R.digest_of (update.Put (keys.Item key.now) (items.Endpoint endpoint.now)) self.old self.new) }
+        ensures follows { OnOk result (Follows R.digest_of (update.Put (keys.Item key.now) (items.Endpoint endpoint.now))
+            self.old self.new) }
         ensures sent { OnOk result ((sides_of self.new).sent ≡ (sides_of self.old).sent) }
     {
         let nodes = &mut self.nodes;

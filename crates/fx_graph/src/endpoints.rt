@@ -24,7 +24,8 @@ impl Nodes {
     ) -> Result<(), Memory>
         requires item { item.now ≡ items.Endpoint endpoint.now }
         requires short { length endpoint.now.iface ≤ 15 }
-        requires own { HaveOwnInterfaces (map.insert self.old.resolver.endpoints key.now (known_endpoint R.digest_of endpoint.now)) }
+        requires own { HaveOwnInterfaces
+            (map.insert self.old.resolver.endpoints key.now (known_endpoint R.digest_of endpoint.now)) }
         requires apart { AreApart R.digest_of (with_served R.digest_of key.now endpoint.now (taken_of self.old)) }
         requires settled { IsInStep R.digest_of None self.old }
         ensures taken { OnOk result (taken_of self.new ≡ with_served R.digest_of key.now endpoint.now (taken_of self.old)) }

@@ -33,12 +33,15 @@ pub fn feed<S: ActiveSink, T: Ticker>(
     sequencer: &mut Sequencer,
     ticks: &mut T,
 ) -> Result<(), Memory>
-    requires since { (before : Option (List ℕ)) × AreBehindBy notes.now uses.now before upper.old.joined (S.policies sink.old) (S.profiles sink.old) (S.pairs sink.old) }
+    requires since { (before : Option (List ℕ))
+        × AreBehindBy notes.now uses.now before upper.old.joined (S.policies sink.old) (S.profiles sink.old) (S.pairs sink.old) }
     requires formed { AreFormed uses.now }
     requires matched { members.old.matched ≡ upper.old.joined.pairs }
     requires members { AreMembers members.old sequencer.old.now.sets }
-    ensures index { OnOk result (upper.new.joined.index ≡ record upper.old.joined.index { selectors = upper.new.joined.index.selectors }) }
-    ensures active { OnOk result (upper.new.joined.active ≡ record upper.old.joined.active { matched = upper.new.joined.pairs }) }
+    ensures index { OnOk result (upper.new.joined.index ≡ record upper.old.joined.index
+        { selectors = upper.new.joined.index.selectors }) }
+    ensures active { OnOk result (upper.new.joined.active ≡ record upper.old.joined.active
+        { matched = upper.new.joined.pairs }) }
     ensures upper { OnOk result ((before : Option (List ℕ))
         → AreBehindBy notes.now uses.now before upper.old.joined (S.policies sink.old) (S.profiles sink.old) (S.pairs sink.old)
         → AreInStep upper.new.joined (with_some before (used_in uses.now)) (S.policies sink.new) (S.profiles sink.new) (S.pairs sink.new)) }

@@ -26,7 +26,8 @@ fn feed_one_out<S: ActiveSink, T: Ticker>(
     requires joined { IsJoined joined.old (S.policies sink.old) (S.profiles sink.old) (S.pairs sink.old) }
     requires matched { members.old.matched ≡ joined.old.pairs }
     requires members { AreMembers members.old sequencer.old.now.sets }
-    ensures index { OnOk result (joined.new.index ≡ record joined.old.index { selectors = lowered_at joined.old.index.selectors was.now }) }
+    ensures index { OnOk result (joined.new.index ≡ record joined.old.index
+        { selectors = lowered_at joined.old.index.selectors was.now }) }
     ensures active { OnOk result (joined.new.active ≡ record joined.old.active { matched = joined.new.pairs }) }
     ensures joined { OnOk result (IsJoined joined.new (S.policies sink.new) (S.profiles sink.new) (S.pairs sink.new)) }
     ensures inputs { OnOk result (members.new ≡ record members.old { matched = joined.new.pairs }) }
@@ -55,7 +56,8 @@ pub fn feed_out<S: ActiveSink, T: Ticker>(
     requires joined { IsJoined joined.old (S.policies sink.old) (S.profiles sink.old) (S.pairs sink.old) }
     requires matched { members.old.matched ≡ joined.old.pairs }
     requires members { AreMembers members.old sequencer.old.now.sets }
-    ensures index { OnOk result (joined.new.index ≡ record joined.old.index { selectors = lowered_by (map.entries notes.now) joined.old.index.selectors }) }
+    ensures index { OnOk result (joined.new.index ≡ record joined.old.index
+        { selectors = lowered_by (map.entries notes.now) joined.old.index.selectors }) }
     ensures active { OnOk result (joined.new.active ≡ record joined.old.active { matched = joined.new.pairs }) }
     ensures joined { OnOk result (IsJoined joined.new (S.policies sink.new) (S.profiles sink.new) (S.pairs sink.new)) }
     ensures inputs { OnOk result (members.new ≡ record members.old { matched = joined.new.pairs }) }

@@ -30,7 +30,8 @@ fn serve_each<S: ActiveSink>(
       endpoints = extended upper.old.joined.active.endpoints
           (each (λ x. (x.0, x.1.profiles)) (map.entries waiting.now));
     }) }
-    ensures upper { OnOk result ((used : List ℕ → ℕ) → AreInStep upper.old.joined used (S.policies sink.old) (S.profiles sink.old) (S.pairs sink.old)
+    ensures upper { OnOk result ((used : List ℕ → ℕ)
+        → AreInStep upper.old.joined used (S.policies sink.old) (S.profiles sink.old) (S.pairs sink.old)
         → AreInStep upper.new.joined used (S.policies sink.new) (S.profiles sink.new) (S.pairs sink.new)) }
     ensures composed { OnOk result (IsComposed upper.new.joined.index upper.new.joined.active (S.policies sink.new) (S.profiles sink.new) (S.pairs sink.new)) }
 {

@@ -27,7 +27,8 @@ impl Nodes {
         requires apart { IsApart R.digest_of (record { policies = logged.told.policies; profiles = logged.told.profiles }) }
         ensures taken { OnOk result (taken_of self.new ≡ taken_of self.old) }
         ensures beside { OnOk result (IsBeside self.old self.new) }
-        ensures settled { OnOk result ((before : Option (List ℕ)) → IsBehindBy R.digest_of before self.old changes.now logged
+        ensures settled { OnOk result ((before : Option (List ℕ))
+            → IsBehindBy R.digest_of before self.old changes.now logged
             → IsInStep R.digest_of before self.new) }
     {
         let alloc = self.alloc;

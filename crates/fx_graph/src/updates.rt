@@ -87,7 +87,8 @@ impl GraphState {
         requires item { item.now ≡ items.NetSet net_set.now }
         requires update { is_formed (update.Put (keys.Item key.now) (items.NetSet net_set.now)) ≡ true }
         requires resources { CanFollow R.digest_of (update.Put (keys.Item key.now) (items.NetSet net_set.now)) self.old }
-        ensures follows { OnOk result (Follows R.digest_of (update.Put (keys.Item key.now) (items.NetSet net_set.now)) self.old self.new) }
+        ensures follows { OnOk result (Follows R.digest_of (update.Put (keys.Item key.now) (items.NetSet net_set.now))
+            self.old self.new) }
         ensures sent { OnOk result ((sides_of self.new).sent ≡ (sides_of self.old).sent) }
     {
         let nodes = &mut self.nodes;
@@ -119,7 +120,8 @@ impl GraphState {
         ticks: &mut T,
     ) -> Result<(), Memory>
         requires { CanFollow R.digest_of (update.Put (keys.Profile name.now) (items.Profile profile.now)) self.old }
-        ensures follows { OnOk result (Follows R.digest_of (update.Put (keys.Profile name.now) (items.Profile profile.now)) self.old self.new) }
+        ensures follows { OnOk result (Follows R.digest_of (update.Put (keys.Profile name.now) (items.Profile profile.now))
+            self.old self.new) }
         ensures sent { OnOk result ((sides_of self.new).sent ≡ (sides_of self.old).sent) }
     {
         let nodes = &mut self.nodes;
@@ -150,7 +152,8 @@ impl GraphState {
         ticks: &mut T,
     ) -> Result<(), Memory>
         requires { CanFollow R.digest_of (update.Put (keys.Policy id.now) (items.Policy policy.now)) self.old }
-        ensures follows { OnOk result (Follows R.digest_of (update.Put (keys.Policy id.now) (items.Policy policy.now)) self.old self.new) }
+        ensures follows { OnOk result (Follows R.digest_of (update.Put (keys.Policy id.now) (items.Policy policy.now))
+            self.old self.new) }
         ensures sent { OnOk result ((sides_of self.new).sent ≡ (sides_of self.old).sent) }
     {
         let nodes = &mut self.nodes;
@@ -175,7 +178,8 @@ impl GraphState {
 
     fn put_tier<R: DigestRule>(&mut self, name: &Text, tier: &Tier) -> Result<(), Memory>
         requires { CanFollow R.digest_of (update.Put (keys.Tier name.now) (items.Tier tier.now)) self.old }
-        ensures follows { OnOk result (Follows R.digest_of (update.Put (keys.Tier name.now) (items.Tier tier.now)) self.old self.new) }
+        ensures follows { OnOk result (Follows R.digest_of (update.Put (keys.Tier name.now) (items.Tier tier.now))
+            self.old self.new) }
         ensures sent { OnOk result ((sides_of self.new).sent ≡ (sides_of self.old).sent) }
     {
         let nodes = &mut self.nodes;

@@ -36,7 +36,8 @@ impl ActiveSink for ActiveTold {
     ghost pairs = { λ a. a.pairs };
 
     fn policy_on(&mut self, id: &PolicyId, policy: &Policy) -> Result<(), Memory>
-        ensures ok { OnOk result (self.new ≡ record self.old { policies = map.insert self.old.policies id.now policy.now }) }
+        ensures ok { OnOk result (self.new ≡ record self.old
+            { policies = map.insert self.old.policies id.now policy.now }) }
         ensures err { OnErr result (self.new ≡ self.old) }
     {
         self.policies.insert(id.clone()?, policy.clone()?)?;

@@ -62,7 +62,8 @@ impl Joined {
         ticks: &mut T,
     ) -> Result<Seq<PairChange>, Memory>
         requires joined { IsJoined self.old (S.policies sink.old) (S.profiles sink.old) (S.pairs sink.old) }
-        ensures index { OnOk result (self.new.index ≡ record self.old.index { items = map.insert self.old.index.items key.now (record { labels = labels.now; parents = parents.now }) }) }
+        ensures index { OnOk result (self.new.index ≡ record self.old.index
+            { items = map.insert self.old.index.items key.now (record { labels = labels.now; parents = parents.now }) }) }
         ensures changes { IfOk result (λ changes. IsRun changes self.old.pairs self.new.pairs) }
         ensures active { OnOk result (self.new.active ≡ record self.old.active { matched = self.new.pairs }) }
         ensures joined { OnOk result (IsJoined self.new (S.policies sink.new) (S.profiles sink.new) (S.pairs sink.new)) }
@@ -81,7 +82,8 @@ impl Joined {
     ) -> Result<Seq<PairChange>, Memory>
         requires start { self.old.pairs ≡ K.pairs_then }
         requires joined { IsJoined self.old (S.policies sink.old) (S.profiles sink.old) (S.pairs sink.old) }
-        ensures index { OnOk result (self.new.index ≡ record self.old.index { items = map.insert self.old.index.items key.now (record { labels = labels.now; parents = parents.now }) }) }
+        ensures index { OnOk result (self.new.index ≡ record self.old.index
+            { items = map.insert self.old.index.items key.now (record { labels = labels.now; parents = parents.now }) }) }
         ensures changes { IfOk result (λ changes. IsRun changes self.old.pairs self.new.pairs) }
         ensures active { OnOk result (self.new.active ≡ record self.old.active { matched = self.new.pairs }) }
         ensures joined { OnOk result (IsJoined self.new (S.policies sink.new) (S.profiles sink.new) (S.pairs sink.new)) }
@@ -102,7 +104,8 @@ impl Joined {
         ticks: &mut T,
     ) -> Result<Seq<PairChange>, Memory>
         requires joined { IsJoined self.old (S.policies sink.old) (S.profiles sink.old) (S.pairs sink.old) }
-        ensures index { OnOk result (self.new.index ≡ record self.old.index { items = map.remove self.old.index.items key.now }) }
+        ensures index { OnOk result (self.new.index ≡ record self.old.index
+            { items = map.remove self.old.index.items key.now }) }
         ensures changes { IfOk result (λ changes. IsRun changes self.old.pairs self.new.pairs) }
         ensures active { OnOk result (self.new.active ≡ record self.old.active { matched = self.new.pairs }) }
         ensures joined { OnOk result (IsJoined self.new (S.policies sink.new) (S.profiles sink.new) (S.pairs sink.new)) }
@@ -119,7 +122,8 @@ impl Joined {
     ) -> Result<Seq<PairChange>, Memory>
         requires start { self.old.pairs ≡ K.pairs_then }
         requires joined { IsJoined self.old (S.policies sink.old) (S.profiles sink.old) (S.pairs sink.old) }
-        ensures index { OnOk result (self.new.index ≡ record self.old.index { items = map.remove self.old.index.items key.now }) }
+        ensures index { OnOk result (self.new.index ≡ record self.old.index
+            { items = map.remove self.old.index.items key.now }) }
         ensures changes { IfOk result (λ changes. IsRun changes self.old.pairs self.new.pairs) }
         ensures active { OnOk result (self.new.active ≡ record self.old.active { matched = self.new.pairs }) }
         ensures joined { OnOk result (IsJoined self.new (S.policies sink.new) (S.profiles sink.new) (S.pairs sink.new)) }
@@ -141,7 +145,8 @@ impl Joined {
         ticks: &mut T,
     ) -> Result<Seq<PairChange>, Memory>
         requires joined { IsJoined self.old (S.policies sink.old) (S.profiles sink.old) (S.pairs sink.old) }
-        ensures index { OnOk result (self.new.index ≡ record self.old.index { parents = map.insert self.old.index.parents name.now labels.now }) }
+        ensures index { OnOk result (self.new.index ≡ record self.old.index
+            { parents = map.insert self.old.index.parents name.now labels.now }) }
         ensures changes { IfOk result (λ changes. IsRun changes self.old.pairs self.new.pairs) }
         ensures active { OnOk result (self.new.active ≡ record self.old.active { matched = self.new.pairs }) }
         ensures joined { OnOk result (IsJoined self.new (S.policies sink.new) (S.profiles sink.new) (S.pairs sink.new)) }
@@ -159,7 +164,8 @@ impl Joined {
     ) -> Result<Seq<PairChange>, Memory>
         requires start { self.old.pairs ≡ K.pairs_then }
         requires joined { IsJoined self.old (S.policies sink.old) (S.profiles sink.old) (S.pairs sink.old) }
-        ensures index { OnOk result (self.new.index ≡ record self.old.index { parents = map.insert self.old.index.parents name.now labels.now }) }
+        ensures index { OnOk result (self.new.index ≡ record self.old.index
+            { parents = map.insert self.old.index.parents name.now labels.now }) }
         ensures changes { IfOk result (λ changes. IsRun changes self.old.pairs self.new.pairs) }
         ensures active { OnOk result (self.new.active ≡ record self.old.active { matched = self.new.pairs }) }
         ensures joined { OnOk result (IsJoined self.new (S.policies sink.new) (S.profiles sink.new) (S.pairs sink.new)) }
@@ -180,7 +186,8 @@ impl Joined {
         ticks: &mut T,
     ) -> Result<Seq<PairChange>, Memory>
         requires joined { IsJoined self.old (S.policies sink.old) (S.profiles sink.old) (S.pairs sink.old) }
-        ensures index { OnOk result (self.new.index ≡ record self.old.index { parents = map.remove self.old.index.parents name.now }) }
+        ensures index { OnOk result (self.new.index ≡ record self.old.index
+            { parents = map.remove self.old.index.parents name.now }) }
         ensures changes { IfOk result (λ changes. IsRun changes self.old.pairs self.new.pairs) }
         ensures active { OnOk result (self.new.active ≡ record self.old.active { matched = self.new.pairs }) }
         ensures joined { OnOk result (IsJoined self.new (S.policies sink.new) (S.profiles sink.new) (S.pairs sink.new)) }
@@ -197,7 +204,8 @@ impl Joined {
     ) -> Result<Seq<PairChange>, Memory>
         requires start { self.old.pairs ≡ K.pairs_then }
         requires joined { IsJoined self.old (S.policies sink.old) (S.profiles sink.old) (S.pairs sink.old) }
-        ensures index { OnOk result (self.new.index ≡ record self.old.index { parents = map.remove self.old.index.parents name.now }) }
+        ensures index { OnOk result (self.new.index ≡ record self.old.index
+            { parents = map.remove self.old.index.parents name.now }) }
         ensures changes { IfOk result (λ changes. IsRun changes self.old.pairs self.new.pairs) }
         ensures active { OnOk result (self.new.active ≡ record self.old.active { matched = self.new.pairs }) }
         ensures joined { OnOk result (IsJoined self.new (S.policies sink.new) (S.profiles sink.new) (S.pairs sink.new)) }
@@ -221,7 +229,8 @@ impl Joined {
         requires text { text.now ≡ canonical_text selector.now }
         requires selector { IsSelector selector.now }
         requires joined { IsJoined self.old (S.policies sink.old) (S.profiles sink.old) (S.pairs sink.old) }
-        ensures index { OnOk result (self.new.index ≡ record self.old.index { selectors = raised self.old.index.selectors text.now selector.now }) }
+        ensures index { OnOk result (self.new.index ≡ record self.old.index
+            { selectors = raised self.old.index.selectors text.now selector.now }) }
         ensures changes { IfOk result (λ changes. IsRun changes self.old.pairs self.new.pairs) }
         ensures active { OnOk result (self.new.active ≡ record self.old.active { matched = self.new.pairs }) }
         ensures joined { OnOk result (IsJoined self.new (S.policies sink.new) (S.profiles sink.new) (S.pairs sink.new)) }
@@ -241,7 +250,8 @@ impl Joined {
         requires text { text.now ≡ canonical_text selector.now }
         requires selector { IsSelector selector.now }
         requires joined { IsJoined self.old (S.policies sink.old) (S.profiles sink.old) (S.pairs sink.old) }
-        ensures index { OnOk result (self.new.index ≡ record self.old.index { selectors = raised self.old.index.selectors text.now selector.now }) }
+        ensures index { OnOk result (self.new.index ≡ record self.old.index
+            { selectors = raised self.old.index.selectors text.now selector.now }) }
         ensures changes { IfOk result (λ changes. IsRun changes self.old.pairs self.new.pairs) }
         ensures active { OnOk result (self.new.active ≡ record self.old.active { matched = self.new.pairs }) }
         ensures joined { OnOk result (IsJoined self.new (S.policies sink.new) (S.profiles sink.new) (S.pairs sink.new)) }
@@ -262,7 +272,8 @@ impl Joined {
         ticks: &mut T,
     ) -> Result<Seq<PairChange>, Memory>
         requires joined { IsJoined self.old (S.policies sink.old) (S.profiles sink.old) (S.pairs sink.old) }
-        ensures index { OnOk result (self.new.index ≡ record self.old.index { selectors = lowered self.old.index.selectors text.now }) }
+        ensures index { OnOk result (self.new.index ≡ record self.old.index
+            { selectors = lowered self.old.index.selectors text.now }) }
         ensures changes { IfOk result (λ changes. IsRun changes self.old.pairs self.new.pairs) }
         ensures active { OnOk result (self.new.active ≡ record self.old.active { matched = self.new.pairs }) }
         ensures joined { OnOk result (IsJoined self.new (S.policies sink.new) (S.profiles sink.new) (S.pairs sink.new)) }
@@ -279,7 +290,8 @@ impl Joined {
     ) -> Result<Seq<PairChange>, Memory>
         requires start { self.old.pairs ≡ K.pairs_then }
         requires joined { IsJoined self.old (S.policies sink.old) (S.profiles sink.old) (S.pairs sink.old) }
-        ensures index { OnOk result (self.new.index ≡ record self.old.index { selectors = lowered self.old.index.selectors text.now }) }
+        ensures index { OnOk result (self.new.index ≡ record self.old.index
+            { selectors = lowered self.old.index.selectors text.now }) }
         ensures changes { IfOk result (λ changes. IsRun changes self.old.pairs self.new.pairs) }
         ensures active { OnOk result (self.new.active ≡ record self.old.active { matched = self.new.pairs }) }
         ensures joined { OnOk result (IsJoined self.new (S.policies sink.new) (S.profiles sink.new) (S.pairs sink.new)) }

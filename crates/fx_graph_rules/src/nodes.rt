@@ -64,12 +64,14 @@ impl Upper {
         ticks: &mut T,
     ) -> Result<Replaced, Memory>
         requires { AreInStepForSome self.old.joined (S.policies sink.old) (S.profiles sink.old) (S.pairs sink.old) }
-        ensures index { OnOk result (self.new.joined.index ≡ record self.old.joined.index { selectors = self.new.joined.index.selectors }) }
+        ensures index { OnOk result (self.new.joined.index ≡ record self.old.joined.index
+            { selectors = self.new.joined.index.selectors }) }
         ensures active { OnOk result (self.new.joined.active ≡ record self.old.joined.active
             { policies = map.insert self.old.joined.active.policies id.now policy.now; matched = self.new.joined.pairs }) }
         ensures before { IfOk result (λ replaced. replaced.before ≡ selector_text (map.get self.old.joined.active.policies id.now)) }
         ensures changes { IfOk result (λ replaced. IsRun replaced.changes self.old.joined.pairs self.new.joined.pairs) }
-        ensures upper { IfOk result (λ replaced. (used : List ℕ → ℕ) → AreInStep self.old.joined used (S.policies sink.old) (S.profiles sink.old) (S.pairs sink.old)
+        ensures upper { IfOk result (λ replaced. (used : List ℕ → ℕ)
+            → AreInStep self.old.joined used (S.policies sink.old) (S.profiles sink.old) (S.pairs sink.old)
             → AreInStep self.new.joined (with_some replaced.before used) (S.policies sink.new) (S.profiles sink.new) (S.pairs sink.new)) }
         ensures composed { OnOk result (IsComposed self.new.joined.index self.new.joined.active
             (S.policies sink.new) (S.profiles sink.new) (S.pairs sink.new)) }
@@ -96,7 +98,8 @@ impl Upper {
         ensures active { OnOk result (self.new.joined.active
             ≡ record self.old.joined.active { policies = map.remove self.old.joined.active.policies id.now }) }
         ensures before { IfOk result (λ before. before ≡ selector_text (map.get self.old.joined.active.policies id.now)) }
-        ensures upper { IfOk result (λ before. (used : List ℕ → ℕ) → AreInStep self.old.joined used (S.policies sink.old) (S.profiles sink.old) (S.pairs sink.old)
+        ensures upper { IfOk result (λ before. (used : List ℕ → ℕ)
+            → AreInStep self.old.joined used (S.policies sink.old) (S.profiles sink.old) (S.pairs sink.old)
             → AreInStep self.new.joined (with_some before used) (S.policies sink.new) (S.profiles sink.new) (S.pairs sink.new)) }
         ensures composed { OnOk result (IsComposed self.new.joined.index self.new.joined.active
             (S.policies sink.new) (S.profiles sink.new) (S.pairs sink.new)) }
@@ -113,11 +116,15 @@ impl Upper {
         sink: &mut S,
         ticks: &mut T,
     ) -> Result<Seq<PairChange>, Memory>
-        requires { (used : List ℕ → ℕ) × AreInStep self.old.joined (with_one text.now used) (S.policies sink.old) (S.profiles sink.old) (S.pairs sink.old) }
-        ensures index { OnOk result (self.new.joined.index ≡ record self.old.joined.index { selectors = self.new.joined.index.selectors }) }
+        requires { (used : List ℕ → ℕ)
+            × AreInStep self.old.joined (with_one text.now used) (S.policies sink.old) (S.profiles sink.old) (S.pairs sink.old) }
+        ensures index { OnOk result (self.new.joined.index ≡ record self.old.joined.index
+            { selectors = self.new.joined.index.selectors }) }
         ensures changes { IfOk result (λ changes. IsRun changes self.old.joined.pairs self.new.joined.pairs) }
-        ensures active { OnOk result (self.new.joined.active ≡ record self.old.joined.active { matched = self.new.joined.pairs }) }
-        ensures upper { OnOk result ((used : List ℕ → ℕ) → AreInStep self.old.joined (with_one text.now used) (S.policies sink.old) (S.profiles sink.old) (S.pairs sink.old)
+        ensures active { OnOk result (self.new.joined.active ≡ record self.old.joined.active
+            { matched = self.new.joined.pairs }) }
+        ensures upper { OnOk result ((used : List ℕ → ℕ)
+            → AreInStep self.old.joined (with_one text.now used) (S.policies sink.old) (S.profiles sink.old) (S.pairs sink.old)
             → AreInStep self.new.joined used (S.policies sink.new) (S.profiles sink.new) (S.pairs sink.new)) }
         ensures composed { OnOk result (IsComposed self.new.joined.index self.new.joined.active
             (S.policies sink.new) (S.profiles sink.new) (S.pairs sink.new)) }
@@ -136,11 +143,15 @@ impl Upper {
         sink: &mut S,
         ticks: &mut T,
     ) -> Result<Seq<PairChange>, Memory>
-        requires { (used : List ℕ → ℕ) × AreInStep self.old.joined (with_some text used) (S.policies sink.old) (S.profiles sink.old) (S.pairs sink.old) }
-        ensures index { OnOk result (self.new.joined.index ≡ record self.old.joined.index { selectors = self.new.joined.index.selectors }) }
+        requires { (used : List ℕ → ℕ)
+            × AreInStep self.old.joined (with_some text used) (S.policies sink.old) (S.profiles sink.old) (S.pairs sink.old) }
+        ensures index { OnOk result (self.new.joined.index ≡ record self.old.joined.index
+            { selectors = self.new.joined.index.selectors }) }
         ensures changes { IfOk result (λ changes. IsRun changes self.old.joined.pairs self.new.joined.pairs) }
-        ensures active { OnOk result (self.new.joined.active ≡ record self.old.joined.active { matched = self.new.joined.pairs }) }
-        ensures upper { OnOk result ((used : List ℕ → ℕ) → AreInStep self.old.joined (with_some text used) (S.policies sink.old) (S.profiles sink.old) (S.pairs sink.old)
+        ensures active { OnOk result (self.new.joined.active ≡ record self.old.joined.active
+            { matched = self.new.joined.pairs }) }
+        ensures upper { OnOk result ((used : List ℕ → ℕ)
+            → AreInStep self.old.joined (with_some text used) (S.policies sink.old) (S.profiles sink.old) (S.pairs sink.old)
             → AreInStep self.new.joined used (S.policies sink.new) (S.profiles sink.new) (S.pairs sink.new)) }
         ensures composed { OnOk result (IsComposed self.new.joined.index self.new.joined.active
             (S.policies sink.new) (S.profiles sink.new) (S.pairs sink.new)) }
@@ -164,11 +175,13 @@ impl Upper {
         ticks: &mut T,
     ) -> Result<Seq<PairChange>, Memory>
         requires { AreInStepForSome self.old.joined (S.policies sink.old) (S.profiles sink.old) (S.pairs sink.old) }
-        ensures index { OnOk result (self.new.joined.index ≡ record self.old.joined.index { parents = map.insert self.old.joined.index.parents name.now profile.now.labels }) }
+        ensures index { OnOk result (self.new.joined.index ≡ record self.old.joined.index
+            { parents = map.insert self.old.joined.index.parents name.now profile.now.labels }) }
         ensures changes { IfOk result (λ changes. IsRun changes self.old.joined.pairs self.new.joined.pairs) }
         ensures active { OnOk result (self.new.joined.active ≡ record self.old.joined.active
             { profiles = map.insert self.old.joined.active.profiles name.now profile.now; matched = self.new.joined.pairs }) }
-        ensures upper { OnOk result ((used : List ℕ → ℕ) → AreInStep self.old.joined used (S.policies sink.old) (S.profiles sink.old) (S.pairs sink.old)
+        ensures upper { OnOk result ((used : List ℕ → ℕ)
+            → AreInStep self.old.joined used (S.policies sink.old) (S.profiles sink.old) (S.pairs sink.old)
             → AreInStep self.new.joined used (S.policies sink.new) (S.profiles sink.new) (S.pairs sink.new)) }
         ensures composed { OnOk result (IsComposed self.new.joined.index self.new.joined.active
             (S.policies sink.new) (S.profiles sink.new) (S.pairs sink.new)) }
@@ -186,11 +199,13 @@ impl Upper {
         ticks: &mut T,
     ) -> Result<Seq<PairChange>, Memory>
         requires { AreInStepForSome self.old.joined (S.policies sink.old) (S.profiles sink.old) (S.pairs sink.old) }
-        ensures index { OnOk result (self.new.joined.index ≡ record self.old.joined.index { parents = map.remove self.old.joined.index.parents name.now }) }
+        ensures index { OnOk result (self.new.joined.index ≡ record self.old.joined.index
+            { parents = map.remove self.old.joined.index.parents name.now }) }
         ensures changes { IfOk result (λ changes. IsRun changes self.old.joined.pairs self.new.joined.pairs) }
         ensures active { OnOk result (self.new.joined.active ≡ record self.old.joined.active
             { profiles = map.remove self.old.joined.active.profiles name.now; matched = self.new.joined.pairs }) }
-        ensures upper { OnOk result ((used : List ℕ → ℕ) → AreInStep self.old.joined used (S.policies sink.old) (S.profiles sink.old) (S.pairs sink.old)
+        ensures upper { OnOk result ((used : List ℕ → ℕ)
+            → AreInStep self.old.joined used (S.policies sink.old) (S.profiles sink.old) (S.pairs sink.old)
             → AreInStep self.new.joined used (S.policies sink.new) (S.profiles sink.new) (S.pairs sink.new)) }
         ensures composed { OnOk result (IsComposed self.new.joined.index self.new.joined.active
             (S.policies sink.new) (S.profiles sink.new) (S.pairs sink.new)) }
@@ -210,11 +225,13 @@ impl Upper {
         ticks: &mut T,
     ) -> Result<Seq<PairChange>, Memory>
         requires { AreInStepForSome self.old.joined (S.policies sink.old) (S.profiles sink.old) (S.pairs sink.old) }
-        ensures index { OnOk result (self.new.joined.index ≡ record self.old.joined.index { items = map.insert self.old.joined.index.items key.now (record { labels = labels.now; parents = profiles.now }) }) }
+        ensures index { OnOk result (self.new.joined.index ≡ record self.old.joined.index
+            { items = map.insert self.old.joined.index.items key.now (record { labels = labels.now; parents = profiles.now }) }) }
         ensures changes { IfOk result (λ changes. IsRun changes self.old.joined.pairs self.new.joined.pairs) }
         ensures active { OnOk result (self.new.joined.active ≡ record self.old.joined.active
             { endpoints = map.insert self.old.joined.active.endpoints key.now profiles.now; matched = self.new.joined.pairs }) }
-        ensures upper { OnOk result ((used : List ℕ → ℕ) → AreInStep self.old.joined used (S.policies sink.old) (S.profiles sink.old) (S.pairs sink.old)
+        ensures upper { OnOk result ((used : List ℕ → ℕ)
+            → AreInStep self.old.joined used (S.policies sink.old) (S.profiles sink.old) (S.pairs sink.old)
             → AreInStep self.new.joined used (S.policies sink.new) (S.profiles sink.new) (S.pairs sink.new)) }
         ensures composed { OnOk result (IsComposed self.new.joined.index self.new.joined.active
             (S.policies sink.new) (S.profiles sink.new) (S.pairs sink.new)) }
@@ -236,7 +253,8 @@ impl Upper {
         ensures pairs { OnOk result (self.new.joined.pairs ≡ self.old.joined.pairs) }
         ensures active { OnOk result (self.new.joined.active ≡ record self.old.joined.active
             { endpoints = map.insert self.old.joined.active.endpoints key.now listed.now }) }
-        ensures upper { OnOk result ((used : List ℕ → ℕ) → AreInStep self.old.joined used (S.policies sink.old) (S.profiles sink.old) (S.pairs sink.old)
+        ensures upper { OnOk result ((used : List ℕ → ℕ)
+            → AreInStep self.old.joined used (S.policies sink.old) (S.profiles sink.old) (S.pairs sink.old)
             → AreInStep self.new.joined used (S.policies sink.new) (S.profiles sink.new) (S.pairs sink.new)) }
         ensures composed { OnOk result (IsComposed self.new.joined.index self.new.joined.active
             (S.policies sink.new) (S.profiles sink.new) (S.pairs sink.new)) }
@@ -256,11 +274,13 @@ impl Upper {
         ticks: &mut T,
     ) -> Result<Seq<PairChange>, Memory>
         requires { AreInStepForSome self.old.joined (S.policies sink.old) (S.profiles sink.old) (S.pairs sink.old) }
-        ensures index { OnOk result (self.new.joined.index ≡ record self.old.joined.index { items = map.insert self.old.joined.index.items key.now (record { labels = labels.now; parents = profiles.now }) }) }
+        ensures index { OnOk result (self.new.joined.index ≡ record self.old.joined.index
+            { items = map.insert self.old.joined.index.items key.now (record { labels = labels.now; parents = profiles.now }) }) }
         ensures changes { IfOk result (λ changes. IsRun changes self.old.joined.pairs self.new.joined.pairs) }
         ensures active { OnOk result (self.new.joined.active ≡ record self.old.joined.active
             { endpoints = map.remove self.old.joined.active.endpoints key.now; matched = self.new.joined.pairs }) }
-        ensures upper { OnOk result ((used : List ℕ → ℕ) → AreInStep self.old.joined used (S.policies sink.old) (S.profiles sink.old) (S.pairs sink.old)
+        ensures upper { OnOk result ((used : List ℕ → ℕ)
+            → AreInStep self.old.joined used (S.policies sink.old) (S.profiles sink.old) (S.pairs sink.old)
             → AreInStep self.new.joined used (S.policies sink.new) (S.profiles sink.new) (S.pairs sink.new)) }
         ensures composed { OnOk result (IsComposed self.new.joined.index self.new.joined.active
             (S.policies sink.new) (S.profiles sink.new) (S.pairs sink.new)) }
@@ -278,11 +298,13 @@ impl Upper {
         ticks: &mut T,
     ) -> Result<Seq<PairChange>, Memory>
         requires { AreInStepForSome self.old.joined (S.policies sink.old) (S.profiles sink.old) (S.pairs sink.old) }
-        ensures index { OnOk result (self.new.joined.index ≡ record self.old.joined.index { items = map.remove self.old.joined.index.items key.now }) }
+        ensures index { OnOk result (self.new.joined.index ≡ record self.old.joined.index
+            { items = map.remove self.old.joined.index.items key.now }) }
         ensures changes { IfOk result (λ changes. IsRun changes self.old.joined.pairs self.new.joined.pairs) }
         ensures active { OnOk result (self.new.joined.active ≡ record self.old.joined.active
             { endpoints = map.remove self.old.joined.active.endpoints key.now; matched = self.new.joined.pairs }) }
-        ensures upper { OnOk result ((used : List ℕ → ℕ) → AreInStep self.old.joined used (S.policies sink.old) (S.profiles sink.old) (S.pairs sink.old)
+        ensures upper { OnOk result ((used : List ℕ → ℕ)
+            → AreInStep self.old.joined used (S.policies sink.old) (S.profiles sink.old) (S.pairs sink.old)
             → AreInStep self.new.joined used (S.policies sink.new) (S.profiles sink.new) (S.pairs sink.new)) }
         ensures composed { OnOk result (IsComposed self.new.joined.index self.new.joined.active
             (S.policies sink.new) (S.profiles sink.new) (S.pairs sink.new)) }

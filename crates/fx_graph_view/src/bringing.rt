@@ -98,7 +98,8 @@ fn resolve_by<K: Beside, R: DigestRule, F: DigestFunction<R> + Drop>(
     requires behind { AreKnownBut R.digest_of logged.now.policies logged.now.told.policies resolver.old.policies }
     requires run { IsPairRun logged.now.pairs resolver.old.pairs logged.now.told.pairs }
     requires resolved { IsResolved resolver.old sequencer.old.now.endpoints }
-    ensures inputs { OnOk result (resolver.new ≡ record resolver.old { policies = resolver.new.policies; pairs = logged.now.told.pairs }) }
+    ensures inputs { OnOk result (resolver.new ≡ record resolver.old
+        { policies = resolver.new.policies; pairs = logged.now.told.pairs }) }
     ensures known { OnOk result (AreKnown R.digest_of logged.now.told.policies resolver.new.policies) }
     ensures resolved { OnOk result (IsResolved resolver.new sequencer.new.now.endpoints) }
     ensures beside { OnOk result (SameSentAndSets sequencer.old sequencer.new) }
@@ -123,7 +124,8 @@ pub fn resolve<R: DigestRule, F: DigestFunction<R> + Drop>(
     requires behind { AreKnownBut R.digest_of logged.now.policies logged.now.told.policies resolver.old.policies }
     requires run { IsPairRun logged.now.pairs resolver.old.pairs logged.now.told.pairs }
     requires resolved { IsResolved resolver.old sequencer.old.now.endpoints }
-    ensures inputs { OnOk result (resolver.new ≡ record resolver.old { policies = resolver.new.policies; pairs = logged.now.told.pairs }) }
+    ensures inputs { OnOk result (resolver.new ≡ record resolver.old
+        { policies = resolver.new.policies; pairs = logged.now.told.pairs }) }
     ensures known { OnOk result (AreKnown R.digest_of logged.now.told.policies resolver.new.policies) }
     ensures resolved { OnOk result (IsResolved resolver.new sequencer.new.now.endpoints) }
     ensures beside { OnOk result (SameSentAndSets sequencer.old sequencer.new) }

@@ -25,7 +25,8 @@ fn put_tier_by<K: Beside>(
 ) -> Result<(), Memory>
     requires stood { sequencer.old ≡ K.stood }
     requires resolved { IsResolved resolver.old sequencer.old.now.endpoints }
-    ensures inputs { OnOk result (resolver.new ≡ record resolver.old { tiers = map.insert resolver.old.tiers name.now tier.now }) }
+    ensures inputs { OnOk result (resolver.new ≡ record resolver.old
+        { tiers = map.insert resolver.old.tiers name.now tier.now }) }
     ensures resolved { OnOk result (IsResolved resolver.new sequencer.new.now.endpoints) }
     ensures beside { OnOk result (SameSentAndSets sequencer.old sequencer.new) }
     ensures policies { OnOk result (sequencer.new.now.policies ≡ sequencer.old.now.policies) }
@@ -47,7 +48,8 @@ pub fn put_tier(
     sequencer: &mut Sequencer,
 ) -> Result<(), Memory>
     requires resolved { IsResolved resolver.old sequencer.old.now.endpoints }
-    ensures inputs { OnOk result (resolver.new ≡ record resolver.old { tiers = map.insert resolver.old.tiers name.now tier.now }) }
+    ensures inputs { OnOk result (resolver.new ≡ record resolver.old
+        { tiers = map.insert resolver.old.tiers name.now tier.now }) }
     ensures resolved { OnOk result (IsResolved resolver.new sequencer.new.now.endpoints) }
     ensures beside { OnOk result (SameSentAndSets sequencer.old sequencer.new) }
     ensures policies { OnOk result (sequencer.new.now.policies ≡ sequencer.old.now.policies) }
@@ -106,9 +108,11 @@ fn put_endpoint_by<K: Beside>(
 ) -> Result<(), Memory>
     requires stood { sequencer.old ≡ K.stood }
     requires short { length iface.now ≤ 15 }
-    requires apart { HaveOwnInterfaces (map.insert resolver.old.endpoints key.now (record { iface = iface.now; profiles = profiles.now })) }
+    requires apart { HaveOwnInterfaces
+        (map.insert resolver.old.endpoints key.now (record { iface = iface.now; profiles = profiles.now })) }
     requires resolved { IsResolved resolver.old sequencer.old.now.endpoints }
-    ensures inputs { OnOk result (resolver.new ≡ record resolver.old { endpoints = map.insert resolver.old.endpoints key.now (record { iface = iface.now; profiles = profiles.now }) }) }
+    ensures inputs { OnOk result (resolver.new ≡ record resolver.old
+        { endpoints = map.insert resolver.old.endpoints key.now (record { iface = iface.now; profiles = profiles.now }) }) }
     ensures resolved { OnOk result (IsResolved resolver.new sequencer.new.now.endpoints) }
     ensures beside { OnOk result (SameSentAndSets sequencer.old sequencer.new) }
     ensures policies { OnOk result (sequencer.new.now.policies ≡ sequencer.old.now.policies) }
@@ -131,9 +135,11 @@ pub fn put_endpoint(
     sequencer: &mut Sequencer,
 ) -> Result<(), Memory>
     requires short { length iface.now ≤ 15 }
-    requires apart { HaveOwnInterfaces (map.insert resolver.old.endpoints key.now (record { iface = iface.now; profiles = profiles.now })) }
+    requires apart { HaveOwnInterfaces
+        (map.insert resolver.old.endpoints key.now (record { iface = iface.now; profiles = profiles.now })) }
     requires resolved { IsResolved resolver.old sequencer.old.now.endpoints }
-    ensures inputs { OnOk result (resolver.new ≡ record resolver.old { endpoints = map.insert resolver.old.endpoints key.now (record { iface = iface.now; profiles = profiles.now }) }) }
+    ensures inputs { OnOk result (resolver.new ≡ record resolver.old
+        { endpoints = map.insert resolver.old.endpoints key.now (record { iface = iface.now; profiles = profiles.now }) }) }
     ensures resolved { OnOk result (IsResolved resolver.new sequencer.new.now.endpoints) }
     ensures beside { OnOk result (SameSentAndSets sequencer.old sequencer.new) }
     ensures policies { OnOk result (sequencer.new.now.policies ≡ sequencer.old.now.policies) }
@@ -151,7 +157,8 @@ fn remove_endpoint_by<K: Beside>(
 ) -> Result<(), Memory>
     requires stood { sequencer.old ≡ K.stood }
     requires resolved { IsResolved resolver.old sequencer.old.now.endpoints }
-    ensures inputs { OnOk result (resolver.new ≡ record resolver.old { endpoints = map.remove resolver.old.endpoints key.now }) }
+    ensures inputs { OnOk result (resolver.new ≡ record resolver.old
+        { endpoints = map.remove resolver.old.endpoints key.now }) }
     ensures resolved { OnOk result (IsResolved resolver.new sequencer.new.now.endpoints) }
     ensures beside { OnOk result (SameSentAndSets sequencer.old sequencer.new) }
     ensures policies { OnOk result (sequencer.new.now.policies ≡ sequencer.old.now.policies) }
@@ -172,7 +179,8 @@ pub fn remove_endpoint(
     sequencer: &mut Sequencer,
 ) -> Result<(), Memory>
     requires resolved { IsResolved resolver.old sequencer.old.now.endpoints }
-    ensures inputs { OnOk result (resolver.new ≡ record resolver.old { endpoints = map.remove resolver.old.endpoints key.now }) }
+    ensures inputs { OnOk result (resolver.new ≡ record resolver.old
+        { endpoints = map.remove resolver.old.endpoints key.now }) }
     ensures resolved { OnOk result (IsResolved resolver.new sequencer.new.now.endpoints) }
     ensures beside { OnOk result (SameSentAndSets sequencer.old sequencer.new) }
     ensures policies { OnOk result (sequencer.new.now.policies ≡ sequencer.old.now.policies) }
@@ -191,7 +199,8 @@ fn put_item_by<K: Beside>(
 ) -> Result<(), Memory>
     requires stood { sequencer.old ≡ K.stood }
     requires members { AreMembers members.old sequencer.old.now.sets }
-    ensures inputs { OnOk result (members.new ≡ record members.old { items = map.insert members.old.items key.now item.now }) }
+    ensures inputs { OnOk result (members.new ≡ record members.old
+        { items = map.insert members.old.items key.now item.now }) }
     ensures members { OnOk result (AreMembers members.new sequencer.new.now.sets) }
     ensures beside { OnOk result (SameButSets sequencer.old sequencer.new) }
 {
@@ -211,7 +220,8 @@ pub fn put_item(
     sequencer: &mut Sequencer,
 ) -> Result<(), Memory>
     requires members { AreMembers members.old sequencer.old.now.sets }
-    ensures inputs { OnOk result (members.new ≡ record members.old { items = map.insert members.old.items key.now item.now }) }
+    ensures inputs { OnOk result (members.new ≡ record members.old
+        { items = map.insert members.old.items key.now item.now }) }
     ensures members { OnOk result (AreMembers members.new sequencer.new.now.sets) }
     ensures beside { OnOk result (SameButSets sequencer.old sequencer.new) }
 {

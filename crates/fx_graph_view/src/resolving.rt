@@ -74,7 +74,8 @@ pub fn resolve_through<R: DigestRule, F: DigestFunction<R> + Drop, S: ViewSink>(
     requires behind { AreKnownBut R.digest_of logged.now.policies logged.now.told.policies resolver.old.policies }
     requires run { IsPairRun logged.now.pairs resolver.old.pairs logged.now.told.pairs }
     requires resolved { IsResolved resolver.old (S.endpoints sink.old) }
-    ensures inputs { OnOk result (resolver.new ≡ record resolver.old { policies = resolver.new.policies; pairs = logged.now.told.pairs }) }
+    ensures inputs { OnOk result (resolver.new ≡ record resolver.old
+        { policies = resolver.new.policies; pairs = logged.now.told.pairs }) }
     ensures known { OnOk result (AreKnown R.digest_of logged.now.told.policies resolver.new.policies) }
     ensures resolved { OnOk result (IsResolved resolver.new (S.endpoints sink.new)) }
     ensures policies { OnOk result (S.policies sink.new ≡ S.policies sink.old) }

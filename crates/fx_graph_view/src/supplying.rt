@@ -59,7 +59,8 @@ fn pass_match<S: SetSink>(
 ) -> Result<(), Memory>
     requires changes { set.contains members.old.matched (change.now.selector, change.now.item) ≡ not change.now.on }
     requires members { AreMembers members.old (S.sets sink.old) }
-    ensures inputs { OnOk result (members.new ≡ record members.old { matched = put members.old.matched (change.now.selector, change.now.item) change.now.on }) }
+    ensures inputs { OnOk result (members.new ≡ record members.old
+        { matched = put members.old.matched (change.now.selector, change.now.item) change.now.on }) }
     ensures members { OnOk result (AreMembers members.new (S.sets sink.new)) }
 {
     if change.on {
