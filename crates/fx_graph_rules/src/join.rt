@@ -52,27 +52,8 @@ impl Joined {
         mem::replace(&mut self.pairs, PairSet::new(self.alloc))
     }
 
-    /// Puts an item with its own labels and its parents.
-    pub fn put_item<S: ActiveSink, T: Ticker>(
-        &mut self,
-        key: &ItemKey,
-        labels: &Labels,
-        parents: &[Text],
-        sink: &mut S,
-        ticks: &mut T,
-    ) -> Result<Seq<PairChange>, Memory>
-        requires joined { IsJoined self.old (S.policies sink.old) (S.profiles sink.old) (S.pairs sink.old) }
-        ensures index { OnOk result (self.new.index ≡ record self.old.index
-            { items = map.insert self.old.index.items key.now (record { labels = labels.now; parents = parents.now }) }) }
-        ensures changes { IfOk result (λ changes. IsRun changes self.old.pairs self.new.pairs) }
-        ensures active { OnOk result (self.new.active ≡ record self.old.active { matched = self.new.pairs }) }
-        ensures joined { OnOk result (IsJoined self.new (S.policies sink.new) (S.profiles sink.new) (S.pairs sink.new)) }
-    {
-        let changes = self.put_item_by::<Brand, S, T>(key, labels, parents, sink, ticks)?;
-        Ok(changes)
-    }
-
-    fn put_item_by<K: PairStart, S: ActiveSink, T: Ticker>(
+    /// Puts an item with its own labels and its parents. The type parameter names the pairs as they stand.
+    pub(crate) fn put_item<K: PairStart, S: ActiveSink, T: Ticker>(
         &mut self,
         key: &ItemKey,
         labels: &Labels,
@@ -96,25 +77,8 @@ impl Joined {
         Ok(changes)
     }
 
-    /// Removes an item.
-    pub fn remove_item<S: ActiveSink, T: Ticker>(
-        &mut self,
-        key: &ItemKey,
-        sink: &mut S,
-        ticks: &mut T,
-    ) -> Result<Seq<PairChange>, Memory>
-        requires joined { IsJoined self.old (S.policies sink.old) (S.profiles sink.old) (S.pairs sink.old) }
-        ensures index { OnOk result (self.new.index ≡ record self.old.index
-            { items = map.remove self.old.index.items key.now }) }
-        ensures changes { IfOk result (λ changes. IsRun changes self.old.pairs self.new.pairs) }
-        ensures active { OnOk result (self.new.active ≡ record self.old.active { matched = self.new.pairs }) }
-        ensures joined { OnOk result (IsJoined self.new (S.policies sink.new) (S.profiles sink.new) (S.pairs sink.new)) }
-    {
-        let changes = self.remove_item_by::<Brand, S, T>(key, sink, ticks)?;
-        Ok(changes)
-    }
-
-    fn remove_item_by<K: PairStart, S: ActiveSink, T: Ticker>(
+    /// Removes an item. The type parameter names the pairs as they stand.
+    pub(crate) fn remove_item<K: PairStart, S: ActiveSink, T: Ticker>(
         &mut self,
         key: &ItemKey,
         sink: &mut S,
@@ -136,26 +100,8 @@ impl Joined {
         Ok(changes)
     }
 
-    /// Puts the labels that the items of a parent inherit.
-    pub fn put_parent<S: ActiveSink, T: Ticker>(
-        &mut self,
-        name: &Text,
-        labels: &Labels,
-        sink: &mut S,
-        ticks: &mut T,
-    ) -> Result<Seq<PairChange>, Memory>
-        requires joined { IsJoined self.old (S.policies sink.old) (S.profiles sink.old) (S.pairs sink.old) }
-        ensures index { OnOk result (self.new.index ≡ record self.old.index
-            { parents = map.insert self.old.index.parents name.now labels.now }) }
-        ensures changes { IfOk result (λ changes. IsRun changes self.old.pairs self.new.pairs) }
-        ensures active { OnOk result (self.new.active ≡ record self.old.active { matched = self.new.pairs }) }
-        ensures joined { OnOk result (IsJoined self.new (S.policies sink.new) (S.profiles sink.new) (S.pairs sink.new)) }
-    {
-        let changes = self.put_parent_by::<Brand, S, T>(name, labels, sink, ticks)?;
-        Ok(changes)
-    }
-
-    fn put_parent_by<K: PairStart, S: ActiveSink, T: Ticker>(
+    /// Puts the labels that the items of a parent inherit. The type parameter names the pairs as they stand.
+    pub(crate) fn put_parent<K: PairStart, S: ActiveSink, T: Ticker>(
         &mut self,
         name: &Text,
         labels: &Labels,
@@ -178,25 +124,8 @@ impl Joined {
         Ok(changes)
     }
 
-    /// Removes a parent's labels.
-    pub fn remove_parent<S: ActiveSink, T: Ticker>(
-        &mut self,
-        name: &Text,
-        sink: &mut S,
-        ticks: &mut T,
-    ) -> Result<Seq<PairChange>, Memory>
-        requires joined { IsJoined self.old (S.policies sink.old) (S.profiles sink.old) (S.pairs sink.old) }
-        ensures index { OnOk result (self.new.index ≡ record self.old.index
-            { parents = map.remove self.old.index.parents name.now }) }
-        ensures changes { IfOk result (λ changes. IsRun changes self.old.pairs self.new.pairs) }
-        ensures active { OnOk result (self.new.active ≡ record self.old.active { matched = self.new.pairs }) }
-        ensures joined { OnOk result (IsJoined self.new (S.policies sink.new) (S.profiles sink.new) (S.pairs sink.new)) }
-    {
-        let changes = self.remove_parent_by::<Brand, S, T>(name, sink, ticks)?;
-        Ok(changes)
-    }
-
-    fn remove_parent_by<K: PairStart, S: ActiveSink, T: Ticker>(
+    /// Removes a parent's labels. The type parameter names the pairs as they stand.
+    pub(crate) fn remove_parent<K: PairStart, S: ActiveSink, T: Ticker>(
         &mut self,
         name: &Text,
         sink: &mut S,

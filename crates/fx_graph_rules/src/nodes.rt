@@ -15,6 +15,7 @@ use fx_base::{Memory, Seq, Text, Ticker};
 use fx_model::{ActiveSink, ItemKey, Policy, PolicyId, Profile};
 use fx_selector::Labels;
 use std::alloc::Global;
+use std::marker::Brand;
 
 /// Both nodes. The index counts each policy's selector once, and besides them those that are put as used: if `AreInStep` holds of
 /// the nodes, the uses and what the active rules told before a call, it holds after it. Each call answers with the changes of pairs.
@@ -186,7 +187,9 @@ impl Upper {
         ensures composed { OnOk result (IsComposed self.new.joined.index self.new.joined.active
             (S.policies sink.new) (S.profiles sink.new) (S.pairs sink.new)) }
     {
-        let changes = self.joined.put_parent(name, &profile.labels, sink, ticks)?;
+        let changes = self
+            .joined
+            .put_parent::<Brand, S, T>(name, &profile.labels, sink, ticks)?;
         self.joined.active.put_profile(name, profile, sink)?;
         Ok(changes)
     }
@@ -210,7 +213,7 @@ impl Upper {
         ensures composed { OnOk result (IsComposed self.new.joined.index self.new.joined.active
             (S.policies sink.new) (S.profiles sink.new) (S.pairs sink.new)) }
     {
-        let changes = self.joined.remove_parent(name, sink, ticks)?;
+        let changes = self.joined.remove_parent::<Brand, S, T>(name, sink, ticks)?;
         self.joined.active.remove_profile(name, sink)?;
         Ok(changes)
     }
@@ -236,7 +239,9 @@ impl Upper {
         ensures composed { OnOk result (IsComposed self.new.joined.index self.new.joined.active
             (S.policies sink.new) (S.profiles sink.new) (S.pairs sink.new)) }
     {
-        let changes = self.joined.put_item(key, labels, profiles, sink, ticks)?;
+        let changes = self
+            .joined
+            .put_item::<Brand, S, T>(key, labels, profiles, sink, ticks)?;
         self.joined.active.put_endpoint(key, profiles, sink)?;
         Ok(changes)
     }
@@ -286,7 +291,9 @@ impl Upper {
             (S.policies sink.new) (S.profiles sink.new) (S.pairs sink.new)) }
     {
         self.joined.active.remove_endpoint(key, sink)?;
-        let changes = self.joined.put_item(key, labels, profiles, sink, ticks)?;
+        let changes = self
+            .joined
+            .put_item::<Brand, S, T>(key, labels, profiles, sink, ticks)?;
         Ok(changes)
     }
 
@@ -310,7 +317,7 @@ impl Upper {
             (S.policies sink.new) (S.profiles sink.new) (S.pairs sink.new)) }
     {
         self.joined.active.remove_endpoint(key, sink)?;
-        let changes = self.joined.remove_item(key, sink, ticks)?;
+        let changes = self.joined.remove_item::<Brand, S, T>(key, sink, ticks)?;
         Ok(changes)
     }
 }
