@@ -12,7 +12,7 @@ use Rattle.fx_node_laws.specs.Changes.{Taken}
 use Rattle.fx_node_laws.specs.Waits.{Queue, known_waiting}
 use Rattle.fx_model.specs.declared.waiting.Waiting.{Waiting}
 use Rattle.fx_node_laws.proofs.OneKey.{at_each, here_inserted, there_inserted}
-use Rattle.fx_graph.specs.Taking.{AreOwnTogether, IsThereOrWaits, placed}
+use Rattle.fx_graph.specs.Taking.{AreOwnTogether, IsThereOrWaits, with_local}
 
 abbrev pub Served : Type 0
 Served = map.FinMap item_cmp.cmp-value.it (List (List ℕ))
@@ -69,6 +69,6 @@ module _ (dg : Digest) where
 
 -- ---- the rest stays
 pub others_next : (t before after : Taken) (k : ItemKey) (e : KnownEndpoint) → before ≡ record t { locals = before.locals }
-    → after ≡ placed k e before → after ≡ record t { locals = after.locals }
+    → after ≡ with_local k e before → after ≡ record t { locals = after.locals }
 others_next t before after k e was is =
-    is ∙ ap (placed k e) was ∙ ap (λ (l : Placed). record t { locals = l }) (sym (ap (λ (x : Taken). x.locals) is))
+    is ∙ ap (with_local k e) was ∙ ap (λ (l : Placed). record t { locals = l }) (sym (ap (λ (x : Taken). x.locals) is))

@@ -49,24 +49,24 @@ contributing k x t = record t { contributors = map.insert t.contributors k x }
 abbrev pub withdrawn : ItemKey → Taken → Taken
 withdrawn k t = record t { contributors = map.remove t.contributors k }
 
-abbrev pub placed : ItemKey → KnownEndpoint → Taken → Taken
-placed k e t = record t { locals = map.insert t.locals k e }
+abbrev pub with_local : ItemKey → KnownEndpoint → Taken → Taken
+with_local k e t = record t { locals = map.insert t.locals k e }
 
-abbrev pub displaced : ItemKey → Taken → Taken
-displaced k t = record t { locals = map.remove t.locals k }
+abbrev pub without_local : ItemKey → Taken → Taken
+without_local k t = record t { locals = map.remove t.locals k }
 
 -- ---- items, whole
 
 -- an endpoint is put that is in service
 abbrev pub with_served : Digest → ItemKey → Endpoint → Taken → Taken
-with_served dg k e t = labelled_served k e.labels e.profiles (placed k (known_endpoint dg e) (contributing k (item.Endpoint e) t))
+with_served dg k e t = labelled_served k e.labels e.profiles (with_local k (known_endpoint dg e) (contributing k (item.Endpoint e) t))
 
 -- any other endpoint is put
 abbrev pub with_other : ItemKey → Endpoint → Taken → Taken
-with_other k e t = labelled_other k e.labels e.profiles (displaced k (contributing k (item.Endpoint e) t))
+with_other k e t = labelled_other k e.labels e.profiles (without_local k (contributing k (item.Endpoint e) t))
 
 abbrev pub without_item : ItemKey → Taken → Taken
-without_item k t = unlabelled k (displaced k (withdrawn k t))
+without_item k t = unlabelled k (without_local k (withdrawn k t))
 
 -- all that waits is in service
 abbrev pub serving : Queue → Taken → Taken

@@ -5,7 +5,7 @@ ghost use Rattle.fx_model.specs.Views.{profile_key};
 ghost use Rattle.fx_node_laws.specs.Changes.{with_tier, without_tier};
 ghost use Rattle.fx_resolver.specs.Resolved.{HaveOwnInterfaces};
 ghost use Rattle.fx_graph.specs.InStep.{IsInStep};
-ghost use Rattle.fx_graph.specs.Taking.{contributing, withdrawn, placed, displaced, IsBeside, taken_of};
+ghost use Rattle.fx_graph.specs.Taking.{contributing, withdrawn, with_local, without_local, IsBeside, taken_of};
 
 use crate::nodes::Nodes;
 use fx_base::{Memory, Text};
@@ -43,7 +43,7 @@ impl Nodes {
     }
 
     /// Puts an endpoint of this node that is in service, whose interface no other one has.
-    pub fn place<R: DigestRule, F: DigestFunction<R> + Drop>(
+    pub fn put_local<R: DigestRule, F: DigestFunction<R> + Drop>(
         &mut self,
         key: &ItemKey,
         iface: &Text,
@@ -54,7 +54,7 @@ impl Nodes {
         requires apart { HaveOwnInterfaces
             (map.insert self.old.resolver.endpoints key.now (record { iface = iface.now; profiles = each (profile_key R.digest_of) profiles.now })) }
         requires settled { IsInStep R.digest_of None self.old }
-        ensures taken { OnOk result (taken_of self.new ≡ placed key.now
+        ensures taken { OnOk result (taken_of self.new ≡ with_local key.now
             (record { iface = iface.now; profiles = each (profile_key R.digest_of) profiles.now }) (taken_of self.old)) }
         ensures beside { OnOk result (IsBeside self.old self.new) }
         ensures settled { OnOk result (IsInStep R.digest_of None self.new) }
@@ -66,9 +66,9 @@ impl Nodes {
     }
 
     /// Removes an endpoint from those, if it is one.
-    pub fn displace<R: DigestRule>(&mut self, key: &ItemKey) -> Result<(), Memory>
+    pub fn remove_local<R: DigestRule>(&mut self, key: &ItemKey) -> Result<(), Memory>
         requires { IsInStep R.digest_of None self.old }
-        ensures taken { OnOk result (taken_of self.new ≡ displaced key.now (taken_of self.old)) }
+        ensures taken { OnOk result (taken_of self.new ≡ without_local key.now (taken_of self.old)) }
         ensures beside { OnOk result (IsBeside self.old self.new) }
         ensures settled { OnOk result (IsInStep R.digest_of None self.new) }
     {

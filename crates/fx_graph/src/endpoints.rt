@@ -34,7 +34,7 @@ impl Nodes {
     {
         let profiles = endpoint.profiles.as_slice();
         self.contribute::<R>(key, item)?;
-        self.place(key, &endpoint.iface, profiles, namer)?;
+        self.put_local(key, &endpoint.iface, profiles, namer)?;
         self.label_served(key, &endpoint.labels, profiles, namer, ticks)?;
         Ok(())
     }
@@ -57,7 +57,7 @@ impl Nodes {
     {
         let profiles = endpoint.profiles.as_slice();
         self.contribute::<R>(key, item)?;
-        self.displace::<R>(key)?;
+        self.remove_local::<R>(key)?;
         self.label_other(key, &endpoint.labels, profiles, namer, ticks)?;
         Ok(())
     }
@@ -76,7 +76,7 @@ impl Nodes {
         ensures settled { OnOk result (IsInStep R.digest_of None self.new) }
     {
         self.withdraw::<R>(key)?;
-        self.displace::<R>(key)?;
+        self.remove_local::<R>(key)?;
         self.unlabel(key, namer, ticks)?;
         Ok(())
     }

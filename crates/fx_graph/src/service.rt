@@ -58,12 +58,12 @@ impl Nodes {
         ensures settled { OnOk result (IsInStep R.digest_of None self.new) }
     {
         let waiting = mem::replace(&mut self.waiting, ItemMap::new(self.alloc));
-        self.place_each(&waiting, namer)?;
+        self.put_locals(&waiting, namer)?;
         self.serve_all::<R, F, T>(&waiting, namer, ticks)?;
         Ok(())
     }
 
-    fn place_each<R: DigestRule, F: DigestFunction<R> + Drop>(
+    fn put_locals<R: DigestRule, F: DigestFunction<R> + Drop>(
         &mut self,
         waiting: &ItemMap<Waiting>,
         namer: &Namer<R, F>,
@@ -80,7 +80,7 @@ impl Nodes {
     {
         for (key, endpoint) in waiting.iter() {
             let profiles = endpoint.profiles.as_slice();
-            self.place(key, &endpoint.iface, profiles, namer)?;
+            self.put_local(key, &endpoint.iface, profiles, namer)?;
         }
         Ok(())
     }

@@ -5,20 +5,20 @@ use Rattle.fx_graph.specs.Taking.{AreApart, AreOwnTogether, AreShort, serving, t
 use Rattle.fx_graph.proofs.Kept.{settled_waiting}
 use Rattle.fx_graph.proofs.nodes.Nodes.begin.Goals as goal
 
-pub place_each-requires-clause-short : goal.place_each-requires-clause-short
-place_each-requires-clause-short g c = subst AreShort (sym c.replace-waiting.ensures.value) c.requires.short
+pub put_locals-requires-clause-short : goal.put_locals-requires-clause-short
+put_locals-requires-clause-short g c = subst AreShort (sym c.replace-waiting.ensures.value) c.requires.short
 
-pub place_each-requires-clause-own : goal.place_each-requires-clause-own
-place_each-requires-clause-own g c = subst (λ (w : Queue). AreOwnTogether g.R.DigestRule.digest_of w (taken_of c.args.self.now)) (sym c.replace-waiting.ensures.value) c.requires.own
+pub put_locals-requires-clause-own : goal.put_locals-requires-clause-own
+put_locals-requires-clause-own g c = subst (λ (w : Queue). AreOwnTogether g.R.DigestRule.digest_of w (taken_of c.args.self.now)) (sym c.replace-waiting.ensures.value) c.requires.own
 
-pub place_each-requires-clause-settled : goal.place_each-requires-clause-settled
-place_each-requires-clause-settled g c = settled_waiting g.R.DigestRule.digest_of None c.args.self.now c.requires.settled _
+pub put_locals-requires-clause-settled : goal.put_locals-requires-clause-settled
+put_locals-requires-clause-settled g c = settled_waiting g.R.DigestRule.digest_of None c.args.self.now c.requires.settled _
 
 pub serve_all-requires-clause-apart : goal.serve_all-requires-clause-apart
 serve_all-requires-clause-apart g c =
     let t = taken_of c.args.self.now in
     subst (AreApart g.R.DigestRule.digest_of)
-    (sym (ap (λ (s : Taken). serving c.replace-waiting.result s) c.in_ok-place_each.ensures.taken
+    (sym (ap (λ (s : Taken). serving c.replace-waiting.result s) c.in_ok-put_locals.ensures.taken
     ∙ ap (λ (w : Queue). with_waiting g.R.DigestRule.digest_of w t) c.replace-waiting.ensures.value))
     c.requires.apart
 
@@ -26,5 +26,5 @@ pub returns-clause-taken : goal.returns-clause-taken
 returns-clause-taken g c =
     let t = taken_of c.args.self.now in
     c.in_ok-serve_all.ensures.taken
-    ∙ ap (λ (s : Taken). serving c.replace-waiting.result s) c.in_ok-place_each.ensures.taken
+    ∙ ap (λ (s : Taken). serving c.replace-waiting.result s) c.in_ok-put_locals.ensures.taken
     ∙ ap (λ (w : Queue). with_waiting g.R.DigestRule.digest_of w t) c.replace-waiting.ensures.value

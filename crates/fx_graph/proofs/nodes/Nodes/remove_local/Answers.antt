@@ -1,7 +1,7 @@
 use Rattle.std.proofs.Common.{None, refl}
 use Rattle.fx_graph.specs.Taking.{taken_of}
 use Rattle.fx_graph.proofs.Kept.{settled_resolver}
-use Rattle.fx_graph.proofs.nodes.Nodes.displace.Goals as goal
+use Rattle.fx_graph.proofs.nodes.Nodes.remove_local.Goals as goal
 
 pub returns-clause-taken : goal.returns-clause-taken
 returns-clause-taken g c = (λ j. record (taken_of c.args.self.now) { tiers = (c.in_ok-remove_endpoint.ensures.inputs j).tiers; locals = (c.in_ok-remove_endpoint.ensures.inputs j).endpoints })

@@ -6,7 +6,7 @@ use Rattle.fx_node_laws.specs.Waits.{known_waiting}
 use Rattle.fx_graph.specs.InStep.{IsInStep}
 use Rattle.fx_graph.specs.Taking.{IsBeside, taken_of}
 use Rattle.fx_graph.proofs.Serving.{AreThere, IsPlacing}
-use Rattle.fx_graph.proofs.nodes.Nodes.place_each.Given as goal
+use Rattle.fx_graph.proofs.nodes.Nodes.put_locals.Given as goal
 
 abbrev pub invariant-loop-key : goal.invariant-loop-key
 invariant-loop-key g l = record {
