@@ -2,8 +2,8 @@
 //!
 //! - **Inputs**: updates of the resources, one by one (`Graph::apply`).
 //! - **Tells** the next message from the view that was sent towards the view that is wanted (`Graph::peek`).
-//! - **Holds** both halves: the label index and the active rules, whose texts of selectors it keeps those of policies and of used
-//!   sets (`feed`); and the nodes below, which take what these tell (`Nodes::settle`).
+//! - **Holds** both halves: the upper two nodes, where the selectors of used sets are counted as sets come into use and go out
+//!   of it (`feed`), and the nodes below, which take what the upper two tell (`Nodes::settle`).
 //! - **Definition**: `IsGraphOf`: what the nodes hold is the resources', and the wanted view is the view of the resources.
 #![tactic(auto)]
 
