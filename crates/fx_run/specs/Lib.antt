@@ -1,0 +1,5 @@
+pub mod Run
+pub mod RunFaults
+pub mod Writing
+pub mod Ran
+pub mod Statuses
