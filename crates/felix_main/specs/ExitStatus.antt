@@ -1,7 +1,7 @@
 -- The program's exit status for each end of a run, as docs/OUTPUT.md of this repository lists them.
 use Rattle.std.specs.Prelude.{ℕ}
-use Rattle.felix_replay.specs.declared.top.Status.{Status}
-use Rattle.felix_replay.specs.declared.top.Status.TheVariants.{Done, Refused, Usage, ReadFault, WriteFault, Memory, InputTooLong}
+use Rattle.fx_run.specs.declared.status.Status.{Status}
+use Rattle.fx_run.specs.declared.status.Status.TheVariants.{Done, Refused, Usage, ReadFault, WriteFault, Memory, InputTooLong}
 
 abbrev pub exit_status : Status → ℕ
 exit_status Done = 0

@@ -8,8 +8,8 @@ use Rattle.fx_model.specs.Views.{view_of}
 use Rattle.fx_names.specs.Digests.{Digest}
 use Rattle.felix_replay.specs.Flushing.{IsUpdate, HaveNoUpdate, IsAllSent, FlushesSendAll}
 use Rattle.felix_replay.specs.Output.{State, start, answer_of, next, after_answer}
-use Rattle.felix_replay.specs.Run.{state_after}
-use Rattle.felix_replay.proofs.Runs.{state_after-append}
+use Rattle.fx_run.specs.Run.{state_after}
+use Rattle.fx_run.proofs.Runs.{state_after-append}
 
 -- a flush
 flushed : (s : State) → IsAllSent (after_answer s (Ok command.Flush))

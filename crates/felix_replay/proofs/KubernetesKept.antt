@@ -1,5 +1,5 @@
 -- A packet's line ends with Kubernetes' verdict where the resources are a cluster's.
-use Rattle.std.proofs.Common.{◌≡◌, ℕ, List, ap, ◌∙◌}
+use Rattle.std.proofs.Common.{ℕ, List, ap, ◌∙◌}
 use Rattle.std.specs.List.{concat}
 use Rattle.fx_model.specs.declared.packet.Verdict.{Verdict}
 use Rattle.fx_model.specs.PacketTexts.{packet_lines}
@@ -7,7 +7,7 @@ use Rattle.fx_model.specs.Policy.{packet_verdict}
 use Rattle.fx_names.specs.Digests.{Digest}
 use Rattle.fx_kube_laws.proofs.Kept.{kubernetes_verdict_is_kept}
 use Rattle.felix_replay.specs.Output.{start, next}
-use Rattle.felix_replay.specs.Run.{state_after}
+use Rattle.fx_run.specs.Run.{state_after}
 use Rattle.felix_replay.specs.KubernetesLines.{KeepsKubernetes}
 use Rattle.felix_replay.proofs.Policing.{keeps_policy}
 

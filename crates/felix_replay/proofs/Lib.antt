@@ -1,7 +1,4 @@
-pub mod Runs
 pub mod SendingLemmas
-pub mod Writings
-pub mod LineByLine
 pub mod ClosingLemmas
 pub mod Flushing
 pub mod KnownFlushes

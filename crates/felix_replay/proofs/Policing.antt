@@ -1,11 +1,10 @@
 -- What a packet line writes, and that after a flush it is the policy reference's answer.
-use Rattle.std.proofs.Common.{◌≡◌, ℕ, List, [], true, Option, Ok, sym, ◌∙◌, ap, subst}
+use Rattle.std.proofs.Common.{◌≡◌, ℕ, List, [], Option, Ok, sym, ◌∙◌, ap, subst}
 use Rattle.std.specs.List.{concat}
 use Rattle.fx_model.specs.declared.packet.Packet.{Packet}
 use Rattle.fx_model.specs.declared.packet.State.TheVariants.{New}
 use Rattle.fx_model.specs.declared.packet.Verdict.{Verdict}
 use Rattle.fx_model.specs.declared.chain.Reason.{Reason}
-use Rattle.fx_model.specs.declared.resources.Resources.{Resources}
 use Rattle.fx_model.specs.declared.view.View.{View}
 use Rattle.fx_model.specs.Machine.{Trace, holds, hops_and_reasons, Decides, Traces}
 use Rattle.fx_model.specs.Policy.{Outcome, packet_verdict}
@@ -23,7 +22,7 @@ use Rattle.fx_walk.specs.PacketPaths.{first_walk}
 use Rattle.fx_walk.proofs.Walks.{one-end}
 use Rattle.fx_lines.specs.declared.commands.Command.TheVariants as command
 use Rattle.fx_model.specs.PacketTexts.{packet_lines}
-use Rattle.felix_replay.specs.Run.{state_after}
+use Rattle.fx_run.specs.Run.{state_after}
 use Rattle.felix_replay.specs.PacketRuns.{packet_text}
 use Rattle.felix_replay.specs.Output.{State, start, answer_of, next, answer_text}
 use Rattle.felix_replay.specs.Policed.{TellsRun, PathsAreRuns, TellsPolicy, KeepsPolicy}

@@ -6,9 +6,9 @@ use Rattle.fx_base.specs.Streams.{SinkState, AppendsPrefix, Rose}
 use Rattle.fx_model.specs.Messages.{Change}
 use Rattle.fx_model.specs.MessageTexts.{message_line}
 use Rattle.felix_replay.specs.Output.{first_text}
-use Rattle.felix_replay.specs.declared.run_fault.RunFault.TheVariants as fault
-use Rattle.felix_replay.proofs.Writings.{Writes-none}
-use Rattle.felix_replay.specs.Writing.{HasTorn, HasWritten, Writes}
+use Rattle.fx_run.specs.declared.run_fault.RunFault.TheVariants as fault
+use Rattle.fx_run.proofs.Writings.{Writes-none}
+use Rattle.fx_run.specs.Writing.{HasTorn, HasWritten, Writes}
 
 whole-prefix : (a b : Option (List ℕ)) (bytes : List ℕ) → Appends a b bytes → AppendsPrefix a b bytes
 whole-prefix a b bytes p = (bytes, [], sym (append-nil bytes), p)

@@ -1,5 +1,5 @@
 -- The resources stay such that they can be served, after any lines.
-use Rattle.std.proofs.Common.{◌≡◌, ℕ, List, [], ◌∷◌, Option, None, Some, Result, Ok, Err, refl, sym, subst, ◌+◌}
+use Rattle.std.proofs.Common.{◌≡◌, ℕ, List, Option, None, Some, Result, Ok, Err, refl, sym, subst, ◌+◌}
 use Rattle.std.specs.Prelude.{IfOk}
 use Rattle.fx_model.specs.declared.resources.Update.{Update}
 use Rattle.fx_model.specs.Claims.{clash}
@@ -15,7 +15,8 @@ use Rattle.fx_lines.specs.Commands.{command_of}
 use Rattle.fx_lines.specs.Formed.{IsReadCommand}
 use Rattle.fx_lines.proofs.ReadForms.{command_of-read}
 use Rattle.fx_agent.proofs.Starting.{none-servable}
-use Rattle.felix_replay.specs.Run.{state_after}
+use Rattle.fx_run.specs.Run.{state_after}
+use Rattle.fx_run.proofs.Runs.{kept_after}
 use Rattle.felix_replay.specs.Output.{State, start, unless_taken, checked, accepted, answer_of, after_answer, next}
 
 start-servable : (dg : Digest) (node : List ℕ) → IsServable dg (start dg node).resources
@@ -53,10 +54,5 @@ next-servable : (s : State) → IsServable s.digest s.resources → (line : List
 next-servable s was line =
     subst (λ dg. IsServable dg (next s line).resources) (sym (answer-digest s (answer_of s line))) (answered s was (command_of line) (command_of-read line))
 
-along : (s : State) (lines : List (List ℕ)) → IsServable s.digest s.resources → IsServable (state_after next s lines).digest (state_after next s lines).resources
-unfolding state_after
-along s [] was = was
-along s (line ∷ lines) was = along (next s line) lines (next-servable s was line)
-
 pub run_servable : (dg : Digest) (node : List ℕ) (lines : List (List ℕ)) → IsServable (state_after next (start dg node) lines).digest (state_after next (start dg node) lines).resources
-run_servable dg node lines = along (start dg node) lines (start-servable dg node)
+run_servable dg node lines = kept_after next (λ s. IsServable s.digest s.resources) (λ s line was. next-servable s was line) (start dg node) lines (start-servable dg node)

@@ -1,18 +1,15 @@
 -- A soak run, line by line.
-use Rattle.std.proofs.Common.{◌≡◌, ◌+◌, ◌-◌, ◌^◌, ℕ, suc, min, List, [], ◌∷◌, ◌++◌, None, Result, Ok, Err, length, refl, sym, ◌∙◌, ap, arith}
+use Rattle.std.proofs.Common.{◌≡◌, ◌+◌, ◌-◌, ◌^◌, ℕ, suc, min, List, [], ◌∷◌, ◌++◌, Result, Ok, Err, sym, ◌∙◌, ap, arith}
 use Rattle.fx_fields.specs.declared.refusal.Refusal.{Refusal}
 use Rattle.fx_gen.specs.Generator.{line_of}
 use Rattle.fx_lines.specs.declared.commands.Command.{Command}
 use Rattle.fx_lines.specs.declared.commands.Command.TheVariants as command
-use Rattle.fx_model.specs.Messages.{flush}
-use Rattle.fx_model.specs.Views.{view_of}
 use Rattle.fx_names.specs.Digests.{Digest}
 use Rattle.felix_replay.specs.declared.tally.Tally.{Tally}
-use Rattle.felix_replay.specs.Output.{State, start, next, answer_of, message_count}
-use Rattle.felix_replay.specs.Run.{state_after}
+use Rattle.felix_replay.specs.Output.{State, start, next, answer_of}
+use Rattle.fx_run.specs.Run.{state_after}
 use Rattle.felix_replay.specs.Soak.{drawn_lines, messages_of, flushes_in, messages_in, flushes_along, messages_along, told_number, tally_of, tally_along, tally_after, one_flush_more}
-use Rattle.fx_lines.specs.Commands.{command_of}
-use Rattle.felix_replay.proofs.LineByLine.{state_more}
+use Rattle.fx_run.proofs.Runs.{state_after-push}
 
 pub drawn-more : (seed : ℕ) (node : List ℕ) (n : ℕ) → drawn_lines seed node (n + 1) ≡ drawn_lines seed node n ++ line_of seed n node ∷ []
 unfolding drawn_lines
@@ -80,7 +77,7 @@ module _ (dg : Digest) (node : List ℕ) (seed n : ℕ) where
   module _ (s : State) (line : List ℕ) (is : s ≡ behind) (same : line ≡ drawn) where
     -- one drawn line more
     pub state-drawn : (now : State) → now ≡ next s line → now ≡ state_after next (start dg node) (drawn_lines seed node (n + 1))
-    state-drawn now e = state_more dg node lines drawn line s is (ap command_of same) now e ∙ ap (λ (l : List (List ℕ)). state_after next (start dg node) l) (sym (drawn-more seed node n))
+    state-drawn now e = e ∙ ap (next s) same ∙ ap (λ (t : State). next t drawn) is ∙ sym (state_after-push next (start dg node) lines drawn) ∙ ap (λ (l : List (List ℕ)). state_after next (start dg node) l) (sym (drawn-more seed node n))
 
     pub tally-drawn : (was now : Tally) → was ≡ tally_along (start dg node) lines → now ≡ tally_after was s (answer_of s line) → now ≡ tally_along (start dg node) (drawn_lines seed node (n + 1))
     tally-drawn was now first e =

@@ -1,5 +1,5 @@
 -- An update is made, or the line is refused.
-use Rattle.std.proofs.Common.{◌≡◌, List, ℕ, [], true, Option, None, Some, refl, ap}
+use Rattle.std.proofs.Common.{◌≡◌, [], true, Option, None, Some, refl, ap}
 use Rattle.fx_names.specs.Claims.{Clash}
 use Rattle.fx_model.specs.Claims.{clash}
 use Rattle.fx_model.specs.Resources.{after}

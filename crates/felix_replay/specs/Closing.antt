@@ -1,5 +1,5 @@
 -- The views that are sent along a run, one after each single message, and what is asked of each.
-use Rattle.std.specs.Prelude.{ℕ, List, [], ◌∷◌, ◌++◌, None, Result, Ok, Err}
+use Rattle.std.specs.Prelude.{ℕ, List, [], None, Result, Ok, Err}
 use Rattle.fx_model.specs.declared.view.View.{View}
 use Rattle.fx_model.specs.Views.{view_of}
 use Rattle.fx_model.specs.ViewTables.{tables_of}
@@ -8,6 +8,7 @@ use Rattle.fx_model.specs.Messages.{flush, sent_views}
 use Rattle.fx_fields.specs.declared.refusal.Refusal.{Refusal}
 use Rattle.fx_lines.specs.declared.commands.Command.{Command}
 use Rattle.fx_lines.specs.declared.commands.Command.TheVariants as command
+use Rattle.fx_run.specs.Run.{written}
 use Rattle.felix_replay.specs.Output.{State, answer_of, next}
 
 -- only a flush sends
@@ -19,9 +20,8 @@ views_in s (Ok (command.Update u)) = []
 views_in s (Ok (command.Packet a)) = []
 views_in s (Err r) = []
 
-unfoldable pub views_along : State → List (List ℕ) → List View
-views_along s [] = []
-views_along s (line ∷ lines) = views_in s (answer_of s line) ++ views_along (next s line) lines
+abbrev pub views_along : State → List (List ℕ) → List View
+views_along s lines = written next (λ t line. views_in t (answer_of t line)) s lines
 
 -- nothing that is named is missing, in the view and in its tables
 pub record IsWhole (v : View) : Type 0 where

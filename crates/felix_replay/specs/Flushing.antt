@@ -6,7 +6,7 @@ use Rattle.fx_lines.specs.declared.commands.Command.TheVariants as command
 use Rattle.fx_model.specs.Views.{view_of}
 use Rattle.fx_names.specs.Digests.{Digest}
 use Rattle.felix_replay.specs.Output.{State, start, next, answer_of}
-use Rattle.felix_replay.specs.Run.{state_after}
+use Rattle.fx_run.specs.Run.{state_after}
 
 -- an accepted update
 abbrev pub IsUpdate : Result Command Refusal → Type 0

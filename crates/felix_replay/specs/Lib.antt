@@ -1,10 +1,8 @@
 pub mod Words
-pub mod Run
 pub mod PacketRuns
 pub mod Output
-pub mod RunFaults
-pub mod Writing
 pub mod Standing
+pub mod Stepping
 pub mod Top
 pub mod Closing
 pub mod Flushing

@@ -16,13 +16,12 @@ use Rattle.fx_fields.specs.declared.refusal.Refusal.{Refusal}
 use Rattle.fx_fields.specs.declared.refusal.Refusal.TheVariants.{Taken}
 use Rattle.fx_lines.specs.declared.commands.Command.{Command}
 use Rattle.fx_lines.specs.declared.commands.Command.TheVariants as command
-use Rattle.fx_lines.specs.Lines.{lines_of}
 use Rattle.fx_lines.specs.Commands.{command_of}
 use Rattle.fx_print.specs.Texts.{refusal_line, flushed_line}
 use Rattle.fx_model.specs.MessageTexts.{message_line}
 use Rattle.fx_model.specs.TableTexts.{table_lines}
 use Rattle.felix_replay.specs.PacketRuns.{packet_text}
-use Rattle.felix_replay.specs.Run.{state_after, written}
+use Rattle.fx_run.specs.Ran.{output_of, end_of}
 
 -- what stands between two lines: the digest by which names are made, which stays, the resources, the view that was sent, how many
 -- lines there were and whether one was refused
@@ -127,7 +126,10 @@ text s line = answer_text s (answer_of s line)
 -- ---- the whole output
 
 abbrev pub output : Digest → List ℕ → List ℕ → List ℕ
-output dg node bytes = written next text (start dg node) (lines_of bytes)
+output dg node bytes = output_of next text (start dg node) bytes
+
+abbrev pub was_refused : State → Bool
+was_refused s = s.refused
 
 abbrev pub is_refused : Digest → List ℕ → List ℕ → Bool
-is_refused dg node bytes = (state_after next (start dg node) (lines_of bytes)).refused
+is_refused dg node bytes = was_refused (end_of next (start dg node) bytes)

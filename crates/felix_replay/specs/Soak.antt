@@ -10,7 +10,7 @@ use Rattle.fx_gen.specs.Generator.{line_of}
 use Rattle.fx_print.specs.Texts.{soak_line}
 use Rattle.fx_words.specs.declared.words.Soak.{Soak}
 use Rattle.felix_replay.specs.declared.tally.Tally.{Tally}
-use Rattle.felix_replay.specs.Run.{state_after}
+use Rattle.fx_run.specs.Run.{state_after}
 use Rattle.felix_replay.specs.Output.{State, start, next, answer_of, message_count}
 
 -- the lines below an index

@@ -9,14 +9,14 @@ ghost use Rattle.fx_graph.specs.Graphs.{sides_of};
 ghost use Rattle.fx_lines.specs.Commands.{command_of};
 ghost use Rattle.fx_lines.specs.Formed.{IsReadCommand};
 ghost use Rattle.fx_print.specs.Texts.{refusal_line, flushed_line};
-ghost use Rattle.felix_replay.specs.Output.{start, next, text, checked, update_answer, settled, settled_text, flush_text, answer_of, message_count};
+ghost use Rattle.felix_replay.specs.Output.{State, was_refused, start, next, text, checked, update_answer, settled, settled_text, flush_text, answer_of, message_count};
 ghost use Rattle.felix_replay.specs.Soak.{no_flushes, one_flush_more, tally_after};
 ghost use Rattle.felix_replay.specs.PacketRuns.{packet_text};
 ghost use Rattle.felix_replay.specs.Standing.{state_of, IsReady};
-ghost use Rattle.felix_replay.specs.Writing.{Writes};
+ghost use Rattle.felix_replay.specs.Stepping.{next-lines, next-clip};
+ghost use Rattle.fx_run.specs.Writing.{Writes};
 
-use crate::run_fault::RunFault;
-use crate::sending::{put_all, put_one, send};
+use crate::sending::send;
 use crate::tally::Tally;
 use fx_agent::{Agent, UpdateFault};
 use fx_base::{CountSink, Counter, Memory, Sink, Text};
@@ -25,6 +25,7 @@ use fx_lines::{Command, read_command};
 use fx_model::{Packet, Update};
 use fx_names::{DigestFunction, DigestRule, Namer};
 use fx_print::{flushed_text, packet_texts, refusal_text, tables_text};
+use fx_run::{Machine, RunFault, put_all, put_one};
 use fx_tables::Tables;
 use fx_walk::trace;
 use std::alloc::Global;
@@ -57,23 +58,6 @@ impl<R: DigestRule, F: DigestFunction<R> + Drop> Replay<R, F> {
             tally: Tally::new(),
             ticks: Counter::new(),
         })
-    }
-
-    /// Answers the next line.
-    pub fn answer<K: Sink>(&mut self, line: &[u8], sink: &mut K) -> Result<(), RunFault>
-        requires ready { IsReady R.digest_of self.old.agent.store self.old.agent.graph.state self.old.agent.driver self.old.agent.failed }
-        requires few { self.old.lines < 2 ^ 64 - 1 }
-        ensures ready { OnOk result (IsReady R.digest_of self.new.agent.store self.new.agent.graph.state self.new.agent.driver self.new.agent.failed) }
-        ensures state { OnOk result (state_of R.digest_of self.new.agent.store self.new.agent.graph.state self.new.lines self.new.refused
-            ≡ next (state_of R.digest_of self.old.agent.store self.old.agent.graph.state self.old.lines self.old.refused) line.now) }
-        ensures tally { OnOk result (self.new.tally ≡ tally_after self.old.tally (state_of R.digest_of self.old.agent.store self.old.agent.graph.state self.old.lines self.old.refused)
-            (answer_of (state_of R.digest_of self.old.agent.store self.old.agent.graph.state self.old.lines self.old.refused) line.now)) }
-        ensures writes { Writes (K.state sink.old) (K.state sink.new)
-            (text (state_of R.digest_of self.old.agent.store self.old.agent.graph.state self.old.lines self.old.refused) line.now) result }
-    {
-        let said = command_in(self.alloc, line)?;
-        self.lines += 1;
-        self.settle(said, sink)
     }
 
     /// Answers the next line, and writes nothing.
@@ -230,6 +214,46 @@ impl<R: DigestRule, F: DigestFunction<R> + Drop> Replay<R, F> {
             Err(fault) => Err(fault.want_of_memory()),
         }
     }
+}
+
+impl<R: DigestRule, F: DigestFunction<R> + Drop> Machine for Replay<R, F> {
+    ghost State = { State };
+
+    ghost state = { λ r. state_of R.digest_of r.agent.store r.agent.graph.state r.lines r.refused };
+
+    ghost Ready = { λ r. IsReady R.digest_of r.agent.store r.agent.graph.state r.agent.driver r.agent.failed };
+
+    ghost next = { next };
+
+    ghost text = { text };
+
+    ghost count = { λ s. s.lines };
+
+    ghost refused = { was_refused };
+
+    fn is_refused(&self) -> bool {
+        self.refused
+    }
+
+    fn answer<K: Sink>(&mut self, line: &[u8], sink: &mut K) -> Result<(), RunFault>
+        requires ready { IsReady R.digest_of self.old.agent.store self.old.agent.graph.state self.old.agent.driver self.old.agent.failed }
+        requires few { self.old.lines < 2 ^ 64 - 1 }
+        ensures ready { OnOk result (IsReady R.digest_of self.new.agent.store self.new.agent.graph.state self.new.agent.driver self.new.agent.failed) }
+        ensures state { OnOk result (state_of R.digest_of self.new.agent.store self.new.agent.graph.state self.new.lines self.new.refused
+            ≡ next (state_of R.digest_of self.old.agent.store self.old.agent.graph.state self.old.lines self.old.refused) line.now) }
+        ensures tally { OnOk result (self.new.tally ≡ tally_after self.old.tally (state_of R.digest_of self.old.agent.store self.old.agent.graph.state self.old.lines self.old.refused)
+            (answer_of (state_of R.digest_of self.old.agent.store self.old.agent.graph.state self.old.lines self.old.refused) line.now)) }
+        ensures writes { Writes (K.state sink.old) (K.state sink.new)
+            (text (state_of R.digest_of self.old.agent.store self.old.agent.graph.state self.old.lines self.old.refused) line.now) result }
+    {
+        let said = command_in(self.alloc, line)?;
+        self.lines += 1;
+        self.settle(said, sink)
+    }
+
+    ghost clipped = { next-clip };
+
+    ghost counts = { next-lines };
 }
 
 fn put_count<K: Sink>(alloc: Global, count: u64, sink: &mut K) -> Result<(), RunFault>

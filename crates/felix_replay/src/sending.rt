@@ -1,37 +1,18 @@
-//! Writes lines, and the messages from one view to another.
+//! Writes the messages from one view to another.
 ghost use Rattle.std.specs.Prelude.{◌≡◌, OnOk, IfOk, is_some};
-ghost use Rattle.std.specs.List.{concat};
 ghost use Rattle.fx_model.specs.Messages.{next_message, step};
 ghost use Rattle.fx_graph.specs.Graphs.{sides_of};
 ghost use Rattle.felix_replay.specs.Output.{messages_text, message_count, first_text};
 ghost use Rattle.felix_replay.specs.Standing.{IsReady};
-ghost use Rattle.felix_replay.specs.Writing.{Writes, HasWritten, HasTorn};
+ghost use Rattle.fx_run.specs.Writing.{Writes, HasWritten, HasTorn};
 
-use crate::run_fault::RunFault;
 use fx_agent::{Agent, PullFault, Pulled};
-use fx_base::{Sink, Text};
+use fx_base::Sink;
 use fx_model::{Message, MessageOut, OutFault};
 use fx_names::{DigestFunction, DigestRule};
 use fx_print::message_text;
+use fx_run::RunFault;
 use std::alloc::Global;
-
-/// Writes a line by one put.
-pub fn put_one<K: Sink>(line: &Text, sink: &mut K) -> Result<(), RunFault>
-    ensures writes { Writes (K.state sink.old) (K.state sink.new) line.now result }
-{
-    sink.put(line.bytes())?;
-    Ok(())
-}
-
-/// Writes each line by one put.
-pub fn put_all<K: Sink>(lines: &[Text], sink: &mut K) -> Result<(), RunFault>
-    ensures writes { Writes (K.state sink.old) (K.state sink.new) (concat lines.now) result }
-{
-    for line in lines {
-        put_one(line, sink)?;
-    }
-    Ok(())
-}
 
 /// Writes the line of each message to a sink.
 #[derive(Drop)]

@@ -5,10 +5,11 @@ ghost use Rattle.fx_base.specs.Streams.{AppendsPrefix};
 ghost use Rattle.felix_replay.specs.Words.{node_name, AsksReplay, AsksSoak};
 ghost use Rattle.fx_words.specs.Words.{asked_of};
 ghost use Rattle.fx_print.specs.Texts.{usage_line};
-ghost use Rattle.felix_replay.specs.Top.{Ran, RanBy, RanFor, Stopped, StoppedBy, StoppedFor, EndedEarly, EndsSoak, HasRun, HasRunOrMemory, IsAsDefined, SourceFailed, SinkFailed};
+ghost use Rattle.felix_replay.specs.Top.{Ran, RanBy, RanFor, Stopped, StoppedBy, StoppedFor, EndsSoak, IsAsDefined};
+ghost use Rattle.fx_run.specs.Ran.{SourceFailed, SinkFailed};
+ghost use Rattle.fx_run.specs.Statuses.{EndedEarly, HasRun, HasRunOrMemory};
 ghost use Rattle.std.specs.List.{AllByRecursion};
 ghost use Rattle.fx_lines.specs.Reading.{HasFailedRead, IsTooLong};
-ghost use Rattle.felix_replay.specs.Standing.{IsReady, state_of};
 ghost use Rattle.felix_replay.specs.Output.{start};
 ghost use Rattle.felix_replay.specs.Closing.{IsWhole, views_along};
 ghost use Rattle.felix_replay.specs.Flushing.{FlushesSendAll};
@@ -16,24 +17,12 @@ ghost use Rattle.felix_replay.specs.Policed.{KeepsPolicy, PathsAreRuns};
 ghost use Rattle.felix_replay.specs.KubernetesLines.{KeepsKubernetes};
 
 use crate::replay::Replay;
-use crate::run_fault::RunFault;
 use crate::soaking::soak;
 use fx_base::{Memory, Sink, Source, Text};
-use fx_lines::LineReader;
 use fx_names::{DigestFunction, DigestRule, Namer};
+use fx_run::{RunFault, Status, answer_lines, tell_usage};
 use fx_words::{Asked, read_words};
 use std::alloc::Global;
-
-#[derive(Clone, Copy, Debug, PartialEq, Eq)]
-pub enum Status {
-    Done,
-    Refused,
-    Usage,
-    ReadFault,
-    WriteFault,
-    Memory,
-    InputTooLong,
-}
 
 /// Reads the source to its end, and writes what the lines say to the sink.
 ///
@@ -120,7 +109,10 @@ pub fn felix_replay<S: Source, K: Sink, R: DigestRule, F: DigestFunction<R> + Dr
 {
     let asked = match read_words(alloc, words) {
         Ok(Some(asked)) => asked,
-        Ok(None) => return tell_usage(sink),
+        Ok(None) => return tell_usage(
+            b"usage: felix-replay --node NAME [--soak SEED --count N]\n",
+            sink,
+        ),
         Err(Memory) => return Status::Memory,
     };
     match run(alloc, &asked, source, sink, namer) {
@@ -130,18 +122,6 @@ pub fn felix_replay<S: Source, K: Sink, R: DigestRule, F: DigestFunction<R> + Dr
         Err(RunFault::WriteFault) => Status::WriteFault,
         Err(RunFault::Memory) => Status::Memory,
         Err(RunFault::InputTooLong) => Status::InputTooLong,
-    }
-}
-
-fn tell_usage<K: Sink>(sink: &mut K) -> Status
-    ensures output { result ≡ Status.Usage → Appends (K.state sink.old).held (K.state sink.new).held usage_line }
-    ensures only { (result ≡ Status.Usage) ⊎ (result ≡ Status.WriteFault) }
-    ensures prefix { AppendsPrefix (K.state sink.old).held (K.state sink.new).held usage_line }
-    ensures cause { result ≡ Status.WriteFault → SinkFailed (K.state sink.old) (K.state sink.new) }
-{
-    match sink.put(b"usage: felix-replay --node NAME [--soak SEED --count N]\n") {
-        Ok(()) => Status::Usage,
-        Err(_) => Status::WriteFault,
     }
 }
 
@@ -200,34 +180,4 @@ fn replay<S: Source, K: Sink, R: DigestRule, F: DigestFunction<R> + Drop>(
     let ended = answer_lines(alloc, &mut replay, source, sink);
     drop(replay);
     ended
-}
-
-// Answers each line, and tells whether one was refused.
-fn answer_lines<S: Source, K: Sink, R: DigestRule, F: DigestFunction<R> + Drop>(
-    alloc: Global,
-    replay: &mut Replay<R, F>,
-    source: &mut S,
-    sink: &mut K,
-) -> Result<bool, RunFault>
-    requires ready { IsReady R.digest_of replay.old.agent.store replay.old.agent.graph.state replay.old.agent.driver replay.old.agent.failed }
-    requires state { state_of R.digest_of replay.old.agent.store replay.old.agent.graph.state replay.old.lines replay.old.refused
-        ≡ start R.digest_of replay.old.agent.store.resources.node }
-    requires fresh { (S.state source.old).given ≡ 0 }
-    requires unended { (S.state source.old).ended ≡ false }
-    ensures ran { IfOk result (Ran R.digest_of replay.old.agent.store.resources.node (S.state source.old) (S.state source.new)
-        (K.state sink.old) (K.state sink.new)) }
-    ensures stopped { OnErr result (Stopped R.digest_of replay.old.agent.store.resources.node (S.state source.old) (S.state source.new)
-        (K.state sink.old) (K.state sink.new)) }
-    ensures read_fault { IsErrOf result RunFault.ReadFault → HasFailedRead (S.state source.old) (S.state source.new) }
-    ensures write_fault { IsErrOf result RunFault.WriteFault → SinkFailed (K.state sink.old) (K.state sink.new) }
-    ensures write_short { IsErrOf result RunFault.WriteFault → (S.state source.new).given < 2 ^ 32 }
-    ensures too_long { IsErrOf result RunFault.InputTooLong → IsTooLong (S.state source.new) }
-    ensures short { OnOk result ((S.state source.new).given < 2 ^ 32) }
-    ensures limited { (S.state source.new).given ≤ 2 ^ 32 }
-{
-    let mut reader = LineReader::new(alloc);
-    while reader.advance(source)? {
-        replay.answer(reader.line(), sink)?;
-    }
-    Ok(replay.refused)
 }

@@ -5,7 +5,7 @@ use Rattle.fx_model.specs.declared.view.View.{View}
 use Rattle.fx_model.specs.Messages.{flush, step, next_message, differences}
 use Rattle.fx_sequencer.specs.declared.sides.Sides.{Sides}
 use Rattle.felix_replay.specs.Output.{messages_text, first_text}
-use Rattle.felix_replay.proofs.Writings.{Writes-stopped}
+use Rattle.fx_run.proofs.Writings.{Writes-stopped}
 use Rattle.felix_replay.proofs.SendingLemmas.{messages_step, messages_end, reached, none_left, one_fewer, nearer, stays, nothing_told}
 use Rattle.felix_replay.proofs.sending.send.Goals as goal
 

@@ -1,4 +1,4 @@
-use Rattle.std.proofs.Common.{◌≡◌, ◌-◌, ◌^◌, ap, ◌∙◌, min, ℕ}
+use Rattle.std.proofs.Common.{◌-◌, ◌^◌, ap, ◌∙◌, min, ℕ}
 use Rattle.fx_print.specs.Texts.{soak_line}
 use Rattle.felix_replay.specs.declared.tally.Tally.{Tally}
 use Rattle.felix_replay.specs.Output.{State, start}

@@ -1,4 +1,4 @@
-use Rattle.felix_replay.proofs.Writings.{only_memory}
+use Rattle.fx_run.proofs.Writings.{only_memory}
 use Rattle.felix_replay.proofs.replay.Replay.answer_quietly.Goals as goal
 
 pub want_of_memory-requires : goal.want_of_memory-requires

@@ -11,9 +11,9 @@ use Rattle.fx_store.specs.declared.store.Store.{Store}
 use Rattle.felix_replay.specs.Standing.{state_of}
 use Rattle.felix_replay.specs.Output.{messages_text, message_count, flush_text}
 use Rattle.felix_replay.specs.Soak.{one_flush_more}
-use Rattle.felix_replay.specs.Writing.{Writes}
+use Rattle.fx_run.specs.Writing.{Writes}
 use Rattle.felix_replay.proofs.SendingLemmas.{on_ok_always}
-use Rattle.felix_replay.proofs.Writings.{Writes-prefix, Writes-then}
+use Rattle.fx_run.proofs.Writings.{Writes-prefix, Writes-then}
 use Rattle.felix_replay.proofs.replay.Replay.flush.Goals as goal
 
 pub returns-in_err-count-clause-writes : goal.returns-in_err-count-clause-writes

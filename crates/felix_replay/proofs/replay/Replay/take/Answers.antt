@@ -1,12 +1,12 @@
 use Rattle.std.proofs.Common.{◌≡◌, List, ℕ, true, false, refl, sym, ◌∙◌, ap, subst}
 use Rattle.felix_replay.specs.Output.{State, settled, update_answer}
 use Rattle.felix_replay.specs.Standing.{state_of, IsReady}
-use Rattle.felix_replay.specs.Writing.{Writes}
+use Rattle.fx_run.specs.Writing.{Writes}
 use Rattle.felix_replay.proofs.Pulling.{no_resync}
 use Rattle.felix_replay.proofs.Ready.{agent-ready, ready-agent}
 use Rattle.felix_replay.proofs.SendingLemmas.{on_ok_subst}
 use Rattle.felix_replay.proofs.Taking.{free-settled, free-text, taken-settled, taken-text}
-use Rattle.felix_replay.proofs.Writings.{Writes-none, Writes-nothing}
+use Rattle.fx_run.proofs.Writings.{Writes-none, Writes-nothing}
 use Rattle.felix_replay.proofs.replay.Replay.take.Goals as goal
 
 pub update-requires-clause-agent : goal.update-requires-clause-agent
