@@ -5,8 +5,8 @@
 
 use felix_replay::{Status, felix_replay};
 use fx_base::{MemSink, Memory, SureSource, Text};
-use fx_names::{DigestFunction, Namer, Sha256Rule};
-use sha2::{Digest, Sha256};
+use fx_names::Namer;
+use fx_stdio::Sha256Digest;
 use std::alloc::Global;
 use std::rt::Files;
 use std::{fs, io};
@@ -30,16 +30,6 @@ const EXAMPLES: [(&str, &str); 12] = [
 ];
 
 const MOST_WRITTEN: u32 = 1_048_576;
-
-/// Answers by SHA-256.
-#[derive(Clone, Copy, Debug)]
-struct Sha256Digest;
-
-impl DigestFunction<Sha256Rule> for Sha256Digest {
-    fn digest(&self, text: &[u8]) -> [u8; 32] {
-        Sha256::digest(text)
-    }
-}
 
 fn main(rt: HostRuntime) -> io::Result<()> {
     for (name, words) in EXAMPLES {

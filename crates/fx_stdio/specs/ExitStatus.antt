@@ -1,4 +1,4 @@
--- The program's exit status for each end of a run, as docs/OUTPUT.md of this repository lists them.
+-- A program's exit status for each end of a run, as docs/OUTPUT.md of this repository lists them.
 use Rattle.std.specs.Prelude.{ℕ}
 use Rattle.fx_run.specs.declared.status.Status.{Status}
 use Rattle.fx_run.specs.declared.status.Status.TheVariants.{Done, Refused, Usage, ReadFault, WriteFault, Memory, InputTooLong}

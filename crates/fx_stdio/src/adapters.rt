@@ -2,7 +2,7 @@
 ghost use Rattle.std.specs.Prelude.{◌≡◌, ◌<◌, ◌+◌, ◌^◌, ℕ, List, length, take, Option, None, false, IfOk, OnOk, OnErr};
 ghost use Rattle.std.specs.Io.KnownBytes.{Keeps, Consumes, Appends};
 ghost use Rattle.fx_base.specs.Streams.{CountsFaults, HasCause, ReadsSome, ReadsNone, AppendsPrefix};
-ghost use Rattle.felix_main.specs.Silent.{silent_source};
+ghost use Rattle.fx_stdio.specs.Silent.{silent_source};
 ghost use Rattle.fx_base.proofs.Compose.{Appends-none, Appends-more, AppendsPrefix-none, AppendsPrefix-all, AppendsPrefix-after};
 
 use fx_base::{Failed, Sink, Source};
@@ -10,19 +10,19 @@ use std::io::{Read, Write};
 
 /// Each call makes one read of the reader. An interrupted read is a failure like any other.
 #[derive(Drop)]
-pub struct ReadSource<R: Read + Drop> {
+pub struct StdSource<R: Read + Drop> {
     reader: R,
     given: u64,
     ended: bool,
     faults: u64,
 }
 
-impl<R: Read + Drop> ReadSource<R> {
-    pub fn new(reader: R) -> ReadSource<R>
+impl<R: Read + Drop> StdSource<R> {
+    pub fn new(reader: R) -> StdSource<R>
         ensures reader { result.reader ≡ reader }
         ensures fresh { (result.given ≡ 0) × (result.ended ≡ false) × (result.faults ≡ 0) }
     {
-        ReadSource {
+        StdSource {
             reader,
             given: 0,
             ended: false,
@@ -31,7 +31,7 @@ impl<R: Read + Drop> ReadSource<R> {
     }
 }
 
-impl<R: Read + Drop> Source for ReadSource<R> {
+impl<R: Read + Drop> Source for StdSource<R> {
     ghost state = { λ s. silent_source s.given s.ended s.faults };
 
     fn read(&mut self, buf: &mut [u8]) -> Result<usize, Failed>
@@ -71,21 +71,21 @@ impl<R: Read + Drop> Source for ReadSource<R> {
 
 /// Each put writes all of its bytes and then flushes the writer.
 #[derive(Drop)]
-pub struct WriteSink<W: Write + Drop> {
+pub struct StdSink<W: Write + Drop> {
     writer: W,
     faults: u64,
 }
 
-impl<W: Write + Drop> WriteSink<W> {
-    pub fn new(writer: W) -> WriteSink<W>
+impl<W: Write + Drop> StdSink<W> {
+    pub fn new(writer: W) -> StdSink<W>
         ensures writer { result.writer ≡ writer }
         ensures fresh { result.faults ≡ 0 }
     {
-        WriteSink { writer, faults: 0 }
+        StdSink { writer, faults: 0 }
     }
 }
 
-impl<W: Write + Drop> Sink for WriteSink<W> {
+impl<W: Write + Drop> Sink for StdSink<W> {
     ghost state = { λ s. record { held = None; faults = s.faults } };
 
     fn put(&mut self, bytes: &[u8]) -> Result<(), Failed>

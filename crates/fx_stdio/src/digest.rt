@@ -1,4 +1,4 @@
-//! The digest by which the shipped program makes names.
+//! The digest by which the shipped programs make names.
 use fx_names::{DigestFunction, Sha256Rule};
 use sha2::{Digest, Sha256};
 

@@ -1,7 +1,7 @@
 use Rattle.std.proofs.Common.{◌++◌, ◌∙◌, ℕ, List, take, drop, ap, sym, append_assoc, arith}
 use Rattle.std.proofs.lemmas.List.{take-append-drop, take_all, length-drop}
 use Rattle.fx_base.proofs.Compose.{Appends-more}
-use Rattle.felix_main.proofs.adapters.write_whole.Goals as goal
+use Rattle.fx_stdio.proofs.adapters.write_whole.Goals as goal
 
 pub loop-rest-preserved : goal.loop-rest-preserved
 loop-rest-preserved g c =
