@@ -1,14 +1,10 @@
-//! The tests of `fx_base` and `fx_names`. They stand beside these crates, as a crate's own tests prove all its functions again.
+//! The tests of `fx_base`: texts, lists, maps and sinks, and the order of names that the kernel knows.
 #![tactic(auto)]
 
 #[cfg(test)]
 mod kernel_names;
 #[cfg(test)]
 mod memory;
-#[cfg(test)]
-mod names;
-#[cfg(test)]
-mod registry;
 #[cfg(test)]
 mod sinks;
 #[cfg(test)]

@@ -1,0 +1,5 @@
+//! The tests of `fx_sequencer`: in which order messages come.
+#![tactic(auto)]
+
+#[cfg(test)]
+mod tests;
