@@ -105,12 +105,13 @@ impl ActiveSink for RecordActive {
     }
 }
 
-/// A view but for its sets.
+/// A view but for its sets, and how often an endpoint was put.
 #[derive(Drop)]
 pub struct RecordView {
     pub policies: NameMap<ViewPolicy>,
     pub profiles: NameMap<ViewProfile>,
     pub endpoints: TextMap<ViewEndpoint>,
+    pub puts: u64,
 }
 
 impl RecordView {
@@ -123,6 +124,7 @@ impl RecordView {
             policies: NameMap::new(alloc),
             profiles: NameMap::new(alloc),
             endpoints: TextMap::new(alloc),
+            puts: 0,
         }
     }
 }
@@ -157,6 +159,7 @@ impl ViewSink for RecordView {
     }
 
     fn endpoint_put(&mut self, iface: &Text, endpoint: ViewEndpoint) -> Result<(), Memory> {
+        self.puts = self.puts.saturating_add(1);
         self.endpoints.insert(iface.clone()?, endpoint)?;
         Ok(())
     }
@@ -167,11 +170,12 @@ impl ViewSink for RecordView {
     }
 }
 
-/// Used sets, beside a view.
+/// Used sets, beside a view, and how often one came or went.
 #[derive(Drop)]
 pub struct RecordUses {
     pub uses: SetMap<SetUse>,
     pub view: RecordView,
+    pub told: u64,
 }
 
 impl RecordUses {
@@ -184,6 +188,7 @@ impl RecordUses {
         RecordUses {
             uses: SetMap::new(alloc),
             view: RecordView::new(alloc),
+            told: 0,
         }
     }
 }
@@ -234,11 +239,13 @@ impl UseSink for RecordUses {
     ghost kept = { λ a b h. h };
 
     fn use_on(&mut self, name: SetName, set: &SetUse) -> Result<(), Memory> {
+        self.told = self.told.saturating_add(1);
         self.uses.insert(&name, set.clone()?)?;
         Ok(())
     }
 
     fn use_off(&mut self, name: SetName) -> Result<(), Memory> {
+        self.told = self.told.saturating_add(1);
         self.uses.remove(&name);
         Ok(())
     }

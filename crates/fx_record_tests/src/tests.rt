@@ -125,6 +125,7 @@ fn endpoints_of_a_view_are_recorded(rt: HostRuntime) -> Result<(), Fail> {
     assert!(rt; sink.endpoints.contains_key(&iface));
     sink.endpoint_gone(&iface)?;
     assert!(rt; !sink.endpoints.contains_key(&iface));
+    assert_eq!(rt; sink.puts, 1);
     Ok(())
 }
 
@@ -209,6 +210,7 @@ fn use_and_drop(
     assert!(rt; sink.uses.contains_key(&name));
     sink.use_off(name)?;
     assert!(rt; !sink.uses.contains_key(&name));
+    assert_eq!(rt; sink.told, 2);
     Ok(())
 }
 

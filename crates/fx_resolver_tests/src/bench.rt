@@ -1,62 +1,14 @@
-//! A node with a sink and one endpoint, on which steps are tried.
+//! A node with a sink and one endpoint, on which calls are tried.
+ghost use Rattle.std.specs.Prelude.{◌≡◌, IfOk, OnOk, false, true};
+ghost use Rattle.fx_base.specs.Set as set;
+ghost use Rattle.fx_resolver_tests.specs.Benches.{IsBench};
+
 use fx_base::{Memory, NameKey, Seq, Text};
-use fx_model::{
-    ItemKey, Policy, PolicyId, PolicyPairSet, ViewEndpoint, ViewPolicy, ViewProfile, ViewSink,
-    ViewTier,
-};
+use fx_model::{ItemKey, Policy, PolicyId, PolicyPairSet, ViewEndpoint, ViewTier};
 use fx_record::RecordView;
 use fx_resolver::Resolver;
 use fx_selector::Selector;
 use std::alloc::Global;
-use std::marker::Model;
-
-/// Records a view, and counts how often an endpoint is put.
-#[derive(Drop)]
-pub struct CountView {
-    view: RecordView,
-    puts: u64,
-}
-
-impl ViewSink for CountView {
-    ghost policies = { λ a. a.view.policies };
-
-    ghost profiles = { λ a. a.view.profiles };
-
-    ghost endpoints = { λ a. a.view.endpoints };
-
-    ghost is_kept = { λ a b. Unit {0} };
-
-    fn policy_put(&mut self, key: NameKey, policy: ViewPolicy) -> Result<(), Memory> {
-        self.view.policy_put(key, policy)?;
-        Ok(())
-    }
-
-    fn policy_gone(&mut self, key: NameKey) -> Result<(), Memory> {
-        self.view.policy_gone(key)?;
-        Ok(())
-    }
-
-    fn profile_put(&mut self, key: NameKey, profile: ViewProfile) -> Result<(), Memory> {
-        self.view.profile_put(key, profile)?;
-        Ok(())
-    }
-
-    fn profile_gone(&mut self, key: NameKey) -> Result<(), Memory> {
-        self.view.profile_gone(key)?;
-        Ok(())
-    }
-
-    fn endpoint_put(&mut self, iface: &Text, endpoint: ViewEndpoint) -> Result<(), Memory> {
-        self.puts = self.puts.saturating_add(1);
-        self.view.endpoint_put(iface, endpoint)?;
-        Ok(())
-    }
-
-    fn endpoint_gone(&mut self, iface: &Text) -> Result<(), Memory> {
-        self.view.endpoint_gone(iface)?;
-        Ok(())
-    }
-}
 
 /// A call of the node. The numbers are those of the policies `gnp/a`, `np/a-b/c` and `np/a/z`, which are their keys too.
 #[derive(Drop)]
@@ -76,32 +28,20 @@ pub enum Step {
     NoEndpoint,
 }
 
+/// The node with its sink, the pairs that it was told, and the item that alone is an endpoint.
 #[derive(Drop)]
 pub struct Bench {
     alloc: Global,
     item: ItemKey,
     node: Resolver,
     pairs: PolicyPairSet,
-    sink: CountView,
-}
-
-impl Model for Bench {
-    ghost use Rattle.std.specs.Prelude.{◌≡◌, ℕ, Some};
-    ghost use Rattle.std.specs.FinMap as map;
-    ghost use Rattle.fx_model.specs.declared.ids.ItemKey.{ItemKey};
-    ghost use Rattle.fx_resolver.specs.declared.known.KnownEndpoint.{KnownEndpoint};
-    ghost use Rattle.fx_resolver.specs.Resolved.{IsResolved};
-
-    ghost Value = { ℕ };
-
-    ghost view = { λ a. a.sink.puts };
-
-    ghost invariant = { λ a. IsResolved a.node a.sink.view.endpoints × (a.node.pairs ≡ a.pairs)
-        × ((i : ItemKey) (e : KnownEndpoint) → map.get a.node.endpoints i ≡ Some e → i ≡ a.item) };
+    sink: RecordView,
 }
 
 impl Bench {
-    pub fn new(alloc: Global) -> Result<Bench, Memory> {
+    pub fn new(alloc: Global) -> Result<Bench, Memory>
+        ensures { IfOk result (λ b. IsBench b.node b.sink.endpoints b.pairs b.item) }
+    {
         let ns = Text::new(alloc, b"shop")?;
         let name = Text::new(alloc, b"web")?;
         Ok(Bench {
@@ -109,10 +49,7 @@ impl Bench {
             item: ItemKey::Endpoint { ns, name },
             node: Resolver::new(alloc),
             pairs: PolicyPairSet::new(alloc),
-            sink: CountView {
-                view: RecordView::new(alloc),
-                puts: 0,
-            },
+            sink: RecordView::new(alloc),
         })
     }
 
@@ -124,198 +61,127 @@ impl Bench {
     /// Whether the sink has this: for each endpoint its interface, and the tiers for packets to it and from it with their keys.
     pub fn shows(&self, text: &str) -> Result<bool, Memory> {
         let mut shown = Vec::new(self.alloc);
-        for (iface, endpoint) in self.sink.view.endpoints.iter() {
+        for (iface, endpoint) in self.sink.endpoints.iter() {
             push_row(iface, endpoint, &mut shown)?;
         }
         Ok(shown.as_slice() == text.as_bytes())
     }
 
-    pub fn after(self, step: &Step) -> Result<Bench, Memory> {
+    /// Makes a call.
+    pub fn make(&mut self, step: &Step) -> Result<(), Memory>
+        requires { IsBench self.old.node self.old.sink.endpoints self.old.pairs self.old.item }
+        ensures { OnOk result (IsBench self.new.node self.new.sink.endpoints self.new.pairs self.new.item) }
+    {
         match step {
-            Step::Tier(name, order) => self.with_tier(name, *order, false),
-            Step::PassingTier(name, order) => self.with_tier(name, *order, true),
-            Step::NoTier(name) => self.without_tier(name),
-            Step::On(number, tier, order) => self.with_policy(*number, tier, *order, true),
-            Step::ToItOnly(number, tier) => self.with_policy(*number, tier, None, false),
-            Step::Off(number) => self.without_policy(*number),
-            Step::Pair(number) => self.with_pair_turned(*number),
-            Step::Endpoint(iface) => self.with_endpoint(iface),
-            Step::NoEndpoint => self.without_endpoint(),
+            Step::Tier(name, order) => self.put_tier(name, *order, false),
+            Step::PassingTier(name, order) => self.put_tier(name, *order, true),
+            Step::NoTier(name) => self.remove_tier(name),
+            Step::On(number, tier, order) => self.put_policy(*number, tier, *order, true),
+            Step::ToItOnly(number, tier) => self.put_policy(*number, tier, None, false),
+            Step::Off(number) => self.remove_policy(*number),
+            Step::Pair(number) => self.turn_pair(*number),
+            Step::Endpoint(iface) => self.put_endpoint(iface),
+            Step::NoEndpoint => self.remove_endpoint(),
         }
     }
 
-    fn with_tier(self, name: &str, order: Option<i64>, pass_at_end: bool) -> Result<Bench, Memory> {
-        let Bench {
-            alloc,
-            item,
-            mut node,
-            pairs,
-            mut sink,
-        } = self;
-        let name = Text::new(alloc, name.as_bytes())?;
-        node.put_tier(&name, order, pass_at_end, &mut sink)?;
-        Ok(Bench {
-            alloc,
-            item,
-            node,
-            pairs,
-            sink,
-        })
+    fn put_tier(&mut self, name: &str, order: Option<i64>, pass_at_end: bool) -> Result<(), Memory>
+        requires { IsBench self.old.node self.old.sink.endpoints self.old.pairs self.old.item }
+        ensures { OnOk result (IsBench self.new.node self.new.sink.endpoints self.new.pairs self.new.item) }
+    {
+        let name = Text::new(self.alloc, name.as_bytes())?;
+        self.node
+            .put_tier(&name, order, pass_at_end, &mut self.sink)?;
+        Ok(())
     }
 
-    fn without_tier(self, name: &str) -> Result<Bench, Memory> {
-        let Bench {
-            alloc,
-            item,
-            mut node,
-            pairs,
-            mut sink,
-        } = self;
-        node.remove_tier(&Text::new(alloc, name.as_bytes())?, &mut sink)?;
-        Ok(Bench {
-            alloc,
-            item,
-            node,
-            pairs,
-            sink,
-        })
+    fn remove_tier(&mut self, name: &str) -> Result<(), Memory>
+        requires { IsBench self.old.node self.old.sink.endpoints self.old.pairs self.old.item }
+        ensures { OnOk result (IsBench self.new.node self.new.sink.endpoints self.new.pairs self.new.item) }
+    {
+        let name = Text::new(self.alloc, name.as_bytes())?;
+        self.node.remove_tier(&name, &mut self.sink)?;
+        Ok(())
     }
 
-    fn with_policy(
-        self,
+    fn put_policy(
+        &mut self,
         number: u8,
         tier: &str,
         order: Option<i64>,
         on_egress: bool,
-    ) -> Result<Bench, Memory> {
-        let Bench {
-            alloc,
-            item,
-            mut node,
-            pairs,
-            mut sink,
-        } = self;
-        let id = policy_id(alloc, number)?;
-        let policy = policy(alloc, tier, order, on_egress)?;
-        node.policy_on(&id, policy_key(number), &policy, &mut sink)?;
-        Ok(Bench {
-            alloc,
-            item,
-            node,
-            pairs,
-            sink,
-        })
+    ) -> Result<(), Memory>
+        requires { IsBench self.old.node self.old.sink.endpoints self.old.pairs self.old.item }
+        ensures { OnOk result (IsBench self.new.node self.new.sink.endpoints self.new.pairs self.new.item) }
+    {
+        let id = policy_id(self.alloc, number)?;
+        let policy = policy(self.alloc, tier, order, on_egress)?;
+        self.node
+            .policy_on(&id, policy_key(number), &policy, &mut self.sink)?;
+        Ok(())
     }
 
-    fn without_policy(self, number: u8) -> Result<Bench, Memory> {
-        let Bench {
-            alloc,
-            item,
-            mut node,
-            pairs,
-            mut sink,
-        } = self;
-        node.policy_off(&policy_id(alloc, number)?, &mut sink)?;
-        Ok(Bench {
-            alloc,
-            item,
-            node,
-            pairs,
-            sink,
-        })
+    fn remove_policy(&mut self, number: u8) -> Result<(), Memory>
+        requires { IsBench self.old.node self.old.sink.endpoints self.old.pairs self.old.item }
+        ensures { OnOk result (IsBench self.new.node self.new.sink.endpoints self.new.pairs self.new.item) }
+    {
+        let id = policy_id(self.alloc, number)?;
+        self.node.policy_off(&id, &mut self.sink)?;
+        Ok(())
     }
 
-    fn with_pair_turned(self, number: u8) -> Result<Bench, Memory> {
+    fn turn_pair(&mut self, number: u8) -> Result<(), Memory>
+        requires { IsBench self.old.node self.old.sink.endpoints self.old.pairs self.old.item }
+        ensures { OnOk result (IsBench self.new.node self.new.sink.endpoints self.new.pairs self.new.item) }
+    {
         let pair = (policy_id(self.alloc, number)?, self.item.clone()?);
         if self.pairs.contains(&pair) {
-            self.without_pair(pair)
+            self.remove_pair(&pair)
         } else {
-            self.with_pair(pair)
+            self.put_pair(pair)
         }
     }
 
-    fn with_pair(self, pair: (PolicyId, ItemKey)) -> Result<Bench, Memory> {
-        let Bench {
-            alloc,
-            item,
-            mut node,
-            mut pairs,
-            mut sink,
-        } = self;
-        if pairs.contains(&pair) {
-            return Err(Memory);
-        }
-        node.pair_on(&pair.0, &pair.1, &mut sink)?;
-        pairs.insert(pair)?;
-        Ok(Bench {
-            alloc,
-            item,
-            node,
-            pairs,
-            sink,
-        })
+    fn put_pair(&mut self, pair: (PolicyId, ItemKey)) -> Result<(), Memory>
+        requires absent { set.contains self.old.pairs pair ≡ false }
+        requires bench { IsBench self.old.node self.old.sink.endpoints self.old.pairs self.old.item }
+        ensures { OnOk result (IsBench self.new.node self.new.sink.endpoints self.new.pairs self.new.item) }
+    {
+        self.node.pair_on(&pair.0, &pair.1, &mut self.sink)?;
+        self.pairs.insert(pair)?;
+        Ok(())
     }
 
-    fn without_pair(self, pair: (PolicyId, ItemKey)) -> Result<Bench, Memory> {
-        let Bench {
-            alloc,
-            item,
-            mut node,
-            mut pairs,
-            mut sink,
-        } = self;
-        if !pairs.contains(&pair) {
-            return Err(Memory);
-        }
-        node.pair_off(&pair.0, &pair.1, &mut sink)?;
-        pairs.remove(&pair);
-        Ok(Bench {
-            alloc,
-            item,
-            node,
-            pairs,
-            sink,
-        })
+    fn remove_pair(&mut self, pair: &(PolicyId, ItemKey)) -> Result<(), Memory>
+        requires present { set.contains self.old.pairs pair.now ≡ true }
+        requires bench { IsBench self.old.node self.old.sink.endpoints self.old.pairs self.old.item }
+        ensures { OnOk result (IsBench self.new.node self.new.sink.endpoints self.new.pairs self.new.item) }
+    {
+        self.node.pair_off(&pair.0, &pair.1, &mut self.sink)?;
+        self.pairs.remove(pair);
+        Ok(())
     }
 
-    fn with_endpoint(self, iface: &str) -> Result<Bench, Memory> {
-        let Bench {
-            alloc,
-            item,
-            mut node,
-            pairs,
-            mut sink,
-        } = self;
+    fn put_endpoint(&mut self, iface: &str) -> Result<(), Memory>
+        requires { IsBench self.old.node self.old.sink.endpoints self.old.pairs self.old.item }
+        ensures { OnOk result (IsBench self.new.node self.new.sink.endpoints self.new.pairs self.new.item) }
+    {
         if iface.len() > 15 {
             return Err(Memory);
         }
-        let iface = Text::new(alloc, iface.as_bytes())?;
-        node.put_endpoint(&item, &iface, &[NameKey::new(b"open")], &mut sink)?;
-        Ok(Bench {
-            alloc,
-            item,
-            node,
-            pairs,
-            sink,
-        })
+        let iface = Text::new(self.alloc, iface.as_bytes())?;
+        let profiles = [NameKey::new(b"open")];
+        self.node
+            .put_endpoint(&self.item, &iface, &profiles, &mut self.sink)?;
+        Ok(())
     }
 
-    fn without_endpoint(self) -> Result<Bench, Memory> {
-        let Bench {
-            alloc,
-            item,
-            mut node,
-            pairs,
-            mut sink,
-        } = self;
-        node.remove_endpoint(&item, &mut sink)?;
-        Ok(Bench {
-            alloc,
-            item,
-            node,
-            pairs,
-            sink,
-        })
+    fn remove_endpoint(&mut self) -> Result<(), Memory>
+        requires { IsBench self.old.node self.old.sink.endpoints self.old.pairs self.old.item }
+        ensures { OnOk result (IsBench self.new.node self.new.sink.endpoints self.new.pairs self.new.item) }
+    {
+        self.node.remove_endpoint(&self.item, &mut self.sink)?;
+        Ok(())
     }
 }
 

@@ -1,18 +1,32 @@
 //! Each call with the memory that it wants, and what no clause says: that a sink is told only of what changes.
+ghost use Rattle.fx_resolver_tests.specs.Benches.{IsBench};
+
 use crate::bench::{Bench, Step};
+use std::alloc::Global;
 use std::process::Abort;
 use std::test::Fail;
 
 /// A step, the endpoint's lists then (packets to it `|` packets from it), and how often the sink was told of an endpoint.
 type Row = (Step, &'static str, u64);
 
-fn run(rt: &impl Abort, mut bench: Bench, table: &[Row]) -> Result<Bench, Fail> {
+// After each step the sink shows what it should.
+fn follow(rt: &impl Abort, bench: &mut Bench, table: &[Row]) -> Result<(), Fail>
+    requires { IsBench bench.old.node bench.old.sink.endpoints bench.old.pairs bench.old.item }
+{
     for (step, shown, puts) in table {
-        bench = bench.after(step)?;
+        bench.make(step)?;
         assert!(rt; bench.shows(shown)?, "{shown}");
         assert_eq!(rt; bench.puts(), *puts, "{shown}");
     }
-    Ok(bench)
+    Ok(())
+}
+
+// The bench stands here and is lent to the steps, so that one place lets go of it.
+fn run(rt: &impl Abort, alloc: Global, table: &[Row]) -> Result<(), Fail> {
+    let mut bench = Bench::new(alloc)?;
+    let followed = follow(rt, &mut bench, table);
+    drop(bench);
+    followed
 }
 
 #[test]
@@ -28,8 +42,7 @@ fn policies_are_listed_in_order_where_they_apply(rt: HostRuntime) -> Result<(), 
         (Step::On(2, "t", Some(9)), "cali1 t(2,0,1)|t(2,0,1);", 5),
         (Step::On(2, "t", Some(8)), "cali1 t(2,0,1)|t(2,0,1);", 5),
     ];
-    run(&rt, Bench::new(rt.alloc())?, &table)?;
-    Ok(())
+    run(&rt, rt.alloc(), &table)
 }
 
 #[test]
@@ -46,8 +59,7 @@ fn tiers_are_in_order(rt: HostRuntime) -> Result<(), Fail> {
         (Step::NoTier("s"), "cali1 t(1)s(0)|t(1)s(0);", 6),
         (Step::NoTier("u"), "cali1 t(1)s(0)|t(1)s(0);", 6),
     ];
-    run(&rt, Bench::new(rt.alloc())?, &table)?;
-    Ok(())
+    run(&rt, rt.alloc(), &table)
 }
 
 // A change of what a tier does at its end alone tells the endpoints in whose lists the tier stands, and no other.
@@ -76,8 +88,7 @@ fn tiers_pass_at_their_ends(rt: HostRuntime) -> Result<(), Fail> {
         ),
         (Step::NoTier("s"), "cali1 s(0)|s(0);", 6),
     ];
-    run(&rt, Bench::new(rt.alloc())?, &table)?;
-    Ok(())
+    run(&rt, rt.alloc(), &table)
 }
 
 #[test]
@@ -95,6 +106,5 @@ fn what_goes_is_listed_no_more(rt: HostRuntime) -> Result<(), Fail> {
         (Step::Pair(0), "cali2 |;", 5),
         (Step::NoEndpoint, "", 5),
     ];
-    run(&rt, Bench::new(rt.alloc())?, &table)?;
-    Ok(())
+    run(&rt, rt.alloc(), &table)
 }

@@ -1,85 +1,17 @@
 //! A node with a sink, one policy and one profile, whose rules use one set.
-ghost use Rattle.std.specs.Prelude.{◌≡◌, IfOk, Option};
+ghost use Rattle.std.specs.Prelude.{◌≡◌, IfOk, OnOk, Option};
 ghost use Rattle.std.specs.List.{AllByRecursion};
 ghost use Rattle.fx_base.specs.declared.net.Proto.{Proto};
 ghost use Rattle.fx_model.specs.Sets.{nets_use, policy_uses, profile_uses, rules_uses, selector_uses, side_uses};
+ghost use Rattle.fx_scanner_tests.specs.Benches.{IsBench};
 
-use fx_base::{Memory, NameKey, Seq, SetName, Text};
-use fx_model::{
-    Action, Policy, PolicyId, Profile, Rule, SetUse, Side, UseSink, ViewEndpoint, ViewPolicy,
-    ViewProfile, ViewSink,
-};
+use fx_base::{Memory, Seq, Text};
+use fx_model::{Action, Policy, PolicyId, Profile, Rule, Side};
 use fx_names::{Namer, PlainRule};
 use fx_record::RecordUses;
 use fx_scanner::RuleScanner;
 use fx_selector::{Labels, Selector};
 use std::alloc::Global;
-use std::marker::Model;
-
-/// Records a view and used sets, and counts how often a set is told.
-#[derive(Drop)]
-pub struct CountUses {
-    held: RecordUses,
-    told: u64,
-}
-
-impl ViewSink for CountUses {
-    ghost policies = { λ a. a.held.view.policies };
-
-    ghost profiles = { λ a. a.held.view.profiles };
-
-    ghost endpoints = { λ a. a.held.view.endpoints };
-
-    ghost is_kept = { λ a b. b.held.uses ≡ a.held.uses };
-
-    fn policy_put(&mut self, key: NameKey, policy: ViewPolicy) -> Result<(), Memory> {
-        self.held.policy_put(key, policy)?;
-        Ok(())
-    }
-
-    fn policy_gone(&mut self, key: NameKey) -> Result<(), Memory> {
-        self.held.policy_gone(key)?;
-        Ok(())
-    }
-
-    fn profile_put(&mut self, key: NameKey, profile: ViewProfile) -> Result<(), Memory> {
-        self.held.profile_put(key, profile)?;
-        Ok(())
-    }
-
-    fn profile_gone(&mut self, key: NameKey) -> Result<(), Memory> {
-        self.held.profile_gone(key)?;
-        Ok(())
-    }
-
-    fn endpoint_put(&mut self, iface: &Text, endpoint: ViewEndpoint) -> Result<(), Memory> {
-        self.held.endpoint_put(iface, endpoint)?;
-        Ok(())
-    }
-
-    fn endpoint_gone(&mut self, iface: &Text) -> Result<(), Memory> {
-        self.held.endpoint_gone(iface)?;
-        Ok(())
-    }
-}
-
-impl UseSink for CountUses {
-    ghost uses = { λ a. a.held.uses };
-
-    ghost kept = { λ a b h. h };
-
-    fn use_on(&mut self, name: SetName, set: &SetUse) -> Result<(), Memory> {
-        self.told = self.told.saturating_add(1);
-        self.held.use_on(name, set)?;
-        Ok(())
-    }
-
-    fn use_off(&mut self, name: SetName) -> Result<(), Memory> {
-        self.told = self.told.saturating_add(1);
-        self.held.use_off(name)?;
-        Ok(())
-    }
-}
 
 /// A call of the node.
 #[derive(Drop)]
@@ -94,6 +26,7 @@ pub enum Step {
     NoProfile,
 }
 
+/// The node with its sink, the policy's id, the profile's name, and the selector of the set.
 #[derive(Drop)]
 pub struct Bench {
     alloc: Global,
@@ -102,26 +35,13 @@ pub struct Bench {
     selector: Selector,
     namer: Namer<PlainRule, PlainRule>,
     node: RuleScanner,
-    sink: CountUses,
-}
-
-impl Model for Bench {
-    ghost use Rattle.std.specs.Prelude.{ℕ};
-    ghost use Rattle.fx_names.specs.Digests.{plain_digest};
-    ghost use Rattle.fx_model.specs.Sets.{nets_use};
-    ghost use Rattle.fx_scanner.specs.Alone.{IsAlone};
-    ghost use Rattle.fx_scanner.specs.Scanned.{IsScanned};
-
-    ghost Value = { ℕ };
-
-    ghost view = { λ a. a.sink.told };
-
-    ghost invariant = { λ a. IsScanned plain_digest a.node a.sink.held.view.policies a.sink.held.view.profiles a.sink.held.uses
-        × IsAlone a.id a.name (nets_use a.selector) a.node };
+    sink: RecordUses,
 }
 
 impl Bench {
-    pub fn new(alloc: Global) -> Result<Bench, Memory> {
+    pub fn new(alloc: Global) -> Result<Bench, Memory>
+        ensures { IfOk result (λ b. IsBench b.node b.sink b.id b.name b.selector) }
+    {
         let Ok(selector) = Selector::parse(alloc, b"has(web)") else {
             return Err(Memory);
         };
@@ -134,20 +54,17 @@ impl Bench {
             selector,
             namer: Namer::new(PlainRule),
             node: RuleScanner::new(alloc),
-            sink: CountUses {
-                held: RecordUses::new(alloc),
-                told: 0,
-            },
+            sink: RecordUses::new(alloc),
         })
     }
 
     /// How many policies, profiles and sets the sink has.
     pub fn numbers(&self) -> [usize; 3] {
-        let held = &self.sink.held;
+        let view = &self.sink.view;
         [
-            held.view.policies.len(),
-            held.view.profiles.len(),
-            held.uses.len(),
+            view.policies.len(),
+            view.profiles.len(),
+            self.sink.uses.len(),
         ]
     }
 
@@ -156,126 +73,64 @@ impl Bench {
         self.sink.told
     }
 
-    pub fn after(self, step: &Step) -> Result<Bench, Memory> {
+    /// Makes a call.
+    pub fn make(&mut self, step: &Step) -> Result<(), Memory>
+        requires { IsBench self.old.node self.old.sink self.old.id self.old.name self.old.selector }
+        ensures { OnOk result (IsBench self.new.node self.new.sink self.new.id self.new.name self.new.selector) }
+    {
         match step {
-            Step::Policy(ingress, egress) => self.with_policy(*ingress, *egress),
-            Step::NoPolicy => self.without_policy(),
-            Step::Profile(uses) => self.with_profile(*uses),
-            Step::Missing => self.with_missing_profile(),
-            Step::NoProfile => self.without_profile(),
+            Step::Policy(ingress, egress) => self.put_policy(*ingress, *egress),
+            Step::NoPolicy => self.remove_policy(),
+            Step::Profile(uses) => self.put_profile(*uses),
+            Step::Missing => self.put_missing_profile(),
+            Step::NoProfile => self.remove_profile(),
         }
     }
 
-    fn with_policy(self, ingress: bool, egress: bool) -> Result<Bench, Memory> {
-        let Bench {
-            alloc,
-            id,
-            name,
-            selector,
-            namer,
-            mut node,
-            mut sink,
-        } = self;
-        let policy = policy(alloc, &selector, ingress, egress)?;
-        node.policy_on(&id, &policy, &namer, &mut sink)?;
-        Ok(Bench {
-            alloc,
-            id,
-            name,
-            selector,
-            namer,
-            node,
-            sink,
-        })
+    fn put_policy(&mut self, ingress: bool, egress: bool) -> Result<(), Memory>
+        requires { IsBench self.old.node self.old.sink self.old.id self.old.name self.old.selector }
+        ensures { OnOk result (IsBench self.new.node self.new.sink self.new.id self.new.name self.new.selector) }
+    {
+        let policy = policy(self.alloc, &self.selector, ingress, egress)?;
+        self.node
+            .policy_on(&self.id, &policy, &self.namer, &mut self.sink)?;
+        Ok(())
     }
 
-    fn without_policy(self) -> Result<Bench, Memory> {
-        let Bench {
-            alloc,
-            id,
-            name,
-            selector,
-            namer,
-            mut node,
-            mut sink,
-        } = self;
-        node.policy_off(&id, &namer, &mut sink)?;
-        Ok(Bench {
-            alloc,
-            id,
-            name,
-            selector,
-            namer,
-            node,
-            sink,
-        })
+    fn remove_policy(&mut self) -> Result<(), Memory>
+        requires { IsBench self.old.node self.old.sink self.old.id self.old.name self.old.selector }
+        ensures { OnOk result (IsBench self.new.node self.new.sink self.new.id self.new.name self.new.selector) }
+    {
+        self.node.policy_off(&self.id, &self.namer, &mut self.sink)?;
+        Ok(())
     }
 
-    fn with_profile(self, uses: bool) -> Result<Bench, Memory> {
-        let Bench {
-            alloc,
-            id,
-            name,
-            selector,
-            namer,
-            mut node,
-            mut sink,
-        } = self;
-        let profile = profile(alloc, &selector, uses)?;
-        node.profile_on(&name, Some(&profile), &namer, &mut sink)?;
-        Ok(Bench {
-            alloc,
-            id,
-            name,
-            selector,
-            namer,
-            node,
-            sink,
-        })
+    fn put_profile(&mut self, uses: bool) -> Result<(), Memory>
+        requires { IsBench self.old.node self.old.sink self.old.id self.old.name self.old.selector }
+        ensures { OnOk result (IsBench self.new.node self.new.sink self.new.id self.new.name self.new.selector) }
+    {
+        let profile = profile(self.alloc, &self.selector, uses)?;
+        self.node
+            .profile_on(&self.name, Some(&profile), &self.namer, &mut self.sink)?;
+        Ok(())
     }
 
-    fn with_missing_profile(self) -> Result<Bench, Memory> {
-        let Bench {
-            alloc,
-            id,
-            name,
-            selector,
-            namer,
-            mut node,
-            mut sink,
-        } = self;
-        node.profile_on(&name, None, &namer, &mut sink)?;
-        Ok(Bench {
-            alloc,
-            id,
-            name,
-            selector,
-            namer,
-            node,
-            sink,
-        })
+    fn put_missing_profile(&mut self) -> Result<(), Memory>
+        requires { IsBench self.old.node self.old.sink self.old.id self.old.name self.old.selector }
+        ensures { OnOk result (IsBench self.new.node self.new.sink self.new.id self.new.name self.new.selector) }
+    {
+        self.node
+            .profile_on(&self.name, None, &self.namer, &mut self.sink)?;
+        Ok(())
     }
 
-    fn without_profile(self) -> Result<Bench, Memory> {
-        let Bench {
-            alloc,
-            id,
-            name,
-            selector,
-            namer,
-            mut node,
-            mut sink,
-        } = self;
-        node.profile_off(&name, &namer, &mut sink)?;
-        Ok(Bench {
-            alloc,
-            id,
-            name,
-            selector,
-            namer,
-            node,
-            sink,
-        })
+    fn remove_profile(&mut self) -> Result<(), Memory>
+        requires { IsBench self.old.node self.old.sink self.old.id self.old.name self.old.selector }
+        ensures { OnOk result (IsBench self.new.node self.new.sink self.new.id self.new.name self.new.selector) }
+    {
+        self.node
+            .profile_off(&self.name, &self.namer, &mut self.sink)?;
+        Ok(())
     }
 }
 

@@ -1,18 +1,32 @@
 //! Each call with the memory that it wants, and what no clause says: that a sink is told only of what changes.
+ghost use Rattle.fx_scanner_tests.specs.Benches.{IsBench};
+
 use crate::bench::{Bench, Step};
+use std::alloc::Global;
 use std::process::Abort;
 use std::test::Fail;
 
 /// A step, how many policies, profiles and sets the sink has then, and how often it was told of a set.
 type Row = (Step, [usize; 3], u64);
 
-fn run(rt: &impl Abort, mut bench: Bench, table: &[Row]) -> Result<Bench, Fail> {
+// After each step the sink has what it should.
+fn follow(rt: &impl Abort, bench: &mut Bench, table: &[Row]) -> Result<(), Fail>
+    requires { IsBench bench.old.node bench.old.sink bench.old.id bench.old.name bench.old.selector }
+{
     for (step, numbers, told) in table {
-        bench = bench.after(step)?;
+        bench.make(step)?;
         assert_eq!(rt; bench.numbers(), *numbers);
         assert_eq!(rt; bench.told(), *told);
     }
-    Ok(bench)
+    Ok(())
+}
+
+// The bench stands here and is lent to the steps, so that one place lets go of it.
+fn run(rt: &impl Abort, alloc: Global, table: &[Row]) -> Result<(), Fail> {
+    let mut bench = Bench::new(alloc)?;
+    let followed = follow(rt, &mut bench, table);
+    drop(bench);
+    followed
 }
 
 #[test]
@@ -28,8 +42,7 @@ fn a_set_stands_while_some_rule_uses_it(rt: HostRuntime) -> Result<(), Fail> {
         (Step::NoProfile, [0, 0, 0], 4),
         (Step::NoProfile, [0, 0, 0], 4),
     ];
-    run(&rt, Bench::new(rt.alloc())?, &table)?;
-    Ok(())
+    run(&rt, rt.alloc(), &table)
 }
 
 #[test]
@@ -43,6 +56,5 @@ fn a_set_of_old_and_new_rules_is_not_told_again(rt: HostRuntime) -> Result<(), F
         (Step::Missing, [1, 1, 1], 3),
         (Step::NoPolicy, [0, 1, 0], 4),
     ];
-    run(&rt, Bench::new(rt.alloc())?, &table)?;
-    Ok(())
+    run(&rt, rt.alloc(), &table)
 }
