@@ -186,6 +186,3 @@ fn is_blank(line: &[u8]) -> bool
     line.iter()
         .all(|b| *b == b' ' || *b == b'\t' || *b == b'\r')
 }
-
-#[cfg(test)]
-mod tests;

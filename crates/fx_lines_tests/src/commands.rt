@@ -1,7 +1,9 @@
-use super::*;
-use crate::lines::LineReader;
+//! What lines say.
 use fx_base::SureSource;
-use fx_model::{Item, ItemKey, Key};
+use fx_fields::{ReadFault, Refusal};
+use fx_lines::{Command, LineReader, read_command, read_line, update_command};
+use fx_model::{Item, ItemKey, Key, Update};
+use std::alloc::Global;
 use std::test::Fail;
 
 // What a line is answered.

@@ -1,5 +1,5 @@
 use Rattle.std.proofs.Common.{◌≡◌}
-use Rattle.fx_lines.proofs.commands.tests.answers.Given as goal
+use Rattle.fx_lines_tests.proofs.commands.answers.Given as goal
 
 abbrev pub invariant-loop : goal.invariant-loop
 invariant-loop l = record {

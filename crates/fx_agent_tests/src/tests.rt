@@ -1,0 +1,181 @@
+//! Runs of an agent.
+ghost use Rattle.std.specs.Prelude.{OnOk};
+ghost use Rattle.fx_names.specs.Digests.{plain_digest};
+ghost use Rattle.fx_agent.specs.Sound.{IsAgent};
+
+use crate::bench::{PlainAgent, TextOut, give, new_agent, packet_in, update_in};
+use crate::lines::{
+    FIRST, FIRST_TOLD, IN_SYNC, OPEN, OPEN_TOLD, PACKET, SECOND, SECOND_GONE, SECOND_GONE_TOLD,
+    SECOND_TOLD, TAKING,
+};
+use fx_agent::{PullFault, Pulled, UpdateFault};
+use fx_base::{ChainName, Counter};
+use fx_model::Verdict;
+use std::alloc::Global;
+use std::process::Abort;
+use std::test::Fail;
+
+/// What is tried on an agent with two endpoints, of which nothing was sent yet.
+#[derive(Clone, Copy)]
+enum Trial {
+    /// The messages are pulled one by one, and an endpoint goes.
+    OneByOne,
+    /// The first write fails.
+    FailedWrite,
+    /// An update would take the first endpoint's name.
+    TakenName,
+    /// Memory runs out in the first pull.
+    WantOfMemory,
+}
+
+// Pulls one message after another until there is none, and compares their texts.
+fn pull_all(
+    rt: &impl Abort,
+    wanted: &[&str],
+    agent: &mut PlainAgent,
+    out: &mut TextOut,
+) -> Result<(), Fail>
+    requires { IsAgent plain_digest agent.old.store agent.old.graph.state agent.old.driver agent.old.failed }
+    ensures { OnOk result (IsAgent plain_digest agent.new.store agent.new.graph.state agent.new.driver agent.new.failed) }
+{
+    for text in wanted {
+        assert!(rt; agent.pending());
+        assert_eq!(rt; agent.pull(out)?, Pulled::Sent);
+        assert!(rt; out.ends_with(text), "{text}");
+    }
+    assert!(rt; !agent.pending());
+    assert_eq!(rt; agent.pull(out)?, Pulled::Nothing);
+    Ok(())
+}
+
+// The chain of what the second endpoint sends.
+fn second_chain() -> ChainName {
+    ChainName::join(b"cali-fw-", b"cali2")
+}
+
+// Two endpoints come, and one goes.
+fn comes_and_goes(
+    rt: &impl Abort,
+    alloc: Global,
+    agent: &mut PlainAgent,
+    out: &mut TextOut,
+) -> Result<(), Fail>
+    requires { IsAgent plain_digest agent.old.store agent.old.graph.state agent.old.driver agent.old.failed }
+{
+    pull_all(rt, &[OPEN_TOLD, FIRST_TOLD, SECOND_TOLD], agent, out)?;
+    is_answered(rt, alloc, agent, Verdict::Allow)?;
+    give(alloc, &[SECOND_GONE], agent)?;
+    is_answered(rt, alloc, agent, Verdict::Allow)?;
+    assert!(rt; agent.tables().chain(second_chain()).is_some());
+    pull_all(rt, &[SECOND_GONE_TOLD], agent, out)?;
+    assert!(rt; agent.tables().chain(second_chain()).is_none());
+    is_answered(rt, alloc, agent, Verdict::Deny)
+}
+
+// The verdict on the packet that the second endpoint sends.
+fn is_answered(
+    rt: &impl Abort,
+    alloc: Global,
+    agent: &PlainAgent,
+    verdict: Verdict,
+) -> Result<(), Fail>
+    requires { IsAgent plain_digest agent.now.store agent.now.graph.state agent.now.driver agent.now.failed }
+{
+    let packet = packet_in(alloc, PACKET)?;
+    assert_eq!(rt; agent.decide(&packet).verdict, verdict);
+    Ok(())
+}
+
+// The first write fails.
+fn is_written_later(rt: &impl Abort, agent: &mut PlainAgent, out: &mut TextOut) -> Result<(), Fail>
+    requires { IsAgent plain_digest agent.old.store agent.old.graph.state agent.old.driver agent.old.failed }
+{
+    out.failing = 1;
+    assert_eq!(rt; agent.pull(out), Err(PullFault::Write));
+    assert!(rt; out.texts.is_empty());
+    pull_all(rt, &[OPEN_TOLD, FIRST_TOLD, SECOND_TOLD], agent, out)
+}
+
+// An update would take the first endpoint's name.
+fn keeps_its_name(
+    rt: &impl Abort,
+    alloc: Global,
+    agent: &mut PlainAgent,
+    out: &mut TextOut,
+) -> Result<(), Fail>
+    requires { IsAgent plain_digest agent.old.store agent.old.graph.state agent.old.driver agent.old.failed }
+{
+    let taking = update_in(alloc, TAKING)?;
+    let Err(UpdateFault::Taken { holder, .. }) = agent.update(taking, &mut Counter::new()) else {
+        return Err(Fail::new("a taken name was given away"));
+    };
+    assert_eq!(rt; holder.bytes(), b"endpoint a/w1".as_slice());
+    pull_all(rt, &[OPEN_TOLD, FIRST_TOLD, SECOND_TOLD], agent, out)
+}
+
+// Memory runs out in the first pull.
+fn begins_anew(
+    rt: &impl Abort,
+    alloc: Global,
+    agent: &mut PlainAgent,
+    out: &mut TextOut,
+) -> Result<(), Fail>
+    requires { IsAgent plain_digest agent.old.store agent.old.graph.state agent.old.driver agent.old.failed }
+{
+    out.full = true;
+    assert_eq!(rt; agent.pull(out), Err(PullFault::Memory));
+    assert!(rt; !agent.pending());
+    out.full = false;
+    assert_eq!(rt; agent.pull(out), Err(PullFault::NeedsResync));
+    let gone = update_in(alloc, SECOND_GONE)?;
+    let refused = agent.update(gone, &mut Counter::new());
+    assert!(rt; matches!(&refused, Err(UpdateFault::NeedsResync)));
+    is_answered(rt, alloc, agent, Verdict::Deny)
+}
+
+fn run(
+    rt: &impl Abort,
+    alloc: Global,
+    trial: Trial,
+    agent: &mut PlainAgent,
+    out: &mut TextOut,
+) -> Result<(), Fail>
+    requires { IsAgent plain_digest agent.old.store agent.old.graph.state agent.old.driver agent.old.failed }
+{
+    give(alloc, &[OPEN, FIRST, SECOND, IN_SYNC], agent)?;
+    match trial {
+        Trial::OneByOne => comes_and_goes(rt, alloc, agent, out),
+        Trial::FailedWrite => is_written_later(rt, agent, out),
+        Trial::TakenName => keeps_its_name(rt, alloc, agent, out),
+        Trial::WantOfMemory => begins_anew(rt, alloc, agent, out),
+    }
+}
+
+// The agent stands here and is lent to the trial, so that one place lets go of it.
+fn try_out(rt: &impl Abort, alloc: Global, trial: Trial) -> Result<(), Fail> {
+    let mut agent = new_agent(alloc)?;
+    let mut out = TextOut::new(alloc);
+    let tried = run(rt, alloc, trial, &mut agent, &mut out);
+    drop(agent);
+    tried
+}
+
+#[test]
+fn messages_are_pulled_one_by_one(rt: HostRuntime) -> Result<(), Fail> {
+    try_out(&rt, rt.alloc(), Trial::OneByOne)
+}
+
+#[test]
+fn a_message_that_is_not_written_comes_again(rt: HostRuntime) -> Result<(), Fail> {
+    try_out(&rt, rt.alloc(), Trial::FailedWrite)
+}
+
+#[test]
+fn a_name_that_is_taken_is_refused(rt: HostRuntime) -> Result<(), Fail> {
+    try_out(&rt, rt.alloc(), Trial::TakenName)
+}
+
+#[test]
+fn without_memory_it_has_to_begin_anew(rt: HostRuntime) -> Result<(), Fail> {
+    try_out(&rt, rt.alloc(), Trial::WantOfMemory)
+}
