@@ -1,6 +1,7 @@
 //! Runs each example in memory, by the code that `felix_main` runs, and tells whether its output is the stored one.
 //!
-//! An example is its words and two files of `data/`: its lines, `NAME.jsonl`, and its output, `NAME.txt`.
+//! An example is its words and two files of `data/`: its lines, `NAME.jsonl`, and its output, `NAME.txt`. Beside them stand lines that
+//! are refused, each a row with its refusal and run by itself, `refused-lines.rows`.
 #![tactic(auto)]
 
 use felix_replay::{Status, felix_replay};
@@ -35,6 +36,11 @@ fn main(rt: HostRuntime) -> io::Result<()> {
     for (name, words) in EXAMPLES {
         let answer = outcome(&rt, name, words)?;
         println!(rt; "{name}: {answer}")?;
+    }
+    match wrong_row(&rt)? {
+        Ok(None) => println!(rt; "refused-lines: each row as stored")?,
+        Ok(Some(row)) => println!(rt; "refused-lines: line {row} is answered otherwise")?,
+        Err(Memory) => println!(rt; "refused-lines: there is no memory")?,
     }
     Ok(())
 }
@@ -77,5 +83,40 @@ fn judged(status: Status, is_stored: bool) -> &'static str {
         Status::Refused if is_stored => "as stored, and some line is refused",
         Status::Done | Status::Refused => "the output differs from the stored one",
         _ => "the run ended early",
+    }
+}
+
+// The first row that is answered otherwise, by its line in the file.
+fn wrong_row<R: Files + AllocGlobal>(rt: &R) -> io::Result<Result<Option<usize>, Memory>> {
+    let rows = example_file(rt, "refused-lines", ".rows")?;
+    Ok(match str::from_utf8(rows.as_slice()) {
+        Ok(rows) => first_wrong(rt.alloc(), rows),
+        Err(_) => Ok(Some(0)),
+    })
+}
+
+fn first_wrong(alloc: Global, rows: &str) -> Result<Option<usize>, Memory> {
+    for (above, row) in rows.lines().enumerate() {
+        if !row.starts_with('#') && !is_answered(alloc, row)? {
+            return Ok(Some(above.saturating_add(1)));
+        }
+    }
+    Ok(None)
+}
+
+// Whether a run on the row's line alone writes its refusal, or nothing if the row has none.
+fn is_answered(alloc: Global, row: &str) -> Result<bool, Memory> {
+    let (line, refusal) = row.split_once(" => ").unwrap_or((row, ""));
+    let line = Vec::from_slice(alloc, line.as_bytes())?;
+    let (status, mut written) = replayed(alloc, NODE, line)?;
+    written.pop();
+    Ok(written.as_slice() == refusal.as_bytes() && status == status_of(refusal))
+}
+
+fn status_of(refusal: &str) -> Status {
+    if refusal.is_empty() {
+        Status::Done
+    } else {
+        Status::Refused
     }
 }

@@ -12,8 +12,6 @@ mod policy_rows;
 #[cfg(test)]
 mod policy_tests;
 #[cfg(test)]
-mod refusal_rows;
-#[cfg(test)]
 mod refusal_tests;
 #[cfg(test)]
 mod rule_rows;

@@ -1,5 +1,4 @@
-//! Lines and their refusals, each line by a run of its own.
-use crate::refusal_rows::ROWS;
+//! Lines that no row of the examples can hold, and their refusals.
 use crate::run_tests::replayed;
 use felix_replay::Status;
 use std::alloc::Global;
@@ -10,20 +9,6 @@ fn answered(alloc: Global, line: &[u8]) -> Result<(bool, Vec<u8>), Fail> {
     let (status, mut held) = replayed(alloc, Vec::from_slice(alloc, line)?)?;
     held.pop();
     Ok((status == Status::Refused, held))
-}
-
-#[test]
-fn each_line_is_refused_for_its_first_fault(rt: HostRuntime) -> Result<(), Fail> {
-    for (row, text) in ROWS.lines().enumerate() {
-        if text.starts_with('#') {
-            continue;
-        }
-        let (line, refusal) = text.split_once(" => ").unwrap_or((text, ""));
-        let (refused, held) = answered(rt.alloc(), line.as_bytes())?;
-        assert_eq!(rt; held.as_slice(), refusal.as_bytes(), "row {row}");
-        assert_eq!(rt; refused, !refusal.is_empty(), "row {row}");
-    }
-    Ok(())
 }
 
 #[test]
