@@ -1,4 +1,4 @@
-//! The tests of `felix_replay`. They stand beside it, as a crate's own tests prove all its functions again.
+//! The tests of `felix_replay`: whole runs, from the bytes in to the bytes out.
 #![tactic(auto)]
 
 #[cfg(test)]

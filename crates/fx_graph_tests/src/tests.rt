@@ -30,13 +30,16 @@ fn follow(
     Ok(())
 }
 
-// For the node `n1`.
+// For the node `n1`. One place lets go of both.
 fn run(rt: &impl Abort, alloc: Global, list: &str) -> Result<(), Fail> {
     let node = Text::new(alloc, b"n1")?;
     let graph_node = node.clone()?;
     let mut store = Store::new(alloc, node);
     let mut graph: PlainGraph = Graph::new(alloc, graph_node, Namer::new(PlainRule));
-    follow(rt, alloc, list, &mut store, &mut graph)
+    let followed = follow(rt, alloc, list, &mut store, &mut graph);
+    drop(graph);
+    drop(store);
+    followed
 }
 
 #[test]

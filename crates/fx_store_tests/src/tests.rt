@@ -10,6 +10,7 @@ use fx_names::{Namer, PlainRule};
 use fx_selector::{Labels, Selector};
 use fx_store::{CheckFault, Found, Store};
 use std::alloc::Global;
+use std::process::Abort;
 use std::test::Fail;
 
 fn plain() -> Namer<PlainRule, PlainRule> {
@@ -42,15 +43,6 @@ fn put(alloc: Global, name: &[u8]) -> Result<Update, Memory>
     })
 }
 
-// A store with one profile.
-fn store_with(alloc: Global, name: &[u8]) -> Result<Store, Fail>
-    ensures { IfOk result (λ s. KeepsClaims plain_digest s) }
-{
-    let mut store = Store::new(alloc, Text::new(alloc, b"here")?);
-    make(&mut store, put(alloc, name)?)?;
-    Ok(store)
-}
-
 // Makes an update that clashes with nothing.
 fn make(store: &mut Store, update: Update) -> Result<(), Fail>
     requires claims { KeepsClaims plain_digest store.old }
@@ -73,14 +65,20 @@ fn is_taken(fault: &CheckFault) -> bool {
     }
 }
 
-#[test]
-fn a_clash_tells_the_name_and_its_holder(rt: HostRuntime) -> Result<(), Fail> {
-    let alloc = rt.alloc();
-    let store = store_with(alloc, b"aaaaaaaaaaaaaaaaaaaa1")?;
+fn profiles_clash(rt: &impl Abort, alloc: Global, store: &mut Store) -> Result<(), Fail>
+    requires { KeepsClaims plain_digest store.old }
+{
+    make(store, put(alloc, b"aaaaaaaaaaaaaaaaaaaa1")?)?;
     let tried = put(alloc, b"aaaaaaaaaaaaaaaaaaaa2")?;
     let answer = store.check(&tried, &plain());
     assert!(rt; answer.is_err_and(|fault| is_taken(&fault)));
     Ok(())
+}
+
+#[test]
+fn a_clash_tells_the_name_and_its_holder(rt: HostRuntime) -> Result<(), Fail> {
+    let mut store = Store::new(rt.alloc(), Text::new(rt.alloc(), b"here")?);
+    profiles_clash(&rt, rt.alloc(), &mut store)
 }
 
 // A policy that selects all, by its name.
@@ -111,11 +109,10 @@ fn policy_is_taken(fault: &CheckFault) -> bool {
     }
 }
 
-#[test]
-fn policies_claim_their_chains(rt: HostRuntime) -> Result<(), Fail> {
-    let alloc = rt.alloc();
-    let mut store = Store::new(alloc, Text::new(alloc, b"here")?);
-    make(&mut store, policy(alloc, b"aaaaaaaaaaaaaaaaaaaa1")?)?;
+fn policies_clash(rt: &impl Abort, alloc: Global, store: &mut Store) -> Result<(), Fail>
+    requires { KeepsClaims plain_digest store.old }
+{
+    make(store, policy(alloc, b"aaaaaaaaaaaaaaaaaaaa1")?)?;
     let tried = policy(alloc, b"aaaaaaaaaaaaaaaaaaaa2")?;
     let answer = store.check(&tried, &plain());
     assert!(rt; answer.is_err_and(|fault| policy_is_taken(&fault)));
@@ -123,13 +120,25 @@ fn policies_claim_their_chains(rt: HostRuntime) -> Result<(), Fail> {
 }
 
 #[test]
-fn a_profile_is_found_until_it_is_deleted(rt: HostRuntime) -> Result<(), Fail> {
-    let alloc = rt.alloc();
-    let mut store = store_with(alloc, b"one")?;
+fn policies_claim_their_chains(rt: HostRuntime) -> Result<(), Fail> {
+    let mut store = Store::new(rt.alloc(), Text::new(rt.alloc(), b"here")?);
+    policies_clash(&rt, rt.alloc(), &mut store)
+}
+
+fn comes_and_goes(rt: &impl Abort, alloc: Global, store: &mut Store) -> Result<(), Fail>
+    requires { KeepsClaims plain_digest store.old }
+{
+    make(store, put(alloc, b"one")?)?;
     let named = key(alloc, b"one")?;
     assert!(rt; matches!(store.get(&named), Some(Found::Profile(_))));
     let gone = key(alloc, b"one")?;
-    make(&mut store, Update::Delete { key: gone })?;
+    make(store, Update::Delete { key: gone })?;
     assert!(rt; store.get(&named).is_none());
     Ok(())
+}
+
+#[test]
+fn a_profile_is_found_until_it_is_deleted(rt: HostRuntime) -> Result<(), Fail> {
+    let mut store = Store::new(rt.alloc(), Text::new(rt.alloc(), b"here")?);
+    comes_and_goes(&rt, rt.alloc(), &mut store)
 }
