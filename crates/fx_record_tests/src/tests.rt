@@ -84,28 +84,51 @@ fn active_policies_are_recorded(rt: HostRuntime) -> Result<(), Fail> {
     turn_on_and_off(&rt, &mut sink, &id, &policy)
 }
 
+fn list_and_end(
+    rt: &impl Abort,
+    sink: &mut RecordActive,
+    name: &Text,
+    profile: &Profile,
+) -> Result<(), Fail> {
+    sink.profile_on(name, None)?;
+    match sink.profiles.get(name) {
+        Some(profile) => assert!(rt; profile.is_none()),
+        None => assert!(rt; false),
+    }
+    sink.profile_on(name, Some(profile))?;
+    match sink.profiles.get(name) {
+        Some(profile) => assert!(rt; profile.is_some()),
+        None => assert!(rt; false),
+    }
+    sink.profile_off(name)?;
+    assert!(rt; sink.profiles.get(name).is_none());
+    Ok(())
+}
+
 #[test]
 fn listed_profiles_are_recorded(rt: HostRuntime) -> Result<(), Fail> {
     let a = rt.alloc();
     let name = Text::new(a, b"p")?;
-    let mut sink = RecordActive::new(a);
-    sink.profile_on(&name, None)?;
-    match sink.profiles.get(&name) {
-        Some(profile) => assert!(rt; profile.is_none()),
-        None => assert!(rt; false),
-    }
     let profile = Profile {
         labels: Labels::new(a),
         ingress: Seq::new(a),
         egress: Seq::new(a),
     };
-    sink.profile_on(&name, Some(&profile))?;
-    match sink.profiles.get(&name) {
-        Some(profile) => assert!(rt; profile.is_some()),
-        None => assert!(rt; false),
-    }
-    sink.profile_off(&name)?;
-    assert!(rt; sink.profiles.get(&name).is_none());
+    let mut sink = RecordActive::new(a);
+    list_and_end(&rt, &mut sink, &name, &profile)
+}
+
+fn put_and_end(
+    rt: &impl Abort,
+    sink: &mut RecordView,
+    iface: &Text,
+    endpoint: ViewEndpoint,
+) -> Result<(), Fail> {
+    sink.endpoint_put(iface, endpoint)?;
+    assert!(rt; sink.endpoints.contains_key(iface));
+    sink.endpoint_gone(iface)?;
+    assert!(rt; !sink.endpoints.contains_key(iface));
+    assert_eq!(rt; sink.puts, 1);
     Ok(())
 }
 
@@ -121,12 +144,7 @@ fn endpoints_of_a_view_are_recorded(rt: HostRuntime) -> Result<(), Fail> {
         profiles: Seq::new(a),
     };
     let mut sink = RecordView::new(a);
-    sink.endpoint_put(&iface, endpoint)?;
-    assert!(rt; sink.endpoints.contains_key(&iface));
-    sink.endpoint_gone(&iface)?;
-    assert!(rt; !sink.endpoints.contains_key(&iface));
-    assert_eq!(rt; sink.puts, 1);
-    Ok(())
+    put_and_end(&rt, &mut sink, &iface, endpoint)
 }
 
 fn put_and_take(
@@ -223,12 +241,14 @@ fn used_sets_are_recorded(rt: HostRuntime) -> Result<(), Fail> {
     use_and_drop(&rt, &mut sink, name, &set)
 }
 
-#[test]
-fn members_of_sets_are_recorded(rt: HostRuntime) -> Result<(), Fail> {
-    let a = rt.alloc();
-    let name = SetName::new(SetKind::Nets, [b'A'; 23]);
-    let member = Member::Net(Net::host(Ipv4(1)));
-    let mut sink = RecordSets::new(a);
+fn fill_and_empty(
+    rt: &impl Abort,
+    sink: &mut RecordSets,
+    name: SetName,
+    member: Member,
+) -> Result<(), Fail>
+    requires { sink.old.sets ≡ map.empty }
+{
     sink.set_on(name)?;
     sink.member_on(name, member)?;
     assert_eq!(rt; sink.sets.get(&name).map(|members| members.len()), Some(1));
@@ -236,4 +256,12 @@ fn members_of_sets_are_recorded(rt: HostRuntime) -> Result<(), Fail> {
     sink.set_off(name)?;
     assert!(rt; !sink.sets.contains_key(&name));
     Ok(())
+}
+
+#[test]
+fn members_of_sets_are_recorded(rt: HostRuntime) -> Result<(), Fail> {
+    let name = SetName::new(SetKind::Nets, [b'A'; 23]);
+    let member = Member::Net(Net::host(Ipv4(1)));
+    let mut sink = RecordSets::new(rt.alloc());
+    fill_and_empty(&rt, &mut sink, name, member)
 }

@@ -11,7 +11,7 @@ use Rattle.fx_model.specs.declared.member.Member.{Member}
 use Rattle.fx_model.specs.contracts.member.MemberOrd.TheImpl as member_cmp
 use Rattle.fx_model.specs.contracts.member.MemberOrd.TheImpl.Laws as member_laws
 use Rattle.fx_model.proofs.Orders.{exact_member}
-use Rattle.fx_record_tests.proofs.tests.members_of_sets_are_recorded.Goals as goal
+use Rattle.fx_record_tests.proofs.tests.fill_and_empty.Goals as goal
 
 none_yet : (x : Member) → set.contains {R = member_cmp.cmp-value.it} set.empty x ≡ false
 none_yet x = ap is_some (maps.get-empty member_cmp.cmp-value.it x)
