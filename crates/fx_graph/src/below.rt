@@ -12,6 +12,7 @@ use fx_base::{Memory, Text};
 use fx_graph_view::{put_endpoint, put_item, put_tier, remove_endpoint, remove_item, remove_tier};
 use fx_model::{Item, ItemKey, Tier, profile_keys};
 use fx_names::{DigestFunction, DigestRule, Namer};
+use std::marker::Brand;
 
 impl Nodes {
     /// Puts an item among those that give members to sets.
@@ -21,7 +22,7 @@ impl Nodes {
         ensures beside { OnOk result (IsBeside self.old self.new) }
         ensures settled { OnOk result (IsInStep R.digest_of None self.new) }
     {
-        put_item(
+        put_item::<Brand>(
             self.alloc,
             key,
             item,
@@ -38,7 +39,7 @@ impl Nodes {
         ensures beside { OnOk result (IsBeside self.old self.new) }
         ensures settled { OnOk result (IsInStep R.digest_of None self.new) }
     {
-        remove_item(self.alloc, key, &mut self.members, &mut self.sequencer)?;
+        remove_item::<Brand>(self.alloc, key, &mut self.members, &mut self.sequencer)?;
         Ok(())
     }
 
@@ -61,7 +62,7 @@ impl Nodes {
     {
         let keys = profile_keys(self.alloc, profiles, namer)?;
         let resolver = &mut self.resolver;
-        put_endpoint(self.alloc, key, iface, &keys, resolver, &mut self.sequencer)?;
+        put_endpoint::<Brand>(self.alloc, key, iface, &keys, resolver, &mut self.sequencer)?;
         Ok(())
     }
 
@@ -72,7 +73,7 @@ impl Nodes {
         ensures beside { OnOk result (IsBeside self.old self.new) }
         ensures settled { OnOk result (IsInStep R.digest_of None self.new) }
     {
-        remove_endpoint(self.alloc, key, &mut self.resolver, &mut self.sequencer)?;
+        remove_endpoint::<Brand>(self.alloc, key, &mut self.resolver, &mut self.sequencer)?;
         Ok(())
     }
 
@@ -83,7 +84,7 @@ impl Nodes {
         ensures beside { OnOk result (IsBeside self.old self.new) }
         ensures settled { OnOk result (IsInStep R.digest_of None self.new) }
     {
-        put_tier(
+        put_tier::<Brand>(
             self.alloc,
             name,
             tier,
@@ -100,7 +101,7 @@ impl Nodes {
         ensures beside { OnOk result (IsBeside self.old self.new) }
         ensures settled { OnOk result (IsInStep R.digest_of None self.new) }
     {
-        remove_tier(self.alloc, name, &mut self.resolver, &mut self.sequencer)?;
+        remove_tier::<Brand>(self.alloc, name, &mut self.resolver, &mut self.sequencer)?;
         Ok(())
     }
 }

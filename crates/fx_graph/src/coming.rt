@@ -14,6 +14,7 @@ use fx_members::Members;
 use fx_model::{ActiveSink, SetUse};
 use fx_sequencer::Sequencer;
 use std::alloc::Global;
+use std::marker::Brand;
 
 fn feed_one_in<S: ActiveSink, T: Ticker>(
     alloc: Global,
@@ -39,8 +40,8 @@ fn feed_one_in<S: ActiveSink, T: Ticker>(
         return Ok(());
     };
     let text = set.selector.canonical(alloc)?;
-    let changes = joined.put_selector(&text, &set.selector, sink, ticks)?;
-    supply_matches(alloc, changes.as_slice(), &joined.pairs, members, sequencer)?;
+    let changes = joined.put_selector::<Brand, S, T>(&text, &set.selector, sink, ticks)?;
+    supply_matches::<Brand>(alloc, changes.as_slice(), &joined.pairs, members, sequencer)?;
     Ok(())
 }
 

@@ -11,6 +11,7 @@ use crate::nodes::Nodes;
 use fx_base::{Memory, Ticker};
 use fx_model::{Endpoint, Item, ItemKey};
 use fx_names::{DigestFunction, DigestRule, Namer};
+use std::marker::Brand;
 
 impl Nodes {
     /// Puts an endpoint of this node that is in service.
@@ -35,7 +36,7 @@ impl Nodes {
         let profiles = endpoint.profiles.as_slice();
         self.contribute::<R>(key, item)?;
         self.put_local(key, &endpoint.iface, profiles, namer)?;
-        self.label_served(key, &endpoint.labels, profiles, namer, ticks)?;
+        self.label_served::<Brand, R, F, T>(key, &endpoint.labels, profiles, namer, ticks)?;
         Ok(())
     }
 
@@ -58,7 +59,7 @@ impl Nodes {
         let profiles = endpoint.profiles.as_slice();
         self.contribute::<R>(key, item)?;
         self.remove_local::<R>(key)?;
-        self.label_other(key, &endpoint.labels, profiles, namer, ticks)?;
+        self.label_other::<Brand, R, F, T>(key, &endpoint.labels, profiles, namer, ticks)?;
         Ok(())
     }
 
@@ -77,7 +78,7 @@ impl Nodes {
     {
         self.withdraw::<R>(key)?;
         self.remove_local::<R>(key)?;
-        self.unlabel(key, namer, ticks)?;
+        self.unlabel::<Brand, R, F, T>(key, namer, ticks)?;
         Ok(())
     }
 }

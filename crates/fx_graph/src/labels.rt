@@ -9,30 +9,11 @@ use fx_graph_rules::{ActiveLog, ActiveStart, ActiveTold};
 use fx_model::ItemKey;
 use fx_names::{DigestFunction, DigestRule, Namer};
 use fx_selector::Labels;
-use std::marker::Brand;
 use std::mem;
 
 impl Nodes {
-    /// Puts an endpoint of this node that is in service.
-    pub fn label_served<R: DigestRule, F: DigestFunction<R> + Drop, T: Ticker>(
-        &mut self,
-        key: &ItemKey,
-        labels: &Labels,
-        parents: &[Text],
-        namer: &Namer<R, F>,
-        ticks: &mut T,
-    ) -> Result<(), Memory>
-        requires settled { IsInStep R.digest_of None self.old }
-        requires apart { AreApart R.digest_of (labelled_served key.now labels.now parents.now (taken_of self.old)) }
-        ensures taken { OnOk result (taken_of self.new ≡ labelled_served key.now labels.now parents.now (taken_of self.old)) }
-        ensures beside { OnOk result (IsBeside self.old self.new) }
-        ensures settled { OnOk result (IsInStep R.digest_of None self.new) }
-    {
-        self.label_served_by::<Brand, R, F, T>(key, labels, parents, namer, ticks)?;
-        Ok(())
-    }
-
-    fn label_served_by<K: ActiveStart, R: DigestRule, F: DigestFunction<R> + Drop, T: Ticker>(
+    /// Puts an endpoint of this node that is in service. The type parameter names what was told so far.
+    pub fn label_served<K: ActiveStart, R: DigestRule, F: DigestFunction<R> + Drop, T: Ticker>(
         &mut self,
         key: &ItemKey,
         labels: &Labels,
@@ -56,26 +37,8 @@ impl Nodes {
         Ok(())
     }
 
-    /// Puts any other item.
-    pub fn label_other<R: DigestRule, F: DigestFunction<R> + Drop, T: Ticker>(
-        &mut self,
-        key: &ItemKey,
-        labels: &Labels,
-        parents: &[Text],
-        namer: &Namer<R, F>,
-        ticks: &mut T,
-    ) -> Result<(), Memory>
-        requires settled { IsInStep R.digest_of None self.old }
-        requires apart { AreApart R.digest_of (labelled_other key.now labels.now parents.now (taken_of self.old)) }
-        ensures taken { OnOk result (taken_of self.new ≡ labelled_other key.now labels.now parents.now (taken_of self.old)) }
-        ensures beside { OnOk result (IsBeside self.old self.new) }
-        ensures settled { OnOk result (IsInStep R.digest_of None self.new) }
-    {
-        self.label_other_by::<Brand, R, F, T>(key, labels, parents, namer, ticks)?;
-        Ok(())
-    }
-
-    fn label_other_by<K: ActiveStart, R: DigestRule, F: DigestFunction<R> + Drop, T: Ticker>(
+    /// Puts any other item. The type parameter names what was told so far.
+    pub fn label_other<K: ActiveStart, R: DigestRule, F: DigestFunction<R> + Drop, T: Ticker>(
         &mut self,
         key: &ItemKey,
         labels: &Labels,
@@ -97,24 +60,8 @@ impl Nodes {
         Ok(())
     }
 
-    /// Removes an item, whether it is in service or not.
-    pub fn unlabel<R: DigestRule, F: DigestFunction<R> + Drop, T: Ticker>(
-        &mut self,
-        key: &ItemKey,
-        namer: &Namer<R, F>,
-        ticks: &mut T,
-    ) -> Result<(), Memory>
-        requires settled { IsInStep R.digest_of None self.old }
-        requires apart { AreApart R.digest_of (unlabelled key.now (taken_of self.old)) }
-        ensures taken { OnOk result (taken_of self.new ≡ unlabelled key.now (taken_of self.old)) }
-        ensures beside { OnOk result (IsBeside self.old self.new) }
-        ensures settled { OnOk result (IsInStep R.digest_of None self.new) }
-    {
-        self.unlabel_by::<Brand, R, F, T>(key, namer, ticks)?;
-        Ok(())
-    }
-
-    fn unlabel_by<K: ActiveStart, R: DigestRule, F: DigestFunction<R> + Drop, T: Ticker>(
+    /// Removes an item, whether it is in service or not. The type parameter names what was told so far.
+    pub fn unlabel<K: ActiveStart, R: DigestRule, F: DigestFunction<R> + Drop, T: Ticker>(
         &mut self,
         key: &ItemKey,
         namer: &Namer<R, F>,

@@ -13,6 +13,7 @@ use fx_members::Members;
 use fx_model::{ActiveSink, SetUse};
 use fx_sequencer::Sequencer;
 use std::alloc::Global;
+use std::marker::Brand;
 
 fn feed_one_out<S: ActiveSink, T: Ticker>(
     alloc: Global,
@@ -38,8 +39,8 @@ fn feed_one_out<S: ActiveSink, T: Ticker>(
         return Ok(());
     };
     let text = set.selector.canonical(alloc)?;
-    let changes = joined.remove_selector(&text, sink, ticks)?;
-    supply_matches(alloc, changes.as_slice(), &joined.pairs, members, sequencer)?;
+    let changes = joined.remove_selector::<Brand, S, T>(&text, sink, ticks)?;
+    supply_matches::<Brand>(alloc, changes.as_slice(), &joined.pairs, members, sequencer)?;
     Ok(())
 }
 

@@ -9,6 +9,7 @@ use crate::nodes::Nodes;
 use fx_base::{Memory, Ticker};
 use fx_model::{Item, ItemKey, NetSet, namespace_parents};
 use fx_names::{DigestFunction, DigestRule, Namer};
+use std::marker::Brand;
 
 impl Nodes {
     /// Puts a network set, which inherits the labels of its namespace's profile.
@@ -31,7 +32,7 @@ impl Nodes {
     {
         let parents = namespace_parents(self.alloc, key)?;
         self.contribute::<R>(key, item)?;
-        self.label_other(key, &net_set.labels, &parents, namer, ticks)?;
+        self.label_other::<Brand, R, F, T>(key, &net_set.labels, &parents, namer, ticks)?;
         Ok(())
     }
 
@@ -49,7 +50,7 @@ impl Nodes {
         ensures settled { OnOk result (IsInStep R.digest_of None self.new) }
     {
         self.withdraw::<R>(key)?;
-        self.unlabel(key, namer, ticks)?;
+        self.unlabel::<Brand, R, F, T>(key, namer, ticks)?;
         Ok(())
     }
 }

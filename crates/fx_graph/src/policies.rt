@@ -9,30 +9,12 @@ use fx_base::{Memory, Seq, Ticker};
 use fx_graph_rules::{ActiveLog, ActiveStart, ActiveTold};
 use fx_model::{Policy, PolicyId};
 use fx_names::{DigestFunction, DigestRule, Namer};
-use std::marker::Brand;
 use std::mem;
 
 impl Nodes {
     /// Puts a policy in the place of what was there. The selector that it had before counts until all else is told, so one that
-    /// a set takes up in its place is never out of use in between.
-    pub fn put_policy<R: DigestRule, F: DigestFunction<R> + Drop, T: Ticker>(
-        &mut self,
-        id: &PolicyId,
-        policy: &Policy,
-        namer: &Namer<R, F>,
-        ticks: &mut T,
-    ) -> Result<(), Memory>
-        requires settled { IsInStep R.digest_of None self.old }
-        requires apart { AreApart R.digest_of (with_policy id.now policy.now (taken_of self.old)) }
-        ensures taken { OnOk result (taken_of self.new ≡ with_policy id.now policy.now (taken_of self.old)) }
-        ensures beside { OnOk result (IsBeside self.old self.new) }
-        ensures settled { OnOk result (IsInStep R.digest_of None self.new) }
-    {
-        self.put_policy_by::<Brand, R, F, T>(id, policy, namer, ticks)?;
-        Ok(())
-    }
-
-    fn put_policy_by<K: ActiveStart, R: DigestRule, F: DigestFunction<R> + Drop, T: Ticker>(
+    /// a set takes up in its place is never out of use in between. The type parameter names what was told so far.
+    pub fn put_policy<K: ActiveStart, R: DigestRule, F: DigestFunction<R> + Drop, T: Ticker>(
         &mut self,
         id: &PolicyId,
         policy: &Policy,
@@ -54,24 +36,8 @@ impl Nodes {
         Ok(())
     }
 
-    /// Removes a policy.
-    pub fn remove_policy<R: DigestRule, F: DigestFunction<R> + Drop, T: Ticker>(
-        &mut self,
-        id: &PolicyId,
-        namer: &Namer<R, F>,
-        ticks: &mut T,
-    ) -> Result<(), Memory>
-        requires settled { IsInStep R.digest_of None self.old }
-        requires apart { AreApart R.digest_of (without_policy id.now (taken_of self.old)) }
-        ensures taken { OnOk result (taken_of self.new ≡ without_policy id.now (taken_of self.old)) }
-        ensures beside { OnOk result (IsBeside self.old self.new) }
-        ensures settled { OnOk result (IsInStep R.digest_of None self.new) }
-    {
-        self.remove_policy_by::<Brand, R, F, T>(id, namer, ticks)?;
-        Ok(())
-    }
-
-    fn remove_policy_by<K: ActiveStart, R: DigestRule, F: DigestFunction<R> + Drop, T: Ticker>(
+    /// Removes a policy. The type parameter names what was told so far.
+    pub fn remove_policy<K: ActiveStart, R: DigestRule, F: DigestFunction<R> + Drop, T: Ticker>(
         &mut self,
         id: &PolicyId,
         namer: &Namer<R, F>,

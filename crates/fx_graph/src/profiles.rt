@@ -9,29 +9,11 @@ use fx_base::{Memory, Text, Ticker};
 use fx_graph_rules::{ActiveLog, ActiveStart, ActiveTold};
 use fx_model::Profile;
 use fx_names::{DigestFunction, DigestRule, Namer};
-use std::marker::Brand;
 use std::mem;
 
 impl Nodes {
-    /// Puts a profile in the place of what was there.
-    pub fn put_profile<R: DigestRule, F: DigestFunction<R> + Drop, T: Ticker>(
-        &mut self,
-        name: &Text,
-        profile: &Profile,
-        namer: &Namer<R, F>,
-        ticks: &mut T,
-    ) -> Result<(), Memory>
-        requires settled { IsInStep R.digest_of None self.old }
-        requires apart { AreApart R.digest_of (with_profile name.now profile.now (taken_of self.old)) }
-        ensures taken { OnOk result (taken_of self.new ≡ with_profile name.now profile.now (taken_of self.old)) }
-        ensures beside { OnOk result (IsBeside self.old self.new) }
-        ensures settled { OnOk result (IsInStep R.digest_of None self.new) }
-    {
-        self.put_profile_by::<Brand, R, F, T>(name, profile, namer, ticks)?;
-        Ok(())
-    }
-
-    fn put_profile_by<K: ActiveStart, R: DigestRule, F: DigestFunction<R> + Drop, T: Ticker>(
+    /// Puts a profile in the place of what was there. The type parameter names what was told so far.
+    pub fn put_profile<K: ActiveStart, R: DigestRule, F: DigestFunction<R> + Drop, T: Ticker>(
         &mut self,
         name: &Text,
         profile: &Profile,
@@ -52,24 +34,8 @@ impl Nodes {
         Ok(())
     }
 
-    /// Removes a profile.
-    pub fn remove_profile<R: DigestRule, F: DigestFunction<R> + Drop, T: Ticker>(
-        &mut self,
-        name: &Text,
-        namer: &Namer<R, F>,
-        ticks: &mut T,
-    ) -> Result<(), Memory>
-        requires settled { IsInStep R.digest_of None self.old }
-        requires apart { AreApart R.digest_of (without_profile name.now (taken_of self.old)) }
-        ensures taken { OnOk result (taken_of self.new ≡ without_profile name.now (taken_of self.old)) }
-        ensures beside { OnOk result (IsBeside self.old self.new) }
-        ensures settled { OnOk result (IsInStep R.digest_of None self.new) }
-    {
-        self.remove_profile_by::<Brand, R, F, T>(name, namer, ticks)?;
-        Ok(())
-    }
-
-    fn remove_profile_by<K: ActiveStart, R: DigestRule, F: DigestFunction<R> + Drop, T: Ticker>(
+    /// Removes a profile. The type parameter names what was told so far.
+    pub fn remove_profile<K: ActiveStart, R: DigestRule, F: DigestFunction<R> + Drop, T: Ticker>(
         &mut self,
         name: &Text,
         namer: &Namer<R, F>,

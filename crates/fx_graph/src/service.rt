@@ -59,7 +59,7 @@ impl Nodes {
     {
         let waiting = mem::replace(&mut self.waiting, ItemMap::new(self.alloc));
         self.put_locals(&waiting, namer)?;
-        self.serve_all::<R, F, T>(&waiting, namer, ticks)?;
+        self.serve_all::<Brand, R, F, T>(&waiting, namer, ticks)?;
         Ok(())
     }
 
@@ -85,23 +85,8 @@ impl Nodes {
         Ok(())
     }
 
-    fn serve_all<R: DigestRule, F: DigestFunction<R> + Drop, T: Ticker>(
-        &mut self,
-        waiting: &ItemMap<Waiting>,
-        namer: &Namer<R, F>,
-        ticks: &mut T,
-    ) -> Result<(), Memory>
-        requires settled { IsInStep R.digest_of None self.old }
-        requires apart { AreApart R.digest_of (serving waiting.now (taken_of self.old)) }
-        ensures taken { OnOk result (taken_of self.new ≡ serving waiting.now (taken_of self.old)) }
-        ensures beside { OnOk result (IsBeside self.old self.new) }
-        ensures settled { OnOk result (IsInStep R.digest_of None self.new) }
-    {
-        self.serve_all_by::<Brand, R, F, T>(waiting, namer, ticks)?;
-        Ok(())
-    }
-
-    fn serve_all_by<K: ActiveStart, R: DigestRule, F: DigestFunction<R> + Drop, T: Ticker>(
+    // Tells the active rules of all of them, and the nodes below. The type parameter names what was told so far.
+    fn serve_all<K: ActiveStart, R: DigestRule, F: DigestFunction<R> + Drop, T: Ticker>(
         &mut self,
         waiting: &ItemMap<Waiting>,
         namer: &Namer<R, F>,

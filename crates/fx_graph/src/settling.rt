@@ -11,6 +11,7 @@ use fx_base::{Memory, Seq, Text, Ticker};
 use fx_graph_rules::{Logged, PairChange};
 use fx_graph_view::{resolve, scan, supply_matches, supply_uses};
 use fx_names::{DigestFunction, DigestRule, Namer};
+use std::marker::Brand;
 
 impl Nodes {
     /// Brings the nodes below to what the upper nodes told: the members to the changes of pairs, then scanner and resolver to the
@@ -35,8 +36,8 @@ impl Nodes {
         let pairs = &self.upper.joined.pairs;
         let members = &mut self.members;
         let sequencer = &mut self.sequencer;
-        supply_matches(alloc, changes.as_slice(), pairs, members, sequencer)?;
-        let noted = scan(
+        supply_matches::<Brand>(alloc, changes.as_slice(), pairs, members, sequencer)?;
+        let noted = scan::<Brand, R, F>(
             alloc,
             &logged,
             namer,
@@ -44,8 +45,8 @@ impl Nodes {
             &mut self.uses,
             sequencer,
         )?;
-        resolve(alloc, &logged, namer, &mut self.resolver, sequencer)?;
-        supply_uses(alloc, &noted, &self.uses, members, sequencer)?;
+        resolve::<Brand, R, F>(alloc, &logged, namer, &mut self.resolver, sequencer)?;
+        supply_uses::<Brand>(alloc, &noted, &self.uses, members, sequencer)?;
         self.told = logged.told;
         let upper = &mut self.upper;
         feed(
@@ -76,7 +77,7 @@ impl Nodes {
         let pairs = &self.upper.joined.pairs;
         let members = &mut self.members;
         let sequencer = &mut self.sequencer;
-        supply_matches(self.alloc, changes.as_slice(), pairs, members, sequencer)?;
+        supply_matches::<Brand>(self.alloc, changes.as_slice(), pairs, members, sequencer)?;
         Ok(())
     }
 }

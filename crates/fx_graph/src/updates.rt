@@ -10,6 +10,7 @@ use crate::state::GraphState;
 use fx_base::{Memory, Text, Ticker};
 use fx_model::{Item, ItemKey, Key, NetSet, Policy, PolicyId, Profile, Tier};
 use fx_names::{DigestFunction, DigestRule, Namer};
+use std::marker::Brand;
 
 impl GraphState {
     /// Puts a resource. An item of another kind than its key changes nothing.
@@ -125,7 +126,7 @@ impl GraphState {
         ensures sent { OnOk result ((sides_of self.new).sent ≡ (sides_of self.old).sent) }
     {
         let nodes = &mut self.nodes;
-        nodes.put_profile(name, profile, namer, ticks)?;
+        nodes.put_profile::<Brand, R, F, T>(name, profile, namer, ticks)?;
         Ok(())
     }
 
@@ -140,7 +141,7 @@ impl GraphState {
         ensures sent { OnOk result ((sides_of self.new).sent ≡ (sides_of self.old).sent) }
     {
         let nodes = &mut self.nodes;
-        nodes.remove_profile(name, namer, ticks)?;
+        nodes.remove_profile::<Brand, R, F, T>(name, namer, ticks)?;
         Ok(())
     }
 
@@ -157,7 +158,7 @@ impl GraphState {
         ensures sent { OnOk result ((sides_of self.new).sent ≡ (sides_of self.old).sent) }
     {
         let nodes = &mut self.nodes;
-        nodes.put_policy(id, policy, namer, ticks)?;
+        nodes.put_policy::<Brand, R, F, T>(id, policy, namer, ticks)?;
         Ok(())
     }
 
@@ -172,7 +173,7 @@ impl GraphState {
         ensures sent { OnOk result ((sides_of self.new).sent ≡ (sides_of self.old).sent) }
     {
         let nodes = &mut self.nodes;
-        nodes.remove_policy(id, namer, ticks)?;
+        nodes.remove_policy::<Brand, R, F, T>(id, namer, ticks)?;
         Ok(())
     }
 

@@ -16,7 +16,6 @@ use fx_label_index::LabelIndex;
 use fx_model::{ActiveSink, ItemKey, PairSet};
 use fx_selector::{Labels, Selector};
 use std::alloc::Global;
-use std::marker::Brand;
 use std::mem;
 
 /// The index, the pairs that it told, and the active rules, which know them. Each call answers with the changes of pairs, in
@@ -147,28 +146,8 @@ impl Joined {
         Ok(changes)
     }
 
-    /// Counts a selector once more.
-    pub fn put_selector<S: ActiveSink, T: Ticker>(
-        &mut self,
-        text: &Text,
-        selector: &Selector,
-        sink: &mut S,
-        ticks: &mut T,
-    ) -> Result<Seq<PairChange>, Memory>
-        requires text { text.now ≡ canonical_text selector.now }
-        requires selector { IsSelector selector.now }
-        requires joined { IsJoined self.old (S.policies sink.old) (S.profiles sink.old) (S.pairs sink.old) }
-        ensures index { OnOk result (self.new.index ≡ record self.old.index
-            { selectors = raised self.old.index.selectors text.now selector.now }) }
-        ensures changes { IfOk result (λ changes. IsRun changes self.old.pairs self.new.pairs) }
-        ensures active { OnOk result (self.new.active ≡ record self.old.active { matched = self.new.pairs }) }
-        ensures joined { OnOk result (IsJoined self.new (S.policies sink.new) (S.profiles sink.new) (S.pairs sink.new)) }
-    {
-        let changes = self.put_selector_by::<Brand, S, T>(text, selector, sink, ticks)?;
-        Ok(changes)
-    }
-
-    fn put_selector_by<K: PairStart, S: ActiveSink, T: Ticker>(
+    /// Counts a selector once more. The type parameter names the pairs as they stand.
+    pub fn put_selector<K: PairStart, S: ActiveSink, T: Ticker>(
         &mut self,
         text: &Text,
         selector: &Selector,
@@ -193,25 +172,8 @@ impl Joined {
         Ok(changes)
     }
 
-    /// Counts a selector once less.
-    pub fn remove_selector<S: ActiveSink, T: Ticker>(
-        &mut self,
-        text: &Text,
-        sink: &mut S,
-        ticks: &mut T,
-    ) -> Result<Seq<PairChange>, Memory>
-        requires joined { IsJoined self.old (S.policies sink.old) (S.profiles sink.old) (S.pairs sink.old) }
-        ensures index { OnOk result (self.new.index ≡ record self.old.index
-            { selectors = lowered self.old.index.selectors text.now }) }
-        ensures changes { IfOk result (λ changes. IsRun changes self.old.pairs self.new.pairs) }
-        ensures active { OnOk result (self.new.active ≡ record self.old.active { matched = self.new.pairs }) }
-        ensures joined { OnOk result (IsJoined self.new (S.policies sink.new) (S.profiles sink.new) (S.pairs sink.new)) }
-    {
-        let changes = self.remove_selector_by::<Brand, S, T>(text, sink, ticks)?;
-        Ok(changes)
-    }
-
-    fn remove_selector_by<K: PairStart, S: ActiveSink, T: Ticker>(
+    /// Counts a selector once less. The type parameter names the pairs as they stand.
+    pub fn remove_selector<K: PairStart, S: ActiveSink, T: Ticker>(
         &mut self,
         text: &Text,
         sink: &mut S,

@@ -14,7 +14,7 @@ pub use active_log::{ActiveLog, ActiveStart, Logged, PolicyPairChange};
 pub use active_told::ActiveTold;
 pub use join::Joined;
 pub use nodes::{Replaced, Upper};
-pub use pair_log::PairChange;
+pub use pair_log::{PairChange, PairStart};
 
 mod active_log;
 mod active_told;

@@ -81,7 +81,7 @@ impl Upper {
         let text = policy.selector.canonical(self.alloc)?;
         let changes = self
             .joined
-            .put_selector(&text, &policy.selector, sink, ticks)?;
+            .put_selector::<Brand, S, T>(&text, &policy.selector, sink, ticks)?;
         self.joined.active.put_policy(id, policy, sink)?;
         Ok(Replaced { before, changes })
     }
@@ -133,7 +133,9 @@ impl Upper {
         ensures profiles { OnOk result (S.profiles sink.new ≡ S.profiles sink.old) }
         ensures pairs { OnOk result (S.pairs sink.new ≡ S.pairs sink.old) }
     {
-        let changes = self.joined.remove_selector(text, sink, ticks)?;
+        let changes = self
+            .joined
+            .remove_selector::<Brand, S, T>(text, sink, ticks)?;
         Ok(changes)
     }
 

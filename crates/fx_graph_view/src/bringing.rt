@@ -26,10 +26,11 @@ use fx_resolver::Resolver;
 use fx_scanner::RuleScanner;
 use fx_sequencer::Sequencer;
 use std::alloc::Global;
-use std::marker::Brand;
 use std::mem;
 
-fn scan_by<K: ScanStart, R: DigestRule, F: DigestFunction<R> + Drop>(
+/// Brings the scanner to the policies and profiles that stand now, and the sets that are used to those of their rules. The answer
+/// has what sets of which something was told were before. The type parameter names what stands.
+pub fn scan<K: ScanStart, R: DigestRule, F: DigestFunction<R> + Drop>(
     alloc: Global,
     logged: &Logged,
     namer: &Namer<R, F>,
@@ -61,33 +62,8 @@ fn scan_by<K: ScanStart, R: DigestRule, F: DigestFunction<R> + Drop>(
     Ok(scanned.before)
 }
 
-/// Brings the scanner to the policies and profiles that stand now, and the sets that are used to those of their rules. The answer
-/// has what sets of which something was told were before.
-pub fn scan<R: DigestRule, F: DigestFunction<R> + Drop>(
-    alloc: Global,
-    logged: &Logged,
-    namer: &Namer<R, F>,
-    scanner: &mut RuleScanner,
-    uses: &mut SetMap<SetUse>,
-    sequencer: &mut Sequencer,
-) -> Result<SetMap<Option<SetUse>>, Memory>
-    requires policies { IsTouched logged.now.policies scanner.old.policies logged.now.told.policies }
-    requires profiles { IsTouched logged.now.profiles scanner.old.profiles logged.now.told.profiles }
-    requires apart { IsApart R.digest_of (record { policies = logged.now.told.policies; profiles = logged.now.told.profiles }) }
-    requires formed { AreFormed uses.old }
-    requires scanned { IsScanned R.digest_of scanner.old sequencer.old.now.policies sequencer.old.now.profiles uses.old }
-    ensures inputs { OnOk result (scanner.new ≡ record { policies = logged.now.told.policies; profiles = logged.now.told.profiles }) }
-    ensures noted { IfOk result (λ before. AreNoted before uses.old uses.new) }
-    ensures formed { OnOk result (AreFormed uses.new) }
-    ensures scanned { OnOk result (IsScanned R.digest_of scanner.new sequencer.new.now.policies sequencer.new.now.profiles uses.new) }
-    ensures beside { OnOk result (SameSentAndSets sequencer.old sequencer.new) }
-    ensures endpoints { OnOk result (sequencer.new.now.endpoints ≡ sequencer.old.now.endpoints) }
-{
-    let before = scan_by::<Brand, R, F>(alloc, logged, namer, scanner, uses, sequencer)?;
-    Ok(before)
-}
-
-fn resolve_by<K: Beside, R: DigestRule, F: DigestFunction<R> + Drop>(
+/// Brings the resolver to the policies and pairs that stand now. The type parameter names what stands.
+pub fn resolve<K: Beside, R: DigestRule, F: DigestFunction<R> + Drop>(
     alloc: Global,
     logged: &Logged,
     namer: &Namer<R, F>,
@@ -113,30 +89,8 @@ fn resolve_by<K: Beside, R: DigestRule, F: DigestFunction<R> + Drop>(
     Ok(())
 }
 
-/// Brings the resolver to the policies and pairs that stand now.
-pub fn resolve<R: DigestRule, F: DigestFunction<R> + Drop>(
-    alloc: Global,
-    logged: &Logged,
-    namer: &Namer<R, F>,
-    resolver: &mut Resolver,
-    sequencer: &mut Sequencer,
-) -> Result<(), Memory>
-    requires behind { AreKnownBut R.digest_of logged.now.policies logged.now.told.policies resolver.old.policies }
-    requires run { IsPairRun logged.now.pairs resolver.old.pairs logged.now.told.pairs }
-    requires resolved { IsResolved resolver.old sequencer.old.now.endpoints }
-    ensures inputs { OnOk result (resolver.new ≡ record resolver.old
-        { policies = resolver.new.policies; pairs = logged.now.told.pairs }) }
-    ensures known { OnOk result (AreKnown R.digest_of logged.now.told.policies resolver.new.policies) }
-    ensures resolved { OnOk result (IsResolved resolver.new sequencer.new.now.endpoints) }
-    ensures beside { OnOk result (SameSentAndSets sequencer.old sequencer.new) }
-    ensures policies { OnOk result (sequencer.new.now.policies ≡ sequencer.old.now.policies) }
-    ensures profiles { OnOk result (sequencer.new.now.profiles ≡ sequencer.old.now.profiles) }
-{
-    resolve_by::<Brand, R, F>(alloc, logged, namer, resolver, sequencer)?;
-    Ok(())
-}
-
-fn supply_uses_by<K: Beside>(
+/// Brings the sets whose members are kept to those that are used now. The type parameter names what stands.
+pub fn supply_uses<K: Beside>(
     alloc: Global,
     before: &SetMap<Option<SetUse>>,
     uses: &SetMap<SetUse>,
@@ -158,26 +112,8 @@ fn supply_uses_by<K: Beside>(
     Ok(())
 }
 
-/// Brings the sets whose members are kept to those that are used now.
-pub fn supply_uses(
-    alloc: Global,
-    before: &SetMap<Option<SetUse>>,
-    uses: &SetMap<SetUse>,
-    members: &mut Members,
-    sequencer: &mut Sequencer,
-) -> Result<(), Memory>
-    requires noted { AreNoted before.now members.old.uses uses.now }
-    requires formed { AreFormed uses.now }
-    requires members { AreMembers members.old sequencer.old.now.sets }
-    ensures inputs { OnOk result (members.new ≡ record members.old { uses = uses.now }) }
-    ensures members { OnOk result (AreMembers members.new sequencer.new.now.sets) }
-    ensures beside { OnOk result (SameButSets sequencer.old sequencer.new) }
-{
-    supply_uses_by::<Brand>(alloc, before, uses, members, sequencer)?;
-    Ok(())
-}
-
-fn supply_matches_by<K: Beside>(
+/// Hands the members changes of the index's pairs, in their order. The type parameter names what stands.
+pub fn supply_matches<K: Beside>(
     alloc: Global,
     changes: &[PairChange],
     pairs: &PairSet,
@@ -195,23 +131,5 @@ fn supply_matches_by<K: Beside>(
     let mut part: SetPart<K> = SetPart::new(whole);
     match_through(changes, pairs, members, &mut part)?;
     *sequencer = part.into_sequencer();
-    Ok(())
-}
-
-/// Hands the members changes of the index's pairs, in their order.
-pub fn supply_matches(
-    alloc: Global,
-    changes: &[PairChange],
-    pairs: &PairSet,
-    members: &mut Members,
-    sequencer: &mut Sequencer,
-) -> Result<(), Memory>
-    requires run { IsRun changes.now members.old.matched pairs.now }
-    requires members { AreMembers members.old sequencer.old.now.sets }
-    ensures inputs { OnOk result (members.new ≡ record members.old { matched = pairs.now }) }
-    ensures members { OnOk result (AreMembers members.new sequencer.new.now.sets) }
-    ensures beside { OnOk result (SameButSets sequencer.old sequencer.new) }
-{
-    supply_matches_by::<Brand>(alloc, changes, pairs, members, sequencer)?;
     Ok(())
 }

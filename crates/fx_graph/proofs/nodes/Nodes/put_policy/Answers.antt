@@ -1,0 +1,44 @@
+use Rattle.std.proofs.Common.{◌≡◌, None, refl, sym, ◌∙◌, subst}
+use Rattle.fx_graph_rules.specs.Composed.{IsComposed}
+use Rattle.fx_graph_rules.specs.Counting.{with_some}
+use Rattle.fx_graph_rules.specs.Uppers.{AreInStep}
+use Rattle.fx_graph.specs.Used.{used_in}
+use Rattle.fx_graph.specs.Taking.{taken_of}
+use Rattle.fx_graph.specs.BehindBy.{IsBehindBy}
+use Rattle.fx_graph.proofs.Kept.{ahead}
+use Rattle.fx_graph.proofs.nodes.Nodes.put_policy.Goals as goal
+
+pub put_policy-requires : goal.put_policy-requires
+put_policy-requires g c =
+    (used_in c.args.self.now.uses, subst (λ t. AreInStep c.args.self.now.upper.joined (used_in c.args.self.now.uses) t.policies t.profiles t.pairs) (sym (c.new-log.ensures ∙ c.replace-told.ensures.value)) c.requires.settled.upper)
+
+pub settle-requires-clause-ahead : goal.settle-requires-clause-ahead
+settle-requires-clause-ahead g c =
+    let first = subst (λ t. AreInStep c.args.self.now.upper.joined (used_in c.args.self.now.uses) t.policies t.profiles t.pairs) (sym (c.new-log.ensures ∙ c.replace-told.ensures.value)) c.requires.settled.upper in (
+      c.in_ok-replaced.replaced.before,
+      ahead g.R.DigestRule.digest_of c.args.self.now c.requires.settled g.K.ActiveStart.told_then c.into_logged.result c.requires.start c.into_logged.ensures.since c.in_ok-replaced.replaced.before _ _ _
+          (subst (λ l. AreInStep c.put_policy.new.self.joined (with_some c.in_ok-replaced.replaced.before (used_in c.args.self.now.uses)) l.told.policies l.told.profiles l.told.pairs) (sym c.into_logged.ensures.logged) (c.in_ok-replaced.ensures.upper (used_in c.args.self.now.uses) first))
+          c.in_ok-replaced.ensures.changes,
+    )
+
+pub settle-requires-clause-apart : goal.settle-requires-clause-apart
+settle-requires-clause-apart g c =
+    let i = c.in_ok-replaced.ensures.index in
+    let a = c.in_ok-replaced.ensures.active in
+    c.requires.apart _ _ _ _ _ (λ j. (i j).items) (λ j. (i j).parents) (λ j. (a j).policies) (λ j. (a j).profiles) (λ j. (a j).endpoints)
+    (subst (λ l. IsComposed c.put_policy.new.self.joined.index c.put_policy.new.self.joined.active l.told.policies l.told.profiles l.told.pairs) (sym c.into_logged.ensures.logged) c.in_ok-replaced.ensures.composed)
+
+pub returns-clause-taken : goal.returns-clause-taken
+returns-clause-taken g c =
+    let i = c.in_ok-replaced.ensures.index in
+    let a = c.in_ok-replaced.ensures.active in
+    c.in_ok-forget.ensures.taken ∙ c.in_ok-settle.ensures.taken
+    ∙ (λ j. record (taken_of c.args.self.now) { items = (i j).items; parents = (i j).parents; policies = (a j).policies; profiles = (a j).profiles; endpoints = (a j).endpoints })
+
+pub forget-requires : goal.forget-requires
+forget-requires g c =
+    let first = subst (λ t. AreInStep c.args.self.now.upper.joined (used_in c.args.self.now.uses) t.policies t.profiles t.pairs) (sym (c.new-log.ensures ∙ c.replace-told.ensures.value)) c.requires.settled.upper in
+    c.in_ok-settle.ensures.settled c.in_ok-replaced.replaced.before
+    (ahead g.R.DigestRule.digest_of c.args.self.now c.requires.settled g.K.ActiveStart.told_then c.into_logged.result c.requires.start c.into_logged.ensures.since c.in_ok-replaced.replaced.before _ _ _
+    (subst (λ l. AreInStep c.put_policy.new.self.joined (with_some c.in_ok-replaced.replaced.before (used_in c.args.self.now.uses)) l.told.policies l.told.profiles l.told.pairs) (sym c.into_logged.ensures.logged) (c.in_ok-replaced.ensures.upper (used_in c.args.self.now.uses) first))
+    c.in_ok-replaced.ensures.changes)
