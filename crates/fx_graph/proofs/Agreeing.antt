@@ -36,7 +36,7 @@ module _ (dg : Digest) (g : Nodes) (s : IsInStep dg None g) where
       (more (times g.upper.joined.active.policies (canonical_text u.selector)) (used_in g.uses (canonical_text u.selector)) (use_counted g.uses name u at))
       (labels_of (map.get g.upper.joined.index.parents) (map.get g.upper.joined.index.items i))
 
-  pub told_of : IsTold dg g.upper.joined.index g.upper.joined.active g.told.policies g.told.profiles g.told.pairs g.scanner g.resolver g.members g.sequencer.now g.uses
+  pub told_of : IsTold dg g.upper.joined.index g.upper.joined.active g.told.policies g.told.profiles g.told.pairs g.scanner g.resolver g.members g.sequencer.wanted g.uses
   told_of = record {
     composed = composed g.upper.joined (used_in g.uses) g.told.policies g.told.profiles g.told.pairs s.upper;
     scanned_policies = s.policies;
@@ -57,6 +57,6 @@ graph_of dg g s R node in_sync tied waiting = record {
   node = node;
   in_sync = in_sync;
   nodes = record { settled = s; tied = tied; waiting = waiting };
-  now = view_is_made dg R g.nodes.upper.joined.index g.nodes.upper.joined.active g.nodes.told.policies g.nodes.told.profiles g.nodes.told.pairs g.nodes.scanner g.nodes.resolver g.nodes.members g.nodes.sequencer.now g.nodes.uses
+  now = view_is_made dg R g.nodes.upper.joined.index g.nodes.upper.joined.active g.nodes.told.policies g.nodes.told.profiles g.nodes.told.pairs g.nodes.scanner g.nodes.resolver g.nodes.members g.nodes.sequencer.wanted g.nodes.uses
       tied (told_of dg g.nodes s);
 }

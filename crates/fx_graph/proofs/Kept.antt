@@ -35,12 +35,12 @@ use Rattle.fx_graph.specs.declared.state.GraphState.{GraphState}
 
 module _ (dg : Digest) (before : Option (List ℕ)) (g : Nodes) (s : IsInStep dg before g) where
   -- members that know the same sets and pairs
-  pub settled_members : (m : members.Inputs) (q : Sides) → m.uses ≡ g.members.uses → m.matched ≡ g.members.matched → AreMembers m q.now.sets → SameButSets g.sequencer q → IsInStep dg before (record g { members = m; sequencer = q })
+  pub settled_members : (m : members.Inputs) (q : Sides) → m.uses ≡ g.members.uses → m.matched ≡ g.members.matched → AreMembers m q.wanted.sets → SameButSets g.sequencer q → IsInStep dg before (record g { members = m; sequencer = q })
   settled_members m q uses matched told b = record {
     upper = s.upper;
     policies = s.policies;
     profiles = s.profiles;
-    scanned = subst (λ p. IsScanned dg g.scanner p q.now.profiles g.uses) (sym b.policies) (subst (λ p. IsScanned dg g.scanner g.sequencer.now.policies p g.uses) (sym b.profiles) s.scanned);
+    scanned = subst (λ p. IsScanned dg g.scanner p q.wanted.profiles g.uses) (sym b.policies) (subst (λ p. IsScanned dg g.scanner g.sequencer.wanted.policies p g.uses) (sym b.profiles) s.scanned);
     known = s.known;
     pairs = s.pairs;
     resolved = subst (IsResolved g.resolver) (sym b.endpoints) s.resolved;
@@ -51,12 +51,12 @@ module _ (dg : Digest) (before : Option (List ℕ)) (g : Nodes) (s : IsInStep dg
   }
 
   -- a resolver that knows the same policies and pairs
-  pub settled_resolver : (r : resolver.Inputs) (q : Sides) → r.policies ≡ g.resolver.policies → r.pairs ≡ g.resolver.pairs → IsResolved r q.now.endpoints → SameSentAndSets g.sequencer q → q.now.policies ≡ g.sequencer.now.policies → q.now.profiles ≡ g.sequencer.now.profiles → IsInStep dg before (record g { resolver = r; sequencer = q })
+  pub settled_resolver : (r : resolver.Inputs) (q : Sides) → r.policies ≡ g.resolver.policies → r.pairs ≡ g.resolver.pairs → IsResolved r q.wanted.endpoints → SameSentAndSets g.sequencer q → q.wanted.policies ≡ g.sequencer.wanted.policies → q.wanted.profiles ≡ g.sequencer.wanted.profiles → IsInStep dg before (record g { resolver = r; sequencer = q })
   settled_resolver r q policies pairs told b view_policies view_profiles = record {
     upper = s.upper;
     policies = s.policies;
     profiles = s.profiles;
-    scanned = subst (λ p. IsScanned dg g.scanner p q.now.profiles g.uses) (sym view_policies) (subst (λ p. IsScanned dg g.scanner g.sequencer.now.policies p g.uses) (sym view_profiles) s.scanned);
+    scanned = subst (λ p. IsScanned dg g.scanner p q.wanted.profiles g.uses) (sym view_policies) (subst (λ p. IsScanned dg g.scanner g.sequencer.wanted.policies p g.uses) (sym view_profiles) s.scanned);
     known = λ id. ap (λ m. map.get m id) policies ∙ s.known id;
     pairs = pairs ∙ s.pairs;
     resolved = told;
@@ -67,7 +67,7 @@ module _ (dg : Digest) (before : Option (List ℕ)) (g : Nodes) (s : IsInStep dg
   }
 
   -- a view was sent, and the wanted one stays
-  pub settled_sent : (q : Sides) → q.now ≡ g.sequencer.now → IsInStep dg before (record g { sequencer = q })
+  pub settled_sent : (q : Sides) → q.wanted ≡ g.sequencer.wanted → IsInStep dg before (record g { sequencer = q })
   settled_sent q now = record {
     upper = s.upper;
     policies = s.policies;
@@ -119,7 +119,7 @@ pub no_changes : (changes : List PairChange) → changes ≡ [] → (first last 
 no_changes changes none first last same = subst (λ xs. IsRun xs first last) (sym none) same
 
 -- a graph whose next message was sent is still that of the resources
-pub graph_sent : (dg : Digest) (R : Resources) (g : GraphState) → IsGraphOf dg R g → (q : Sides) → q.now ≡ (sides_of g).now
+pub graph_sent : (dg : Digest) (R : Resources) (g : GraphState) → IsGraphOf dg R g → (q : Sides) → q.wanted ≡ (sides_of g).wanted
     → IsGraphOf dg R (record g { nodes = record g.nodes { sequencer = q } })
 graph_sent dg R g is q now = record {
   node = is.node;

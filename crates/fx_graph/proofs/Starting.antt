@@ -35,14 +35,14 @@ module _ (dg : Digest) (g : Nodes) (told : g.told ≡ record { policies = map.em
     (scanner : g.scanner ≡ no_active) (scanned : IsScanned dg g.scanner map.empty map.empty map.empty) (uses : g.uses ≡ map.empty)
     (resolver : g.resolver ≡ no_endpoints) (resolved : IsResolved g.resolver map.empty)
     (members : g.members ≡ no_sets) (are : AreMembers g.members map.empty)
-    (sequencer : g.sequencer ≡ record { sent = empty_view; now = empty_view }) where
+    (sequencer : g.sequencer ≡ record { sent = empty_view; wanted = empty_view }) where
   pub settled_first : IsInStep dg None g
   settled_first = record {
     upper = subst (λ (t : ActiveTold). AreInStep g.upper.joined (used_in g.uses) t.policies t.profiles t.pairs) (sym told)
         (subst (λ (used : List ℕ → ℕ). AreInStep g.upper.joined used map.empty map.empty set.empty) (λ j t. none_in g.uses uses t j) upper);
     policies = (λ j. (scanner j).policies) ∙ (λ j. (sym told j).policies);
     profiles = (λ j. (scanner j).profiles) ∙ (λ j. (sym told j).profiles);
-    scanned = subst (λ (q : Sides). IsScanned dg g.scanner q.now.policies q.now.profiles g.uses) (sym sequencer)
+    scanned = subst (λ (q : Sides). IsScanned dg g.scanner q.wanted.policies q.wanted.profiles g.uses) (sym sequencer)
         (subst (λ (u : Uses). IsScanned dg g.scanner map.empty map.empty u) (sym uses) scanned);
     known = λ id.
         (λ j. map.get (resolver j).policies id)
@@ -50,9 +50,9 @@ module _ (dg : Digest) (g : Nodes) (told : g.told ≡ record { policies = map.em
         ∙ sym (ap (option_map (known_policy (policy_key dg id))) (map.get-empty policy_cmp.cmp-value.it id))
         ∙ (λ j. option_map (known_policy (policy_key dg id)) (map.get (sym told j).policies id));
     pairs = (λ j. (resolver j).pairs) ∙ (λ j. (sym told j).pairs);
-    resolved = subst (λ (q : Sides). IsResolved g.resolver q.now.endpoints) (sym sequencer) resolved;
+    resolved = subst (λ (q : Sides). IsResolved g.resolver q.wanted.endpoints) (sym sequencer) resolved;
     uses = (λ j. (members j).uses) ∙ sym uses;
     matched = (λ j. (members j).matched) ∙ sym pairs;
-    members = subst (λ (q : Sides). AreMembers g.members q.now.sets) (sym sequencer) are;
+    members = subst (λ (q : Sides). AreMembers g.members q.wanted.sets) (sym sequencer) are;
     formed = λ name u at. absurd (no_use u (sym (map.get-empty (slice_cmp nat_cmp) name) ∙ ap (λ (m : Uses). map.get m name) (sym uses) ∙ at));
   }

@@ -19,11 +19,11 @@ pub record IsBehindBy (dg : Digest) (before : Option (List ℕ)) (g : Nodes) (ch
   pub upper : AreInStep g.upper.joined (with_some before (used_in g.uses)) logged.told.policies logged.told.profiles logged.told.pairs
   pub policies : IsTouched logged.policies g.scanner.policies logged.told.policies
   pub profiles : IsTouched logged.profiles g.scanner.profiles logged.told.profiles
-  pub scanned : IsScanned dg g.scanner g.sequencer.now.policies g.sequencer.now.profiles g.uses
+  pub scanned : IsScanned dg g.scanner g.sequencer.wanted.policies g.sequencer.wanted.profiles g.uses
   pub behind : AreKnownBut dg logged.policies logged.told.policies g.resolver.policies
   pub pairs : IsPairRun logged.pairs g.resolver.pairs logged.told.pairs
-  pub resolved : IsResolved g.resolver g.sequencer.now.endpoints
+  pub resolved : IsResolved g.resolver g.sequencer.wanted.endpoints
   pub uses : g.members.uses ≡ g.uses
   pub run : IsRun changes g.members.matched g.upper.joined.pairs
-  pub members : AreMembers g.members g.sequencer.now.sets
+  pub members : AreMembers g.members g.sequencer.wanted.sets
   pub formed : AreFormed g.uses

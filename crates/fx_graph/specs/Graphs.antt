@@ -29,7 +29,7 @@ pub record IsGraphOf (dg : Digest) (R : Resources) (g : GraphState) : Type 0 whe
   pub node : g.node ≡ R.node
   pub in_sync : g.in_sync ≡ R.in_sync
   pub nodes : AreOf dg R g.nodes
-  pub now : (sides_of g).now ≡ view_of dg R
+  pub now : (sides_of g).wanted ≡ view_of dg R
 
 -- the resources after an update are formed, and no two of them claim one name
 pub record IsAccepted (dg : Digest) (R : Resources) (u : Update) : Type 0 where

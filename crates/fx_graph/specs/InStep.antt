@@ -16,11 +16,11 @@ pub record IsInStep (dg : Digest) (before : Option (List ℕ)) (g : Nodes) : Typ
   pub upper : AreInStep g.upper.joined (with_some before (used_in g.uses)) g.told.policies g.told.profiles g.told.pairs
   pub policies : g.scanner.policies ≡ g.told.policies
   pub profiles : g.scanner.profiles ≡ g.told.profiles
-  pub scanned : IsScanned dg g.scanner g.sequencer.now.policies g.sequencer.now.profiles g.uses
+  pub scanned : IsScanned dg g.scanner g.sequencer.wanted.policies g.sequencer.wanted.profiles g.uses
   pub known : AreKnown dg g.told.policies g.resolver.policies
   pub pairs : g.resolver.pairs ≡ g.told.pairs
-  pub resolved : IsResolved g.resolver g.sequencer.now.endpoints
+  pub resolved : IsResolved g.resolver g.sequencer.wanted.endpoints
   pub uses : g.members.uses ≡ g.uses
   pub matched : g.members.matched ≡ g.upper.joined.pairs
-  pub members : AreMembers g.members g.sequencer.now.sets
+  pub members : AreMembers g.members g.sequencer.wanted.sets
   pub formed : AreFormed g.uses

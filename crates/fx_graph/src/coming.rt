@@ -27,13 +27,13 @@ fn feed_one_in<S: ActiveSink, T: Ticker>(
 ) -> Result<(), Memory>
     requires joined { IsJoined joined.old (S.policies sink.old) (S.profiles sink.old) (S.pairs sink.old) }
     requires matched { members.old.matched ≡ joined.old.pairs }
-    requires members { AreMembers members.old sequencer.old.now.sets }
+    requires members { AreMembers members.old sequencer.old.wanted.sets }
     ensures index { OnOk result (joined.new.index ≡ record joined.old.index
         { selectors = raised_at joined.old.index.selectors (option_copied set.entry) }) }
     ensures active { OnOk result (joined.new.active ≡ record joined.old.active { matched = joined.new.pairs }) }
     ensures joined { OnOk result (IsJoined joined.new (S.policies sink.new) (S.profiles sink.new) (S.pairs sink.new)) }
     ensures inputs { OnOk result (members.new ≡ record members.old { matched = joined.new.pairs }) }
-    ensures members { OnOk result (AreMembers members.new sequencer.new.now.sets) }
+    ensures members { OnOk result (AreMembers members.new sequencer.new.wanted.sets) }
     ensures beside { OnOk result (SameButSets sequencer.old sequencer.new) }
 {
     let Some(set) = set else {
@@ -58,13 +58,13 @@ pub fn feed_in<S: ActiveSink, T: Ticker>(
 ) -> Result<(), Memory>
     requires joined { IsJoined joined.old (S.policies sink.old) (S.profiles sink.old) (S.pairs sink.old) }
     requires matched { members.old.matched ≡ joined.old.pairs }
-    requires members { AreMembers members.old sequencer.old.now.sets }
+    requires members { AreMembers members.old sequencer.old.wanted.sets }
     ensures index { OnOk result (joined.new.index ≡ record joined.old.index
         { selectors = raised_by uses.now (map.entries notes.now) joined.old.index.selectors }) }
     ensures active { OnOk result (joined.new.active ≡ record joined.old.active { matched = joined.new.pairs }) }
     ensures joined { OnOk result (IsJoined joined.new (S.policies sink.new) (S.profiles sink.new) (S.pairs sink.new)) }
     ensures inputs { OnOk result (members.new ≡ record members.old { matched = joined.new.pairs }) }
-    ensures members { OnOk result (AreMembers members.new sequencer.new.now.sets) }
+    ensures members { OnOk result (AreMembers members.new sequencer.new.wanted.sets) }
     ensures beside { OnOk result (SameButSets sequencer.old sequencer.new) }
 {
     for (name, _) in notes.iter() {

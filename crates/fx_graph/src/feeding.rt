@@ -37,7 +37,7 @@ pub fn feed<S: ActiveSink, T: Ticker>(
         × AreBehindBy notes.now uses.now before upper.old.joined (S.policies sink.old) (S.profiles sink.old) (S.pairs sink.old) }
     requires formed { AreFormed uses.now }
     requires matched { members.old.matched ≡ upper.old.joined.pairs }
-    requires members { AreMembers members.old sequencer.old.now.sets }
+    requires members { AreMembers members.old sequencer.old.wanted.sets }
     ensures index { OnOk result (upper.new.joined.index ≡ record upper.old.joined.index
         { selectors = upper.new.joined.index.selectors }) }
     ensures active { OnOk result (upper.new.joined.active ≡ record upper.old.joined.active
@@ -49,7 +49,7 @@ pub fn feed<S: ActiveSink, T: Ticker>(
     ensures profiles { OnOk result (S.profiles sink.new ≡ S.profiles sink.old) }
     ensures pairs { OnOk result (S.pairs sink.new ≡ S.pairs sink.old) }
     ensures inputs { OnOk result (members.new ≡ record members.old { matched = upper.new.joined.pairs }) }
-    ensures members { OnOk result (AreMembers members.new sequencer.new.now.sets) }
+    ensures members { OnOk result (AreMembers members.new sequencer.new.wanted.sets) }
     ensures beside { OnOk result (SameButSets sequencer.old sequencer.new) }
 {
     feed_in(

@@ -53,16 +53,16 @@ impl<R: DigestRule, F: DigestFunction<R> + Drop> Graph<R, F> {
 
     /// The next message, if there is one. It takes no memory.
     pub fn peek(&self) -> Option<Message<'_>>
-        ensures message { option_map change_of result ≡ next_message (sides_of self.now.state).sent (sides_of self.now.state).now }
-        ensures none { IsNone result ↔ ((sides_of self.now.state).sent ≡ (sides_of self.now.state).now) }
+        ensures message { option_map change_of result ≡ next_message (sides_of self.now.state).sent (sides_of self.now.state).wanted }
+        ensures none { IsNone result ↔ ((sides_of self.now.state).sent ≡ (sides_of self.now.state).wanted) }
     {
         self.state.nodes.sequencer.peek()
     }
 
     /// Marks the next message as sent.
     pub fn sent(&mut self) -> Result<(), Memory>
-        requires { IsSome (next_message (sides_of self.old.state).sent (sides_of self.old.state).now) }
-        ensures ok { OnOk result (sides_of self.new.state ≡ record (sides_of self.old.state) { sent = step (sides_of self.old.state).sent (sides_of self.old.state).now }) }
+        requires { IsSome (next_message (sides_of self.old.state).sent (sides_of self.old.state).wanted) }
+        ensures ok { OnOk result (sides_of self.new.state ≡ record (sides_of self.old.state) { sent = step (sides_of self.old.state).sent (sides_of self.old.state).wanted }) }
         ensures resources { (resources : Resources) → IsGraphOf R.digest_of resources self.old.state
             → IsGraphOf R.digest_of resources self.new.state }
         ensures err { OnErr result (sides_of self.new.state ≡ sides_of self.old.state) }
@@ -73,11 +73,11 @@ impl<R: DigestRule, F: DigestFunction<R> + Drop> Graph<R, F> {
 
     /// The view that is wanted now: the view of the resources.
     pub fn wanted(&self) -> &View
-        ensures wanted { result.now ≡ (sides_of self.now.state).now }
+        ensures wanted { result.now ≡ (sides_of self.now.state).wanted }
         ensures resources { (resources : Resources) → IsGraphOf R.digest_of resources self.now.state
             → result.now ≡ view_of R.digest_of resources }
     {
-        self.state.nodes.sequencer.now()
+        self.state.nodes.sequencer.wanted()
     }
 
     /// The names in the kernel.

@@ -37,7 +37,7 @@ impl Nodes {
         ensures settled { (dg : Digest) → IsInStep dg None result }
         ensures taken { taken_of result ≡ taken no_items no_rules no_endpoints no_sets }
         ensures waiting { result.waiting ≡ map.empty }
-        ensures sequencer { result.sequencer ≡ record { sent = empty_view; now = empty_view } }
+        ensures sequencer { result.sequencer ≡ record { sent = empty_view; wanted = empty_view } }
     {
         let upper = Upper::new(alloc);
         let told = ActiveTold::new(alloc);

@@ -13,6 +13,6 @@ pub record IsKeptSince (start s : Scanned) : Type 0 where
 -- the sent view, and of the wanted one all but its sets
 pub record SameButSets (old new : Sides) : Type 0 where
   pub sent : new.sent ≡ old.sent
-  pub policies : new.now.policies ≡ old.now.policies
-  pub profiles : new.now.profiles ≡ old.now.profiles
-  pub endpoints : new.now.endpoints ≡ old.now.endpoints
+  pub policies : new.wanted.policies ≡ old.wanted.policies
+  pub profiles : new.wanted.profiles ≡ old.wanted.profiles
+  pub endpoints : new.wanted.endpoints ≡ old.wanted.endpoints

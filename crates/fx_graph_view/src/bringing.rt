@@ -44,13 +44,13 @@ pub fn scan<K: ScanStart, R: DigestRule, F: DigestFunction<R> + Drop>(
     requires profiles { IsTouched logged.now.profiles scanner.old.profiles logged.now.told.profiles }
     requires apart { IsApart R.digest_of (record { policies = logged.now.told.policies; profiles = logged.now.told.profiles }) }
     requires formed { AreFormed uses.old }
-    requires scanned { IsScanned R.digest_of scanner.old sequencer.old.now.policies sequencer.old.now.profiles uses.old }
+    requires scanned { IsScanned R.digest_of scanner.old sequencer.old.wanted.policies sequencer.old.wanted.profiles uses.old }
     ensures inputs { OnOk result (scanner.new ≡ record { policies = logged.now.told.policies; profiles = logged.now.told.profiles }) }
     ensures noted { IfOk result (λ before. AreNoted before uses.old uses.new) }
     ensures formed { OnOk result (AreFormed uses.new) }
-    ensures scanned { OnOk result (IsScanned R.digest_of scanner.new sequencer.new.now.policies sequencer.new.now.profiles uses.new) }
+    ensures scanned { OnOk result (IsScanned R.digest_of scanner.new sequencer.new.wanted.policies sequencer.new.wanted.profiles uses.new) }
     ensures beside { OnOk result (SameSentAndSets sequencer.old sequencer.new) }
-    ensures endpoints { OnOk result (sequencer.new.now.endpoints ≡ sequencer.old.now.endpoints) }
+    ensures endpoints { OnOk result (sequencer.new.wanted.endpoints ≡ sequencer.old.wanted.endpoints) }
 {
     let used = mem::replace(uses, SetMap::new(alloc));
     let whole = mem::replace(sequencer, Sequencer::new(alloc));
@@ -73,14 +73,14 @@ pub fn resolve<K: Beside, R: DigestRule, F: DigestFunction<R> + Drop>(
     requires stood { sequencer.old ≡ K.stood }
     requires behind { AreKnownBut R.digest_of logged.now.policies logged.now.told.policies resolver.old.policies }
     requires run { IsPairRun logged.now.pairs resolver.old.pairs logged.now.told.pairs }
-    requires resolved { IsResolved resolver.old sequencer.old.now.endpoints }
+    requires resolved { IsResolved resolver.old sequencer.old.wanted.endpoints }
     ensures inputs { OnOk result (resolver.new ≡ record resolver.old
         { policies = resolver.new.policies; pairs = logged.now.told.pairs }) }
     ensures known { OnOk result (AreKnown R.digest_of logged.now.told.policies resolver.new.policies) }
-    ensures resolved { OnOk result (IsResolved resolver.new sequencer.new.now.endpoints) }
+    ensures resolved { OnOk result (IsResolved resolver.new sequencer.new.wanted.endpoints) }
     ensures beside { OnOk result (SameSentAndSets sequencer.old sequencer.new) }
-    ensures policies { OnOk result (sequencer.new.now.policies ≡ sequencer.old.now.policies) }
-    ensures profiles { OnOk result (sequencer.new.now.profiles ≡ sequencer.old.now.profiles) }
+    ensures policies { OnOk result (sequencer.new.wanted.policies ≡ sequencer.old.wanted.policies) }
+    ensures profiles { OnOk result (sequencer.new.wanted.profiles ≡ sequencer.old.wanted.profiles) }
 {
     let whole = mem::replace(sequencer, Sequencer::new(alloc));
     let mut part: ViewPart<K> = ViewPart::new(whole);
@@ -100,9 +100,9 @@ pub fn supply_uses<K: Beside>(
     requires stood { sequencer.old ≡ K.stood }
     requires noted { AreNoted before.now members.old.uses uses.now }
     requires formed { AreFormed uses.now }
-    requires members { AreMembers members.old sequencer.old.now.sets }
+    requires members { AreMembers members.old sequencer.old.wanted.sets }
     ensures inputs { OnOk result (members.new ≡ record members.old { uses = uses.now }) }
-    ensures members { OnOk result (AreMembers members.new sequencer.new.now.sets) }
+    ensures members { OnOk result (AreMembers members.new sequencer.new.wanted.sets) }
     ensures beside { OnOk result (SameButSets sequencer.old sequencer.new) }
 {
     let whole = mem::replace(sequencer, Sequencer::new(alloc));
@@ -122,9 +122,9 @@ pub fn supply_matches<K: Beside>(
 ) -> Result<(), Memory>
     requires stood { sequencer.old ≡ K.stood }
     requires run { IsRun changes.now members.old.matched pairs.now }
-    requires members { AreMembers members.old sequencer.old.now.sets }
+    requires members { AreMembers members.old sequencer.old.wanted.sets }
     ensures inputs { OnOk result (members.new ≡ record members.old { matched = pairs.now }) }
-    ensures members { OnOk result (AreMembers members.new sequencer.new.now.sets) }
+    ensures members { OnOk result (AreMembers members.new sequencer.new.wanted.sets) }
     ensures beside { OnOk result (SameButSets sequencer.old sequencer.new) }
 {
     let whole = mem::replace(sequencer, Sequencer::new(alloc));

@@ -16,7 +16,7 @@ pub trait Beside {
 }
 
 impl Beside for Brand {
-    ghost stood = { record { sent = empty_view; now = empty_view } };
+    ghost stood = { record { sent = empty_view; wanted = empty_view } };
 }
 
 /// Policies, profiles and endpoints. The sent view and the wanted sets stay.
@@ -60,11 +60,11 @@ impl<K: Beside> ViewPart<K> {
 }
 
 impl<K: Beside> ViewSink for ViewPart<K> {
-    ghost policies = { λ a. a.now.policies };
+    ghost policies = { λ a. a.wanted.policies };
 
-    ghost profiles = { λ a. a.now.profiles };
+    ghost profiles = { λ a. a.wanted.profiles };
 
-    ghost endpoints = { λ a. a.now.endpoints };
+    ghost endpoints = { λ a. a.wanted.endpoints };
 
     ghost is_kept = { SameSentAndSets };
 
@@ -140,7 +140,7 @@ impl<K: Beside> SetPart<K> {
 }
 
 impl<K: Beside> SetSink for SetPart<K> {
-    ghost sets = { λ a. a.now.sets };
+    ghost sets = { λ a. a.wanted.sets };
 
     fn set_on(&mut self, name: SetName) -> Result<(), Memory> {
         self.sequencer.set_on(name)?;

@@ -24,13 +24,13 @@ pub fn put_tier<K: Beside>(
     sequencer: &mut Sequencer,
 ) -> Result<(), Memory>
     requires stood { sequencer.old ≡ K.stood }
-    requires resolved { IsResolved resolver.old sequencer.old.now.endpoints }
+    requires resolved { IsResolved resolver.old sequencer.old.wanted.endpoints }
     ensures inputs { OnOk result (resolver.new ≡ record resolver.old
         { tiers = map.insert resolver.old.tiers name.now tier.now }) }
-    ensures resolved { OnOk result (IsResolved resolver.new sequencer.new.now.endpoints) }
+    ensures resolved { OnOk result (IsResolved resolver.new sequencer.new.wanted.endpoints) }
     ensures beside { OnOk result (SameSentAndSets sequencer.old sequencer.new) }
-    ensures policies { OnOk result (sequencer.new.now.policies ≡ sequencer.old.now.policies) }
-    ensures profiles { OnOk result (sequencer.new.now.profiles ≡ sequencer.old.now.profiles) }
+    ensures policies { OnOk result (sequencer.new.wanted.policies ≡ sequencer.old.wanted.policies) }
+    ensures profiles { OnOk result (sequencer.new.wanted.profiles ≡ sequencer.old.wanted.profiles) }
 {
     let whole = mem::replace(sequencer, Sequencer::new(alloc));
     let mut part: ViewPart<K> = ViewPart::new(whole);
@@ -47,12 +47,12 @@ pub fn remove_tier<K: Beside>(
     sequencer: &mut Sequencer,
 ) -> Result<(), Memory>
     requires stood { sequencer.old ≡ K.stood }
-    requires resolved { IsResolved resolver.old sequencer.old.now.endpoints }
+    requires resolved { IsResolved resolver.old sequencer.old.wanted.endpoints }
     ensures inputs { OnOk result (resolver.new ≡ record resolver.old { tiers = map.remove resolver.old.tiers name.now }) }
-    ensures resolved { OnOk result (IsResolved resolver.new sequencer.new.now.endpoints) }
+    ensures resolved { OnOk result (IsResolved resolver.new sequencer.new.wanted.endpoints) }
     ensures beside { OnOk result (SameSentAndSets sequencer.old sequencer.new) }
-    ensures policies { OnOk result (sequencer.new.now.policies ≡ sequencer.old.now.policies) }
-    ensures profiles { OnOk result (sequencer.new.now.profiles ≡ sequencer.old.now.profiles) }
+    ensures policies { OnOk result (sequencer.new.wanted.policies ≡ sequencer.old.wanted.policies) }
+    ensures profiles { OnOk result (sequencer.new.wanted.profiles ≡ sequencer.old.wanted.profiles) }
 {
     let whole = mem::replace(sequencer, Sequencer::new(alloc));
     let mut part: ViewPart<K> = ViewPart::new(whole);
@@ -74,13 +74,13 @@ pub fn put_endpoint<K: Beside>(
     requires short { length iface.now ≤ 15 }
     requires apart { HaveOwnInterfaces
         (map.insert resolver.old.endpoints key.now (record { iface = iface.now; profiles = profiles.now })) }
-    requires resolved { IsResolved resolver.old sequencer.old.now.endpoints }
+    requires resolved { IsResolved resolver.old sequencer.old.wanted.endpoints }
     ensures inputs { OnOk result (resolver.new ≡ record resolver.old
         { endpoints = map.insert resolver.old.endpoints key.now (record { iface = iface.now; profiles = profiles.now }) }) }
-    ensures resolved { OnOk result (IsResolved resolver.new sequencer.new.now.endpoints) }
+    ensures resolved { OnOk result (IsResolved resolver.new sequencer.new.wanted.endpoints) }
     ensures beside { OnOk result (SameSentAndSets sequencer.old sequencer.new) }
-    ensures policies { OnOk result (sequencer.new.now.policies ≡ sequencer.old.now.policies) }
-    ensures profiles { OnOk result (sequencer.new.now.profiles ≡ sequencer.old.now.profiles) }
+    ensures policies { OnOk result (sequencer.new.wanted.policies ≡ sequencer.old.wanted.policies) }
+    ensures profiles { OnOk result (sequencer.new.wanted.profiles ≡ sequencer.old.wanted.profiles) }
 {
     let whole = mem::replace(sequencer, Sequencer::new(alloc));
     let mut part: ViewPart<K> = ViewPart::new(whole);
@@ -97,13 +97,13 @@ pub fn remove_endpoint<K: Beside>(
     sequencer: &mut Sequencer,
 ) -> Result<(), Memory>
     requires stood { sequencer.old ≡ K.stood }
-    requires resolved { IsResolved resolver.old sequencer.old.now.endpoints }
+    requires resolved { IsResolved resolver.old sequencer.old.wanted.endpoints }
     ensures inputs { OnOk result (resolver.new ≡ record resolver.old
         { endpoints = map.remove resolver.old.endpoints key.now }) }
-    ensures resolved { OnOk result (IsResolved resolver.new sequencer.new.now.endpoints) }
+    ensures resolved { OnOk result (IsResolved resolver.new sequencer.new.wanted.endpoints) }
     ensures beside { OnOk result (SameSentAndSets sequencer.old sequencer.new) }
-    ensures policies { OnOk result (sequencer.new.now.policies ≡ sequencer.old.now.policies) }
-    ensures profiles { OnOk result (sequencer.new.now.profiles ≡ sequencer.old.now.profiles) }
+    ensures policies { OnOk result (sequencer.new.wanted.policies ≡ sequencer.old.wanted.policies) }
+    ensures profiles { OnOk result (sequencer.new.wanted.profiles ≡ sequencer.old.wanted.profiles) }
 {
     let whole = mem::replace(sequencer, Sequencer::new(alloc));
     let mut part: ViewPart<K> = ViewPart::new(whole);
@@ -121,10 +121,10 @@ pub fn put_item<K: Beside>(
     sequencer: &mut Sequencer,
 ) -> Result<(), Memory>
     requires stood { sequencer.old ≡ K.stood }
-    requires members { AreMembers members.old sequencer.old.now.sets }
+    requires members { AreMembers members.old sequencer.old.wanted.sets }
     ensures inputs { OnOk result (members.new ≡ record members.old
         { items = map.insert members.old.items key.now item.now }) }
-    ensures members { OnOk result (AreMembers members.new sequencer.new.now.sets) }
+    ensures members { OnOk result (AreMembers members.new sequencer.new.wanted.sets) }
     ensures beside { OnOk result (SameButSets sequencer.old sequencer.new) }
 {
     let whole = mem::replace(sequencer, Sequencer::new(alloc));
@@ -142,9 +142,9 @@ pub fn remove_item<K: Beside>(
     sequencer: &mut Sequencer,
 ) -> Result<(), Memory>
     requires stood { sequencer.old ≡ K.stood }
-    requires members { AreMembers members.old sequencer.old.now.sets }
+    requires members { AreMembers members.old sequencer.old.wanted.sets }
     ensures inputs { OnOk result (members.new ≡ record members.old { items = map.remove members.old.items key.now }) }
-    ensures members { OnOk result (AreMembers members.new sequencer.new.now.sets) }
+    ensures members { OnOk result (AreMembers members.new sequencer.new.wanted.sets) }
     ensures beside { OnOk result (SameButSets sequencer.old sequencer.new) }
 {
     let whole = mem::replace(sequencer, Sequencer::new(alloc));

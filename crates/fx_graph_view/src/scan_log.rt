@@ -26,7 +26,7 @@ pub trait ScanStart {
 }
 
 impl ScanStart for Brand {
-    ghost scanned_then = { record { sequencer = record { sent = empty_view; now = empty_view }; uses = map.empty; before = map.empty } };
+    ghost scanned_then = { record { sequencer = record { sent = empty_view; wanted = empty_view }; uses = map.empty; before = map.empty } };
 }
 
 /// A sink that logs what it is told of sets. The sent view and the sets of the wanted one stay as they are.
@@ -78,11 +78,11 @@ impl<K: ScanStart> ScanLog<K> {
 }
 
 impl<K: ScanStart> ViewSink for ScanLog<K> {
-    ghost policies = { λ a. a.sequencer.now.policies };
+    ghost policies = { λ a. a.sequencer.wanted.policies };
 
-    ghost profiles = { λ a. a.sequencer.now.profiles };
+    ghost profiles = { λ a. a.sequencer.wanted.profiles };
 
-    ghost endpoints = { λ a. a.sequencer.now.endpoints };
+    ghost endpoints = { λ a. a.sequencer.wanted.endpoints };
 
     ghost is_kept = { λ a b. b.uses ≡ a.uses };
 

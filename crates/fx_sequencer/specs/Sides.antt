@@ -5,4 +5,4 @@ use Rattle.fx_sequencer.specs.declared.sides.Sides.{Sides}
 -- the sent view and the wanted sets are the same in both
 pub record SameSentAndSets (old new : Sides) : Type 0 where
   pub sent : new.sent ≡ old.sent
-  pub sets : new.now.sets ≡ old.now.sets
+  pub sets : new.wanted.sets ≡ old.wanted.sets

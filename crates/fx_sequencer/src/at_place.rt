@@ -46,16 +46,16 @@ pub fn first_message<'a>(
 
 /// Takes over what is wanted at the first of these places, and gives the others.
 pub fn take_first(sides: &mut Sides, mut places: VecDeque<Place>) -> Result<VecDeque<Place>, Memory>
-    requires pending { places.items ≡ pending_places sides.old.sent sides.old.now }
-    requires differ { IsSome (next_message sides.old.sent sides.old.now) }
-    ensures ok { OnOk result (sides.new ≡ record sides.old { sent = step sides.old.sent sides.old.now }) }
-    ensures others { IfOk result (λ others. others.items ≡ pending_places sides.new.sent sides.new.now) }
+    requires pending { places.items ≡ pending_places sides.old.sent sides.old.wanted }
+    requires differ { IsSome (next_message sides.old.sent sides.old.wanted) }
+    ensures ok { OnOk result (sides.new ≡ record sides.old { sent = step sides.old.sent sides.old.wanted }) }
+    ensures others { IfOk result (λ others. others.items ≡ pending_places sides.new.sent sides.new.wanted) }
     ensures err { OnErr result (sides.new ≡ sides.old) }
 {
     let Some(place) = places.pop_front() else {
         return Ok(places);
     };
-    take_at(&mut sides.sent, &sides.now, place)?;
+    take_at(&mut sides.sent, &sides.wanted, place)?;
     Ok(places)
 }
 

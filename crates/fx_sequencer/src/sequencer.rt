@@ -49,12 +49,12 @@ impl Model for Sequencer {
     ghost use Rattle.std.specs.Option.{ForSome};
     ghost use Rattle.fx_sequencer.specs.Pending.{pending_places};
 
-    ghost invariant = { λ a. ForSome a.ahead (λ places. places.items ≡ pending_places a.sides.sent a.sides.now) };
+    ghost invariant = { λ a. ForSome a.ahead (λ places. places.items ≡ pending_places a.sides.sent a.sides.wanted) };
 }
 
 impl Sequencer {
     pub fn new(alloc: Global) -> Self
-        ensures { result ≡ record { sent = empty_view; now = empty_view } }
+        ensures { result ≡ record { sent = empty_view; wanted = empty_view } }
     {
         Sequencer {
             alloc,
@@ -66,23 +66,23 @@ impl Sequencer {
     /// The next message, if the views differ.
     #[tactic(auto, using(crate::proofs::Silent::equal_if_silent, crate::proofs::Silent::silent_if_equal))]
     pub fn peek(&self) -> Option<Message<'_>>
-        ensures message { option_map change_of result ≡ next_message self.now.sent self.now.now }
-        ensures none { IsNone result ↔ (self.now.sent ≡ self.now.now) }
+        ensures message { option_map change_of result ≡ next_message self.now.sent self.now.wanted }
+        ensures none { IsNone result ↔ (self.now.sent ≡ self.now.wanted) }
     {
         match &self.ahead {
-            Some(places) => first_message(places, &self.sides.sent, &self.sides.now),
-            None => next_message(&self.sides.sent, &self.sides.now),
+            Some(places) => first_message(places, &self.sides.sent, &self.sides.wanted),
+            None => next_message(&self.sides.sent, &self.sides.wanted),
         }
     }
 
     /// Marks the next message as sent.
     pub fn sent(&mut self) -> Result<(), Memory>
-        requires { IsSome (next_message self.old.sent self.old.now) }
-        ensures ok { OnOk result (self.new ≡ record self.old { sent = step self.old.sent self.old.now }) }
+        requires { IsSome (next_message self.old.sent self.old.wanted) }
+        ensures ok { OnOk result (self.new ≡ record self.old { sent = step self.old.sent self.old.wanted }) }
         ensures err { OnErr result (self.new ≡ self.old) }
     {
         let ahead = self.ahead.take();
-        let places = listed(self.alloc, ahead, &self.sides.sent, &self.sides.now)?;
+        let places = listed(self.alloc, ahead, &self.sides.sent, &self.sides.wanted)?;
         self.ahead = Some(take_first(&mut self.sides, places)?);
         Ok(())
     }
@@ -95,147 +95,150 @@ impl Sequencer {
     }
 
     /// The view that is wanted now.
-    pub fn now(&self) -> &View
-        ensures { result.now ≡ self.now.now }
+    pub fn wanted(&self) -> &View
+        ensures { result.now ≡ self.now.wanted }
     {
-        &self.sides.now
+        &self.sides.wanted
     }
 }
 
 impl ViewSink for Sequencer {
-    ghost policies = { λ a. a.now.policies };
+    ghost policies = { λ a. a.wanted.policies };
 
-    ghost profiles = { λ a. a.now.profiles };
+    ghost profiles = { λ a. a.wanted.profiles };
 
-    ghost endpoints = { λ a. a.now.endpoints };
+    ghost endpoints = { λ a. a.wanted.endpoints };
 
     ghost is_kept = { SameSentAndSets };
 
     fn policy_put(&mut self, key: NameKey, policy: ViewPolicy) -> Result<(), Memory>
         ensures ok { OnOk result (self.new ≡ record self.old {
-          now = record self.old.now { policies = map.insert self.old.now.policies key policy };
+          wanted = record self.old.wanted { policies = map.insert self.old.wanted.policies key policy };
         }) }
         ensures err { OnErr result (self.new ≡ self.old) }
     {
         self.ahead = None;
-        self.sides.now.policies.insert(&key, policy)?;
+        self.sides.wanted.policies.insert(&key, policy)?;
         Ok(())
     }
 
     fn policy_gone(&mut self, key: NameKey) -> Result<(), Memory>
-        requires { IsSome (map.get self.old.now.policies key) }
+        requires { IsSome (map.get self.old.wanted.policies key) }
         ensures ok { IsOk result }
         ensures gone { self.new ≡ record self.old {
-          now = record self.old.now { policies = map.remove self.old.now.policies key };
+          wanted = record self.old.wanted { policies = map.remove self.old.wanted.policies key };
         } }
     {
         self.ahead = None;
-        self.sides.now.policies.remove(&key);
+        self.sides.wanted.policies.remove(&key);
         Ok(())
     }
 
     fn profile_put(&mut self, key: NameKey, profile: ViewProfile) -> Result<(), Memory>
         ensures ok { OnOk result (self.new ≡ record self.old {
-          now = record self.old.now { profiles = map.insert self.old.now.profiles key profile };
+          wanted = record self.old.wanted { profiles = map.insert self.old.wanted.profiles key profile };
         }) }
         ensures err { OnErr result (self.new ≡ self.old) }
     {
         self.ahead = None;
-        self.sides.now.profiles.insert(&key, profile)?;
+        self.sides.wanted.profiles.insert(&key, profile)?;
         Ok(())
     }
 
     fn profile_gone(&mut self, key: NameKey) -> Result<(), Memory>
-        requires { IsSome (map.get self.old.now.profiles key) }
+        requires { IsSome (map.get self.old.wanted.profiles key) }
         ensures ok { IsOk result }
         ensures gone { self.new ≡ record self.old {
-          now = record self.old.now { profiles = map.remove self.old.now.profiles key };
+          wanted = record self.old.wanted { profiles = map.remove self.old.wanted.profiles key };
         } }
     {
         self.ahead = None;
-        self.sides.now.profiles.remove(&key);
+        self.sides.wanted.profiles.remove(&key);
         Ok(())
     }
 
     fn endpoint_put(&mut self, iface: &Text, endpoint: ViewEndpoint) -> Result<(), Memory>
         ensures ok { OnOk result (self.new ≡ record self.old {
-          now = record self.old.now { endpoints = map.insert self.old.now.endpoints iface.now endpoint };
+          wanted = record self.old.wanted { endpoints = map.insert self.old.wanted.endpoints iface.now endpoint };
         }) }
         ensures err { OnErr result (self.new ≡ self.old) }
     {
         self.ahead = None;
-        self.sides.now.endpoints.insert(iface.clone()?, endpoint)?;
+        self.sides
+            .wanted
+            .endpoints
+            .insert(iface.clone()?, endpoint)?;
         Ok(())
     }
 
     fn endpoint_gone(&mut self, iface: &Text) -> Result<(), Memory>
-        requires { IsSome (map.get self.old.now.endpoints iface.now) }
+        requires { IsSome (map.get self.old.wanted.endpoints iface.now) }
         ensures ok { IsOk result }
         ensures gone { self.new ≡ record self.old {
-          now = record self.old.now { endpoints = map.remove self.old.now.endpoints iface.now };
+          wanted = record self.old.wanted { endpoints = map.remove self.old.wanted.endpoints iface.now };
         } }
     {
         self.ahead = None;
-        self.sides.now.endpoints.remove(iface);
+        self.sides.wanted.endpoints.remove(iface);
         Ok(())
     }
 }
 
 impl SetSink for Sequencer {
-    ghost sets = { λ a. a.now.sets };
+    ghost sets = { λ a. a.wanted.sets };
 
     fn set_on(&mut self, name: SetName) -> Result<(), Memory>
-        requires { map.contains_key self.old.now.sets name ≡ false }
+        requires { map.contains_key self.old.wanted.sets name ≡ false }
         ensures ok { OnOk result (self.new ≡ record self.old {
-          now = record self.old.now { sets = map.insert self.old.now.sets name set.empty };
+          wanted = record self.old.wanted { sets = map.insert self.old.wanted.sets name set.empty };
         }) }
         ensures err { OnErr result (self.new ≡ self.old) }
     {
         self.ahead = None;
         let members = MemberSet::new(self.alloc);
-        self.sides.now.sets.insert(&name, members)?;
+        self.sides.wanted.sets.insert(&name, members)?;
         Ok(())
     }
 
     fn set_off(&mut self, name: SetName) -> Result<(), Memory>
-        requires { map.get self.old.now.sets name ≡ Some set.empty }
+        requires { map.get self.old.wanted.sets name ≡ Some set.empty }
         ensures ok { IsOk result }
         ensures gone { self.new ≡ record self.old {
-          now = record self.old.now { sets = map.remove self.old.now.sets name };
+          wanted = record self.old.wanted { sets = map.remove self.old.wanted.sets name };
         } }
     {
         self.ahead = None;
-        self.sides.now.sets.remove(&name);
+        self.sides.wanted.sets.remove(&name);
         Ok(())
     }
 
     fn member_on(&mut self, name: SetName, member: Member) -> Result<(), Memory>
-        requires there { IsSome (map.get self.old.now.sets name) }
-        requires absent { set.contains (members_of (map.get self.old.now.sets name)) member ≡ false }
+        requires there { IsSome (map.get self.old.wanted.sets name) }
+        requires absent { set.contains (members_of (map.get self.old.wanted.sets name)) member ≡ false }
         ensures ok { OnOk result (self.new ≡ record self.old {
-          now = record self.old.now {
-            sets = map.insert self.old.now.sets name (set.insert (members_of (map.get self.old.now.sets name)) member);
+          wanted = record self.old.wanted {
+            sets = map.insert self.old.wanted.sets name (set.insert (members_of (map.get self.old.wanted.sets name)) member);
           };
         }) }
         ensures err { OnErr result (self.new ≡ self.old) }
     {
         self.ahead = None;
-        put_member(self.alloc, &mut self.sides.now.sets, &name, member)?;
+        put_member(self.alloc, &mut self.sides.wanted.sets, &name, member)?;
         Ok(())
     }
 
     fn member_off(&mut self, name: SetName, member: Member) -> Result<(), Memory>
-        requires there { IsSome (map.get self.old.now.sets name) }
-        requires member { set.contains (members_of (map.get self.old.now.sets name)) member ≡ true }
+        requires there { IsSome (map.get self.old.wanted.sets name) }
+        requires member { set.contains (members_of (map.get self.old.wanted.sets name)) member ≡ true }
         ensures ok { IsOk result }
         ensures gone { self.new ≡ record self.old {
-          now = record self.old.now {
-            sets = map.insert self.old.now.sets name (set.remove (members_of (map.get self.old.now.sets name)) member);
+          wanted = record self.old.wanted {
+            sets = map.insert self.old.wanted.sets name (set.remove (members_of (map.get self.old.wanted.sets name)) member);
           };
         } }
     {
         self.ahead = None;
-        remove_member(self.alloc, &mut self.sides.now.sets, &name, member);
+        remove_member(self.alloc, &mut self.sides.wanted.sets, &name, member);
         Ok(())
     }
 }

@@ -6,7 +6,7 @@ use std::alloc::Global;
 #[derive(Drop)]
 pub struct Sides {
     pub sent: View,
-    pub now: View,
+    pub wanted: View,
 }
 
 impl Sides {
@@ -14,11 +14,11 @@ impl Sides {
     ghost use Rattle.fx_model.specs.Views.{empty_view};
 
     pub fn new(alloc: Global) -> Sides
-        ensures { result ≡ record { sent = empty_view; now = empty_view } }
+        ensures { result ≡ record { sent = empty_view; wanted = empty_view } }
     {
         Sides {
             sent: View::new(alloc),
-            now: View::new(alloc),
+            wanted: View::new(alloc),
         }
     }
 }

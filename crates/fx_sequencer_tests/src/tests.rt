@@ -147,7 +147,7 @@ impl Bench {
     }
 
     fn turn_set(&mut self) -> Result<(), Memory> {
-        match self.sequencer.now().sets.get(&self.set) {
+        match self.sequencer.wanted().sets.get(&self.set) {
             None => self.sequencer.set_on(self.set),
             Some(members) if same(members, &MemberSet::new(self.alloc)) => {
                 self.sequencer.set_off(self.set)
@@ -157,7 +157,7 @@ impl Bench {
     }
 
     fn turn_member(&mut self) -> Result<(), Memory> {
-        let Some(members) = self.sequencer.now().sets.get(&self.set) else {
+        let Some(members) = self.sequencer.wanted().sets.get(&self.set) else {
             return Ok(());
         };
         if members.contains(self.member) {
@@ -168,7 +168,7 @@ impl Bench {
     }
 
     fn turn_policy(&mut self) -> Result<(), Memory> {
-        if self.sequencer.now().policies.contains_key(&self.policy) {
+        if self.sequencer.wanted().policies.contains_key(&self.policy) {
             return self.sequencer.policy_gone(self.policy);
         }
         let policy = policy(self.alloc, self.set)?;
@@ -176,7 +176,7 @@ impl Bench {
     }
 
     fn turn_profile(&mut self) -> Result<(), Memory> {
-        if self.sequencer.now().profiles.contains_key(&self.profile) {
+        if self.sequencer.wanted().profiles.contains_key(&self.profile) {
             return self.sequencer.profile_gone(self.profile);
         }
         let profile = profile(self.alloc)?;
@@ -184,7 +184,7 @@ impl Bench {
     }
 
     fn turn_endpoint(&mut self) -> Result<(), Memory> {
-        if self.sequencer.now().endpoints.contains_key(&self.iface) {
+        if self.sequencer.wanted().endpoints.contains_key(&self.iface) {
             return self.sequencer.endpoint_gone(&self.iface);
         }
         let endpoint = endpoint(self.alloc, self.profile)?;
@@ -204,7 +204,7 @@ impl Bench {
     /// Whether the next message tells of what the two views alone say. It is sent.
     fn sends_the_next(&mut self) -> Result<bool, Memory> {
         let sequencer = &self.sequencer;
-        let by_views = next_message(sequencer.sent_view(), sequencer.now());
+        let by_views = next_message(sequencer.sent_view(), sequencer.wanted());
         let agrees = match (sequencer.peek(), by_views) {
             (Some(message), Some(other)) => {
                 kind(&message) == kind(&other) && named(&message) == named(&other)

@@ -14,6 +14,6 @@ invariant-loop-name g l = record {
   active : l.joined.active ≡ record l.fn.joined.active { matched = l.joined.pairs };
   joined : IsJoined l.joined (g.S.ActiveSink.policies l.sink) (g.S.ActiveSink.profiles l.sink) (g.S.ActiveSink.pairs l.sink);
   inputs : l.members ≡ record l.fn.members { matched = l.joined.pairs };
-  members : AreMembers l.members l.sequencer.now.sets;
+  members : AreMembers l.members l.sequencer.wanted.sets;
   beside : SameButSets l.fn.sequencer l.sequencer;
 }

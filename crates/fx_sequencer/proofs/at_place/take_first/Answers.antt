@@ -11,11 +11,11 @@ returns-in_default-clause-ok c =
 pub returns-clause-ok : goal.returns-clause-ok
 returns-clause-ok c =
     let s = c.args.sides.now in
-    let taken = c.in_ok-take_at.ensures.ok ∙ step_taken s.sent s.now _ _ _ c.requires.pending c.in-Some.ensures.items in
-    λ i. record { sent = taken i; now = s.now }
+    let taken = c.in_ok-take_at.ensures.ok ∙ step_taken s.sent s.wanted _ _ _ c.requires.pending c.in-Some.ensures.items in
+    λ i. record { sent = taken i; wanted = s.wanted }
 
 pub returns-clause-others : goal.returns-clause-others
 returns-clause-others c =
     let s = c.args.sides.now in
-    others_pending s.sent s.now _ _ _ c.requires.pending c.in-Some.ensures.items
-    ∙ ap (λ v. pending_places v s.now) (sym c.in_ok-take_at.ensures.ok)
+    others_pending s.sent s.wanted _ _ _ c.requires.pending c.in-Some.ensures.items
+    ∙ ap (λ v. pending_places v s.wanted) (sym c.in_ok-take_at.ensures.ok)

@@ -4,7 +4,7 @@ use Rattle.fx_graph.proofs.Kept.{graph_sent}
 use Rattle.fx_graph.proofs.graph.Graph.sent.Goals as goal
 
 pub returns-clause-resources : goal.returns-clause-resources
-returns-clause-resources g c = λ R is. graph_sent g.R.DigestRule.digest_of R c.args.self.now.state is c.sent.new.self (ap (λ (q : Sides). q.now) c.in_ok-sent.ensures.ok)
+returns-clause-resources g c = λ R is. graph_sent g.R.DigestRule.digest_of R c.args.self.now.state is c.sent.new.self (ap (λ (q : Sides). q.wanted) c.in_ok-sent.ensures.ok)
 
 pub returns-in_err-sent-clause-resources : goal.returns-in_err-sent-clause-resources
-returns-in_err-sent-clause-resources g c = λ R is. graph_sent g.R.DigestRule.digest_of R c.args.self.now.state is c.sent.new.self (ap (λ (q : Sides). q.now) c.in_err-sent.ensures.err)
+returns-in_err-sent-clause-resources g c = λ R is. graph_sent g.R.DigestRule.digest_of R c.args.self.now.state is c.sent.new.self (ap (λ (q : Sides). q.wanted) c.in_err-sent.ensures.err)

@@ -34,8 +34,8 @@ returns-clause-settled g c =
       upper = u.upper (used_in c.args.self.now.uses) h.upper;
       policies = h.policies ∙ sym u.policies;
       profiles = h.profiles ∙ sym u.profiles;
-      scanned = subst (λ p. IsScanned g.R.DigestRule.digest_of c.args.self.now.scanner p c.supply_matches.new.sequencer.now.profiles c.args.self.now.uses) (sym m.beside.policies)
-          (subst (λ p. IsScanned g.R.DigestRule.digest_of c.args.self.now.scanner c.args.self.now.sequencer.now.policies p c.args.self.now.uses) (sym m.beside.profiles) h.scanned);
+      scanned = subst (λ p. IsScanned g.R.DigestRule.digest_of c.args.self.now.scanner p c.supply_matches.new.sequencer.wanted.profiles c.args.self.now.uses) (sym m.beside.policies)
+          (subst (λ p. IsScanned g.R.DigestRule.digest_of c.args.self.now.scanner c.args.self.now.sequencer.wanted.policies p c.args.self.now.uses) (sym m.beside.profiles) h.scanned);
       known = subst (λ p. AreKnown g.R.DigestRule.digest_of p c.args.self.now.resolver.policies) (sym u.policies) h.known;
       pairs = h.pairs ∙ sym u.pairs;
       resolved = subst (IsResolved c.args.self.now.resolver) (sym m.beside.endpoints) h.resolved;

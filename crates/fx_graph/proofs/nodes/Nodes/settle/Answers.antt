@@ -27,8 +27,8 @@ pub scan-requires-clause-scanned : goal.scan-requires-clause-scanned
 scan-requires-clause-scanned g c =
     let b = c.in_ok-supply_matches.ensures.beside in
     let s = c.args.self.now in
-    subst (λ p. IsScanned g.R.DigestRule.digest_of s.scanner p c.supply_matches.new.sequencer.now.profiles s.uses) (sym b.policies)
-    (subst (λ p. IsScanned g.R.DigestRule.digest_of s.scanner s.sequencer.now.policies p s.uses) (sym b.profiles) c.requires.ahead.1.scanned)
+    subst (λ p. IsScanned g.R.DigestRule.digest_of s.scanner p c.supply_matches.new.sequencer.wanted.profiles s.uses) (sym b.policies)
+    (subst (λ p. IsScanned g.R.DigestRule.digest_of s.scanner s.sequencer.wanted.policies p s.uses) (sym b.profiles) c.requires.ahead.1.scanned)
 
 pub resolve-requires-clause-behind : goal.resolve-requires-clause-behind
 resolve-requires-clause-behind g c = c.requires.ahead.1.behind
@@ -71,8 +71,8 @@ returns-clause-settled g c = λ before h.
       upper = f.upper before (record { was = c.args.self.now.uses; noted = s.noted; upper = h.upper });
       policies = (λ j. (s.inputs j).policies) ∙ sym f.policies;
       profiles = (λ j. (s.inputs j).profiles) ∙ sym f.profiles;
-      scanned = subst (λ p. IsScanned g.R.DigestRule.digest_of c.scan.new.scanner p c.feed.new.sequencer.now.profiles c.scan.new.uses) (sym (f.beside.policies ∙ u.beside.policies ∙ r.policies))
-          (subst (λ p. IsScanned g.R.DigestRule.digest_of c.scan.new.scanner c.scan.new.sequencer.now.policies p c.scan.new.uses) (sym (f.beside.profiles ∙ u.beside.profiles ∙ r.profiles)) s.scanned);
+      scanned = subst (λ p. IsScanned g.R.DigestRule.digest_of c.scan.new.scanner p c.feed.new.sequencer.wanted.profiles c.scan.new.uses) (sym (f.beside.policies ∙ u.beside.policies ∙ r.policies))
+          (subst (λ p. IsScanned g.R.DigestRule.digest_of c.scan.new.scanner c.scan.new.sequencer.wanted.policies p c.scan.new.uses) (sym (f.beside.profiles ∙ u.beside.profiles ∙ r.profiles)) s.scanned);
       known = subst (λ m. AreKnown g.R.DigestRule.digest_of m c.resolve.new.resolver.policies) (sym f.policies) r.known;
       pairs = (λ j. (r.inputs j).pairs) ∙ sym f.pairs;
       resolved = subst (IsResolved c.resolve.new.resolver) (sym (f.beside.endpoints ∙ u.beside.endpoints)) r.resolved;
