@@ -6,7 +6,9 @@ use fx_model::{
 };
 use fx_names::{DigestFunction, DigestRule, Namer};
 use fx_selector::{Labels, Selector};
-use fx_wanted::{applies, effective_labels, is_active, next_message, place_of, take_at, view_of};
+use fx_wanted::{
+    applies, effective_labels, is_active, next_message, pending_key_of, take_at, view_of,
+};
 use std::alloc::Global;
 use std::process::Abort;
 use std::test::Fail;
@@ -160,8 +162,8 @@ fn follow(rt: &impl Abort, sent: &mut View, wanted: &View) -> Result<(), Fail> {
     for _ in 0..3 {
         assert!(rt; *sent != *wanted);
         if let Some(message) = next_message(sent, wanted) {
-            let place = place_of(&message)?;
-            take_at(sent, wanted, place)?;
+            let key = pending_key_of(&message)?;
+            take_at(sent, wanted, key)?;
         }
     }
     assert!(rt; *sent == *wanted);

@@ -1,5 +1,5 @@
 pub mod Exchanged
-pub mod NextPlaces
+pub mod NextPending
 pub mod PassingEntries
-pub mod PlacesAfter
+pub mod PendingAfter
 pub mod Silent

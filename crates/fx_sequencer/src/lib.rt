@@ -4,7 +4,7 @@
 pub use sequencer::Sequencer;
 pub use sides::Sides;
 
-mod at_place;
+mod at_key;
 mod held_sets;
 mod pending;
 mod sequencer;

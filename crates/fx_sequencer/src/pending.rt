@@ -1,13 +1,13 @@
-//! The places that are not as they are wanted, in the order of the messages that tell of them. One walk lists them all.
+//! The pending keys, at which the sent view is not as it is wanted, in the order of the messages that tell of them. One walk lists them all.
 ghost use Rattle.std.specs.Prelude.{◌≡◌, ◌++◌, ◌&&◌, not, is_some, IfOk, OnOk, Some};
 ghost use Rattle.std.specs.Option.{option_copied, option_eq};
 ghost use Rattle.fx_model.specs.contracts.member.MemberSetPartialEq.TheImpl as members_eq;
-ghost use Rattle.fx_wanted.specs.declared.place.Place.TheVariants as place;
-ghost use Rattle.fx_sequencer.specs.Pending.{absent_places, changed_places, gone_places, other_places, pending_places, place_of_key, put_places};
+ghost use Rattle.fx_wanted.specs.declared.pending_key.PendingKey.TheVariants as pending_key;
+ghost use Rattle.fx_sequencer.specs.Pending.{absent_keys, changed_keys, gone_keys, other_keys, pending_keys, key_of_kind, put_keys};
 
 use fx_base::{Exact, Memory, NameKey, NameMap, SetMap, TextMap};
 use fx_model::{MemberSet, View};
-use fx_wanted::Place;
+use fx_wanted::PendingKey;
 use std::alloc::Global;
 use std::collections::VecDeque;
 
@@ -18,50 +18,54 @@ pub enum Kind {
     Profile,
 }
 
-/// The places that are not as they are wanted.
-pub fn pending_places(alloc: Global, sent: &View, wanted: &View) -> Result<VecDeque<Place>, Memory>
-    ensures { IfOk result (λ places. places.items ≡ pending_places sent.now wanted.now) }
+/// The pending keys, at which the sent view is not as it is wanted.
+pub fn pending_keys(
+    alloc: Global,
+    sent: &View,
+    wanted: &View,
+) -> Result<VecDeque<PendingKey>, Memory>
+    ensures { IfOk result (λ pending. pending.items ≡ pending_keys sent.now wanted.now) }
 {
-    let mut places = VecDeque::new(alloc);
-    list_put(&mut places, sent, wanted)?;
-    list_gone(&mut places, sent, wanted)?;
-    Ok(places)
+    let mut pending = VecDeque::new(alloc);
+    list_put(&mut pending, sent, wanted)?;
+    list_gone(&mut pending, sent, wanted)?;
+    Ok(pending)
 }
 
 // What is new or other: sets, policies, profiles, endpoints.
-fn list_put(places: &mut VecDeque<Place>, sent: &View, wanted: &View) -> Result<(), Memory>
-    ensures { OnOk result (places.new.items ≡ places.old.items ++ put_places sent.now wanted.now) }
+fn list_put(pending: &mut VecDeque<PendingKey>, sent: &View, wanted: &View) -> Result<(), Memory>
+    ensures { OnOk result (pending.new.items ≡ pending.old.items ++ put_keys sent.now wanted.now) }
 {
-    list_absent_sets(places, &sent.sets, &wanted.sets)?;
-    list_other_sets(places, &sent.sets, &wanted.sets)?;
-    list_changed_keys(places, Kind::Policy, &sent.policies, &wanted.policies)?;
-    list_changed_keys(places, Kind::Profile, &sent.profiles, &wanted.profiles)?;
-    list_changed_texts(places, &sent.endpoints, &wanted.endpoints)?;
+    list_absent_sets(pending, &sent.sets, &wanted.sets)?;
+    list_other_sets(pending, &sent.sets, &wanted.sets)?;
+    list_changed_keys(pending, Kind::Policy, &sent.policies, &wanted.policies)?;
+    list_changed_keys(pending, Kind::Profile, &sent.profiles, &wanted.profiles)?;
+    list_changed_texts(pending, &sent.endpoints, &wanted.endpoints)?;
     Ok(())
 }
 
 // What is gone: endpoints, profiles, policies, sets.
-fn list_gone(places: &mut VecDeque<Place>, sent: &View, wanted: &View) -> Result<(), Memory>
-    ensures { OnOk result (places.new.items ≡ places.old.items ++ gone_places sent.now wanted.now) }
+fn list_gone(pending: &mut VecDeque<PendingKey>, sent: &View, wanted: &View) -> Result<(), Memory>
+    ensures { OnOk result (pending.new.items ≡ pending.old.items ++ gone_keys sent.now wanted.now) }
 {
-    list_absent_texts(places, &wanted.endpoints, &sent.endpoints)?;
-    list_absent_keys(places, Kind::Profile, &wanted.profiles, &sent.profiles)?;
-    list_absent_keys(places, Kind::Policy, &wanted.policies, &sent.policies)?;
-    list_absent_sets(places, &wanted.sets, &sent.sets)?;
+    list_absent_texts(pending, &wanted.endpoints, &sent.endpoints)?;
+    list_absent_keys(pending, Kind::Profile, &wanted.profiles, &sent.profiles)?;
+    list_absent_keys(pending, Kind::Policy, &wanted.policies, &sent.policies)?;
+    list_absent_sets(pending, &wanted.sets, &sent.sets)?;
     Ok(())
 }
 
 // The sets that the map has not.
 fn list_absent_sets(
-    places: &mut VecDeque<Place>,
+    pending: &mut VecDeque<PendingKey>,
     held: &SetMap<MemberSet>,
     names: &SetMap<MemberSet>,
 ) -> Result<(), Memory>
-    ensures { OnOk result (places.new.items ≡ places.old.items ++ absent_places place.Set held.now names.now) }
+    ensures { OnOk result (pending.new.items ≡ pending.old.items ++ absent_keys pending_key.Set held.now names.now) }
 {
     for (name, _) in names.iter() {
         if !held.contains_key(name) {
-            places.push_back(Place::Set(*name))?;
+            pending.push_back(PendingKey::Set(*name))?;
         }
     }
     Ok(())
@@ -69,16 +73,16 @@ fn list_absent_sets(
 
 // The sets that the map has with other members.
 fn list_other_sets(
-    places: &mut VecDeque<Place>,
+    pending: &mut VecDeque<PendingKey>,
     sent: &SetMap<MemberSet>,
     wanted: &SetMap<MemberSet>,
 ) -> Result<(), Memory>
-    ensures { OnOk result (places.new.items ≡ places.old.items
-        ++ other_places members_eq.eq-value.it place.Set sent.now wanted.now) }
+    ensures { OnOk result (pending.new.items ≡ pending.old.items
+        ++ other_keys members_eq.eq-value.it pending_key.Set sent.now wanted.now) }
 {
     for (name, members) in wanted.iter() {
         if has_other(sent.get(name), members) {
-            places.push_back(Place::Set(*name))?;
+            pending.push_back(PendingKey::Set(*name))?;
         }
     }
     Ok(())
@@ -105,28 +109,28 @@ fn differs<V: Exact>(before: Option<&V>, value: &V) -> bool
     }
 }
 
-fn place_of_key(kind: Kind, key: NameKey) -> Place
-    ensures { result ≡ place_of_key kind key }
+fn key_of_kind(kind: Kind, key: NameKey) -> PendingKey
+    ensures { result ≡ key_of_kind kind key }
 {
     match kind {
-        Kind::Policy => Place::Policy(key),
-        Kind::Profile => Place::Profile(key),
+        Kind::Policy => PendingKey::Policy(key),
+        Kind::Profile => PendingKey::Profile(key),
     }
 }
 
 // The keys at which the map has not the value.
 fn list_changed_keys<V: Exact>(
-    places: &mut VecDeque<Place>,
+    pending: &mut VecDeque<PendingKey>,
     kind: Kind,
     sent: &NameMap<V>,
     wanted: &NameMap<V>,
 ) -> Result<(), Memory>
-    ensures { OnOk result (places.new.items ≡ places.old.items
-        ++ changed_places V.eq (place_of_key kind) sent.now wanted.now) }
+    ensures { OnOk result (pending.new.items ≡ pending.old.items
+        ++ changed_keys V.eq (key_of_kind kind) sent.now wanted.now) }
 {
     for (key, value) in wanted.iter() {
         if differs(sent.get(key), value) {
-            places.push_back(place_of_key(kind, *key))?;
+            pending.push_back(key_of_kind(kind, *key))?;
         }
     }
     Ok(())
@@ -134,16 +138,16 @@ fn list_changed_keys<V: Exact>(
 
 // The keys that the map has not.
 fn list_absent_keys<V>(
-    places: &mut VecDeque<Place>,
+    pending: &mut VecDeque<PendingKey>,
     kind: Kind,
     held: &NameMap<V>,
     keys: &NameMap<V>,
 ) -> Result<(), Memory>
-    ensures { OnOk result (places.new.items ≡ places.old.items ++ absent_places (place_of_key kind) held.now keys.now) }
+    ensures { OnOk result (pending.new.items ≡ pending.old.items ++ absent_keys (key_of_kind kind) held.now keys.now) }
 {
     for (key, _) in keys.iter() {
         if !held.contains_key(key) {
-            places.push_back(place_of_key(kind, *key))?;
+            pending.push_back(key_of_kind(kind, *key))?;
         }
     }
     Ok(())
@@ -151,15 +155,15 @@ fn list_absent_keys<V>(
 
 // The texts at which the map has not the value.
 fn list_changed_texts<V: Exact>(
-    places: &mut VecDeque<Place>,
+    pending: &mut VecDeque<PendingKey>,
     sent: &TextMap<V>,
     wanted: &TextMap<V>,
 ) -> Result<(), Memory>
-    ensures { OnOk result (places.new.items ≡ places.old.items ++ changed_places V.eq place.Endpoint sent.now wanted.now) }
+    ensures { OnOk result (pending.new.items ≡ pending.old.items ++ changed_keys V.eq pending_key.Endpoint sent.now wanted.now) }
 {
     for (text, value) in wanted.iter() {
         if differs(sent.get(text), value) {
-            places.push_back(Place::Endpoint(text.clone()?))?;
+            pending.push_back(PendingKey::Endpoint(text.clone()?))?;
         }
     }
     Ok(())
@@ -167,15 +171,15 @@ fn list_changed_texts<V: Exact>(
 
 // The texts that the map has not.
 fn list_absent_texts<V>(
-    places: &mut VecDeque<Place>,
+    pending: &mut VecDeque<PendingKey>,
     held: &TextMap<V>,
     texts: &TextMap<V>,
 ) -> Result<(), Memory>
-    ensures { OnOk result (places.new.items ≡ places.old.items ++ absent_places place.Endpoint held.now texts.now) }
+    ensures { OnOk result (pending.new.items ≡ pending.old.items ++ absent_keys pending_key.Endpoint held.now texts.now) }
 {
     for (text, _) in texts.iter() {
         if !held.contains_key(text) {
-            places.push_back(Place::Endpoint(text.clone()?))?;
+            pending.push_back(PendingKey::Endpoint(text.clone()?))?;
         }
     }
     Ok(())

@@ -4,7 +4,7 @@
 //!   `SetSink`. These calls change the view that is wanted now, and no other.
 //! - **Gives** the next message from the view that was sent towards that one, by `next_message`. `sent` marks it as sent. So of
 //!   what comes and goes between two messages only the difference is told.
-//! - **Holds** both views whole, and once a message was sent the places that still differ, so that the messages after it need no
+//! - **Holds** both views whole, and once a message was sent the keys that still differ, so that the messages after it need no
 //!   walk of the views. A change of the wanted view forgets them.
 ghost use Rattle.std.specs.Prelude.{◌≡◌, ◌↔◌, IsOk, OnOk, OnErr, IsSome, IsNone, Some, true, false, option_map};
 ghost use Rattle.std.specs.FinMap as map;
@@ -14,14 +14,14 @@ ghost use Rattle.fx_model.specs.Messages.{members_of, next_message, step};
 ghost use Rattle.fx_model.specs.Views.{empty_view};
 ghost use Rattle.fx_sequencer.specs.Sides.{SameSentAndSets};
 
-use crate::at_place::{first_message, listed, take_first};
+use crate::at_key::{first_message, listed, take_first};
 use crate::held_sets::{put_member, remove_member};
 use crate::sides::Sides;
 use fx_base::{Memory, NameKey, SetName, Text};
 use fx_model::{
     Member, MemberSet, Message, SetSink, View, ViewEndpoint, ViewPolicy, ViewProfile, ViewSink,
 };
-use fx_wanted::{Place, next_message};
+use fx_wanted::{PendingKey, next_message};
 use std::alloc::Global;
 use std::collections::VecDeque;
 use std::marker::Model;
@@ -31,8 +31,8 @@ use std::marker::Model;
 pub struct Sequencer {
     alloc: Global,
     sides: Sides,
-    /// The places that are not as they are wanted, in the order of their messages, if they were listed since the last change.
-    ahead: Option<VecDeque<Place>>,
+    /// The pending keys, at which the sent view is not as it is wanted, in the order of their messages, if they were listed since the last change.
+    ahead: Option<VecDeque<PendingKey>>,
 }
 
 impl Model for Sequencer {
@@ -47,9 +47,9 @@ impl Model for Sequencer {
 
     ghost use Rattle.std.specs.Prelude.{◌≡◌};
     ghost use Rattle.std.specs.Option.{ForSome};
-    ghost use Rattle.fx_sequencer.specs.Pending.{pending_places};
+    ghost use Rattle.fx_sequencer.specs.Pending.{pending_keys};
 
-    ghost invariant = { λ a. ForSome a.ahead (λ places. places.items ≡ pending_places a.sides.sent a.sides.wanted) };
+    ghost invariant = { λ a. ForSome a.ahead (λ pending. pending.items ≡ pending_keys a.sides.sent a.sides.wanted) };
 }
 
 impl Sequencer {
@@ -70,7 +70,7 @@ impl Sequencer {
         ensures none { IsNone result ↔ (self.now.sent ≡ self.now.wanted) }
     {
         match &self.ahead {
-            Some(places) => first_message(places, &self.sides.sent, &self.sides.wanted),
+            Some(pending) => first_message(pending, &self.sides.sent, &self.sides.wanted),
             None => next_message(&self.sides.sent, &self.sides.wanted),
         }
     }
@@ -82,8 +82,8 @@ impl Sequencer {
         ensures err { OnErr result (self.new ≡ self.old) }
     {
         let ahead = self.ahead.take();
-        let places = listed(self.alloc, ahead, &self.sides.sent, &self.sides.wanted)?;
-        self.ahead = Some(take_first(&mut self.sides, places)?);
+        let pending = listed(self.alloc, ahead, &self.sides.sent, &self.sides.wanted)?;
+        self.ahead = Some(take_first(&mut self.sides, pending)?);
         Ok(())
     }
 

@@ -4,13 +4,13 @@
 
 pub use labels::{applies, effective_labels, is_active};
 pub use next::next_message;
-pub use place::{Place, place_of, take_at};
+pub use pending_key::{PendingKey, pending_key_of, take_at};
 pub use policies::view_policy;
 pub use view::{view_of, view_profile};
 
 mod labels;
 mod next;
-mod place;
+mod pending_key;
 mod policies;
 mod sets;
 mod view;

@@ -1,12 +1,12 @@
 use Rattle.std.proofs.Common.{◌≡◌, List, ℕ, ◌++◌, map}
 use Rattle.std.specs.List.{filter}
-use Rattle.fx_wanted.specs.declared.place.Place.TheVariants as place
+use Rattle.fx_wanted.specs.declared.pending_key.PendingKey.TheVariants as pending_key
 use Rattle.fx_model.specs.Messages.{is_absent}
-use Rattle.fx_sequencer.specs.Pending.{absent_places}
+use Rattle.fx_sequencer.specs.Pending.{absent_keys}
 use Rattle.fx_sequencer.proofs.pending.list_absent_texts.Given as goal
 
 -- what is listed, and what the rest of the walk lists, is what was listed before and what the map lists
 abbrev pub invariant-loop-text : goal.invariant-loop-text
 invariant-loop-text g l =
-    l.places.items ++ map (λ e. place.Endpoint e.0) (filter (is_absent l.held) l.text-iterator)
-    ≡ l.fn.places.items ++ absent_places place.Endpoint l.held l.texts
+    l.pending.items ++ map (λ e. pending_key.Endpoint e.0) (filter (is_absent l.held) l.text-iterator)
+    ≡ l.fn.pending.items ++ absent_keys pending_key.Endpoint l.held l.texts

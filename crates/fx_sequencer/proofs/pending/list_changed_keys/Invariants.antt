@@ -1,11 +1,11 @@
 use Rattle.std.proofs.Common.{◌≡◌, List, ℕ, ◌++◌, map}
 use Rattle.std.specs.List.{filter}
 use Rattle.fx_model.specs.Messages.{is_changed}
-use Rattle.fx_sequencer.specs.Pending.{changed_places, place_of_key}
+use Rattle.fx_sequencer.specs.Pending.{changed_keys, key_of_kind}
 use Rattle.fx_sequencer.proofs.pending.list_changed_keys.Given as goal
 
 -- what is listed, and what the rest of the walk lists, is what was listed before and what the map lists
 abbrev pub invariant-loop-key : goal.invariant-loop-key
 invariant-loop-key g l =
-    l.places.items ++ map (λ e. place_of_key l.kind e.0) (filter (is_changed g.V.PartialEq.eq l.sent) l.key-iterator)
-    ≡ l.fn.places.items ++ changed_places g.V.PartialEq.eq (place_of_key l.kind) l.sent l.wanted
+    l.pending.items ++ map (λ e. key_of_kind l.kind e.0) (filter (is_changed g.V.PartialEq.eq l.sent) l.key-iterator)
+    ≡ l.fn.pending.items ++ changed_keys g.V.PartialEq.eq (key_of_kind l.kind) l.sent l.wanted

@@ -1,13 +1,13 @@
 use Rattle.std.proofs.Common.{◌≡◌, List, ℕ, ◌++◌, map}
 use Rattle.std.specs.List.{filter}
-use Rattle.fx_wanted.specs.declared.place.Place.TheVariants as place
+use Rattle.fx_wanted.specs.declared.pending_key.PendingKey.TheVariants as pending_key
 use Rattle.fx_model.specs.contracts.member.MemberSetPartialEq.TheImpl as members_eq
 use Rattle.fx_model.specs.Messages.{is_other}
-use Rattle.fx_sequencer.specs.Pending.{other_places}
+use Rattle.fx_sequencer.specs.Pending.{other_keys}
 use Rattle.fx_sequencer.proofs.pending.list_other_sets.Given as goal
 
 -- what is listed, and what the rest of the walk lists, is what was listed before and what the map lists
 abbrev pub invariant-loop-name : goal.invariant-loop-name
 invariant-loop-name l =
-    l.places.items ++ map (λ e. place.Set e.0) (filter (is_other members_eq.eq-value.it l.sent) l.name-iterator)
-    ≡ l.fn.places.items ++ other_places members_eq.eq-value.it place.Set l.sent l.wanted
+    l.pending.items ++ map (λ e. pending_key.Set e.0) (filter (is_other members_eq.eq-value.it l.sent) l.name-iterator)
+    ≡ l.fn.pending.items ++ other_keys members_eq.eq-value.it pending_key.Set l.sent l.wanted

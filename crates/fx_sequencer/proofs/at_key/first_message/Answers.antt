@@ -1,6 +1,6 @@
 use Rattle.std.proofs.Common.{Some, ap, ◌∙◌}
-use Rattle.fx_sequencer.proofs.NextPlaces.{told_front, none_front}
-use Rattle.fx_sequencer.proofs.at_place.first_message.Goals as goal
+use Rattle.fx_sequencer.proofs.NextPending.{told_front, none_front}
+use Rattle.fx_sequencer.proofs.at_key.first_message.Goals as goal
 
 pub returns-in-Some : goal.returns-in-Some
 returns-in-Some c =

@@ -1,12 +1,12 @@
--- The places that are not as they are wanted, once the first of them was taken over: all but that one.
+-- The pending keys, at which the sent view is not as it is wanted, once the first of them was taken over: all but that one.
 use Rattle.std.proofs.Common.{◌≡◌, ℕ, Bool, true, false, not, ◌&&◌, List, [], ◌∷◌, ◌++◌, map, Option, Some, None, is_some, refl, ap, ◌∙◌, subst}
 use Rattle.std.specs.List.{filter}
 use Rattle.std.specs.Option.{option_eq}
 use Rattle.std.specs.FinMap as maps
 use Rattle.fx_base.specs.Extended.{taken_from}
 use Rattle.fx_base.proofs.Found.{found_passes}
-use Rattle.fx_wanted.specs.declared.place.Place.{Place}
-use Rattle.fx_wanted.specs.declared.place.Place.TheVariants as place
+use Rattle.fx_wanted.specs.declared.pending_key.PendingKey.{PendingKey}
+use Rattle.fx_wanted.specs.declared.pending_key.PendingKey.TheVariants as pending_key
 use Rattle.fx_model.specs.declared.view.View.{View}
 use Rattle.fx_model.specs.contracts.view.ViewPolicyPartialEq.TheImpl as policy_eq
 use Rattle.fx_model.specs.contracts.view.ViewPolicyEq.TheImpl.Laws as policy_laws
@@ -17,9 +17,9 @@ use Rattle.fx_model.specs.contracts.view.ViewEndpointEq.TheImpl.Laws as endpoint
 use Rattle.fx_model.specs.contracts.member.MemberSetPartialEq.TheImpl as members_eq
 use Rattle.fx_model.specs.contracts.member.MemberSetEq.TheImpl.Laws as members_laws
 use Rattle.fx_model.specs.Messages.{Named, is_absent, is_changed, is_other}
-use Rattle.fx_wanted.specs.Places.{taken_at}
+use Rattle.fx_wanted.specs.PendingKeys.{taken_at}
 use Rattle.fx_laws.proofs.Apart.{found_there}
-use Rattle.fx_sequencer.specs.Pending.{absent_places, changed_places, other_places, put_places, gone_places, pending_places}
+use Rattle.fx_sequencer.specs.Pending.{absent_keys, changed_keys, other_keys, put_keys, gone_keys, pending_keys}
 use Rattle.fx_sequencer.proofs.PassingEntries.{same_first, same_rest, head_found, first_taken, none_taken, absent_there, first_removed, none_removed}
 use Rattle.fx_base.proofs.Cases.{first_true}
 
@@ -40,23 +40,23 @@ no_value h x none some = cc
 
 -- ---- one map m that takes over from n
 
-module _ {X : Type 0} (eq : X → X → Bool) (itself : (x : X) → eq x x ≡ true) (at : List ℕ → Place) (m n : Named X) where
-  -- what is listed of the map where the key of a place was taken over
-  pub record AfterPlace (p : Place) (absent other gone : List Place) : Type 0 where
+module _ {X : Type 0} (eq : X → X → Bool) (itself : (x : X) → eq x x ≡ true) (at : List ℕ → PendingKey) (m n : Named X) where
+  -- what is listed of the map where a key was taken over
+  pub record AfterKey (p : PendingKey) (absent other gone : List PendingKey) : Type 0 where
     pub key : List ℕ
     pub here : at key ≡ p
-    pub absent_is : absent_places at (taken_from m n key) n ≡ absent
-    pub other_is : other_places eq at (taken_from m n key) n ≡ other
-    pub gone_is : absent_places at n (taken_from m n key) ≡ gone
+    pub absent_is : absent_keys at (taken_from m n key) n ≡ absent
+    pub other_is : other_keys eq at (taken_from m n key) n ≡ other
+    pub gone_is : absent_keys at n (taken_from m n key) ≡ gone
 
   -- the same, where what is new and what is other are listed as one
-  pub record AfterKey (p : Place) (changed gone : List Place) : Type 0 where
+  pub record AfterKey (p : PendingKey) (changed gone : List PendingKey) : Type 0 where
     pub key : List ℕ
     pub here : at key ≡ p
-    pub changed_is : changed_places eq at (taken_from m n key) n ≡ changed
-    pub gone_is : absent_places at n (taken_from m n key) ≡ gone
+    pub changed_is : changed_keys eq at (taken_from m n key) n ≡ changed
+    pub gone_is : absent_keys at n (taken_from m n key) ≡ gone
 
-  abbrev keyed : List (List ℕ × X) → List Place
+  abbrev keyed : List (List ℕ × X) → List PendingKey
   keyed = map (λ e. at e.0)
 
   abbrev absent_test : Option X → X → Bool
@@ -68,19 +68,19 @@ module _ {X : Type 0} (eq : X → X → Bool) (itself : (x : X) → eq x x ≡ t
   abbrev other_test : Option X → X → Bool
   other_test h x = is_some h && not (option_eq eq h (Some x))
 
-  absent_stays : (k : List ℕ) → ((x : X) → maps.get n k ≡ Some x → absent_test (maps.get m k) x ≡ false) → absent_places at (taken_from m n k) n ≡ absent_places at m n
+  absent_stays : (k : List ℕ) → ((x : X) → maps.get n k ≡ Some x → absent_test (maps.get m k) x ≡ false) → absent_keys at (taken_from m n k) n ≡ absent_keys at m n
   absent_stays k fails = ap keyed (none_taken absent_test (λ x. refl) m n k fails)
 
-  other_stays : (k : List ℕ) → ((x : X) → maps.get n k ≡ Some x → other_test (maps.get m k) x ≡ false) → other_places eq at (taken_from m n k) n ≡ other_places eq at m n
+  other_stays : (k : List ℕ) → ((x : X) → maps.get n k ≡ Some x → other_test (maps.get m k) x ≡ false) → other_keys eq at (taken_from m n k) n ≡ other_keys eq at m n
   other_stays k fails = ap keyed (none_taken other_test (λ x. ap not (itself x)) m n k fails)
 
-  changed_stays : (k : List ℕ) → ((x : X) → maps.get n k ≡ Some x → changed_test (maps.get m k) x ≡ false) → changed_places eq at (taken_from m n k) n ≡ changed_places eq at m n
+  changed_stays : (k : List ℕ) → ((x : X) → maps.get n k ≡ Some x → changed_test (maps.get m k) x ≡ false) → changed_keys eq at (taken_from m n k) n ≡ changed_keys eq at m n
   changed_stays k fails = ap keyed (none_taken changed_test (λ x. ap not (itself x)) m n k fails)
 
-  gone_stays : (k : List ℕ) (x : X) → maps.get n k ≡ Some x → absent_places at n (taken_from m n k) ≡ absent_places at n m
+  gone_stays : (k : List ℕ) (x : X) → maps.get n k ≡ Some x → absent_keys at n (taken_from m n k) ≡ absent_keys at n m
   gone_stays k x there = ap keyed (none_removed m n k x there)
 
-  pub absent_first : (p : Place) (ps : List Place) → absent_places at m n ≡ p ∷ ps → AfterPlace p ps (other_places eq at m n) (absent_places at n m)
+  pub absent_first : (p : PendingKey) (ps : List PendingKey) → absent_keys at m n ≡ p ∷ ps → AfterKey p ps (other_keys eq at m n) (absent_keys at n m)
   absent_first p ps is =
       let b = begins (λ (e : List ℕ × X). at e.0) (filter (is_absent m) (maps.entries n)) p ps is in
       let found = head_found (is_absent m) (maps.entries n) b.first b.others b.is in
@@ -93,7 +93,7 @@ module _ {X : Type 0} (eq : X → X → Bool) (itself : (x : X) → eq x x ≡ t
         gone_is = gone_stays b.first.0 b.first.1 (found_there (is_absent m) n b.first found);
       }
 
-  pub other_first : (p : Place) (ps : List Place) → other_places eq at m n ≡ p ∷ ps → AfterPlace p (absent_places at m n) ps (absent_places at n m)
+  pub other_first : (p : PendingKey) (ps : List PendingKey) → other_keys eq at m n ≡ p ∷ ps → AfterKey p (absent_keys at m n) ps (absent_keys at n m)
   other_first p ps is =
       let b = begins (λ (e : List ℕ × X). at e.0) (filter (is_other eq m) (maps.entries n)) p ps is in
       let found = head_found (is_other eq m) (maps.entries n) b.first b.others b.is in
@@ -106,7 +106,7 @@ module _ {X : Type 0} (eq : X → X → Bool) (itself : (x : X) → eq x x ≡ t
         gone_is = gone_stays b.first.0 b.first.1 (found_there (is_other eq m) n b.first found);
       }
 
-  pub changed_first : (p : Place) (ps : List Place) → changed_places eq at m n ≡ p ∷ ps → AfterKey p ps (absent_places at n m)
+  pub changed_first : (p : PendingKey) (ps : List PendingKey) → changed_keys eq at m n ≡ p ∷ ps → AfterKey p ps (absent_keys at n m)
   changed_first p ps is =
       let b = begins (λ (e : List ℕ × X). at e.0) (filter (is_changed eq m) (maps.entries n)) p ps is in
       let found = head_found (is_changed eq m) (maps.entries n) b.first b.others b.is in
@@ -117,8 +117,8 @@ module _ {X : Type 0} (eq : X → X → Bool) (itself : (x : X) → eq x x ≡ t
         gone_is = gone_stays b.first.0 b.first.1 (found_there (is_changed eq m) n b.first found);
       }
 
-  pub place_gone_first : (p : Place) (ps : List Place) → absent_places at n m ≡ p ∷ ps → AfterPlace p (absent_places at m n) (other_places eq at m n) ps
-  place_gone_first p ps is =
+  pub key_gone_first : (p : PendingKey) (ps : List PendingKey) → absent_keys at n m ≡ p ∷ ps → AfterKey p (absent_keys at m n) (other_keys eq at m n) ps
+  key_gone_first p ps is =
       let b = begins (λ (e : List ℕ × X). at e.0) (filter (is_absent n) (maps.entries m)) p ps is in
       let none = absent_there m n b.first (head_found (is_absent n) (maps.entries m) b.first b.others b.is) in
       record {
@@ -129,7 +129,7 @@ module _ {X : Type 0} (eq : X → X → Bool) (itself : (x : X) → eq x x ≡ t
         gone_is = ap keyed (first_removed m n b.first b.others b.is) ∙ b.later;
       }
 
-  pub key_gone_first : (p : Place) (ps : List Place) → absent_places at n m ≡ p ∷ ps → AfterKey p (changed_places eq at m n) ps
+  pub key_gone_first : (p : PendingKey) (ps : List PendingKey) → absent_keys at n m ≡ p ∷ ps → AfterKey p (changed_keys eq at m n) ps
   key_gone_first p ps is =
       let b = begins (λ (e : List ℕ × X). at e.0) (filter (is_absent n) (maps.entries m)) p ps is in
       let none = absent_there m n b.first (head_found (is_absent n) (maps.entries m) b.first b.others b.is) in
@@ -148,39 +148,39 @@ by_append P [] zs y ys e first later = later refl e
 by_append P (x ∷ xs) zs y ys e first later = first xs (ap (λ z. z ∷ xs) (same_first x y (xs ++ zs) ys e)) (same_rest x y (xs ++ zs) ys e)
 
 module _ (s w : View) where
-  abbrev new_sets : List Place
-  new_sets = absent_places place.Set s.sets w.sets
+  abbrev new_sets : List PendingKey
+  new_sets = absent_keys pending_key.Set s.sets w.sets
 
-  abbrev other_sets : List Place
-  other_sets = other_places members_eq.eq-value.it place.Set s.sets w.sets
+  abbrev other_sets : List PendingKey
+  other_sets = other_keys members_eq.eq-value.it pending_key.Set s.sets w.sets
 
-  abbrev policies : List Place
-  policies = changed_places policy_eq.eq-value.it place.Policy s.policies w.policies
+  abbrev policies : List PendingKey
+  policies = changed_keys policy_eq.eq-value.it pending_key.Policy s.policies w.policies
 
-  abbrev profiles : List Place
-  profiles = changed_places profile_eq.eq-value.it place.Profile s.profiles w.profiles
+  abbrev profiles : List PendingKey
+  profiles = changed_keys profile_eq.eq-value.it pending_key.Profile s.profiles w.profiles
 
-  abbrev endpoints : List Place
-  endpoints = changed_places endpoint_eq.eq-value.it place.Endpoint s.endpoints w.endpoints
+  abbrev endpoints : List PendingKey
+  endpoints = changed_keys endpoint_eq.eq-value.it pending_key.Endpoint s.endpoints w.endpoints
 
-  abbrev endpoints_gone : List Place
-  endpoints_gone = absent_places place.Endpoint w.endpoints s.endpoints
+  abbrev endpoints_gone : List PendingKey
+  endpoints_gone = absent_keys pending_key.Endpoint w.endpoints s.endpoints
 
-  abbrev profiles_gone : List Place
-  profiles_gone = absent_places place.Profile w.profiles s.profiles
+  abbrev profiles_gone : List PendingKey
+  profiles_gone = absent_keys pending_key.Profile w.profiles s.profiles
 
-  abbrev policies_gone : List Place
-  policies_gone = absent_places place.Policy w.policies s.policies
+  abbrev policies_gone : List PendingKey
+  policies_gone = absent_keys pending_key.Policy w.policies s.policies
 
-  abbrev sets_gone : List Place
-  sets_gone = absent_places place.Set w.sets s.sets
+  abbrev sets_gone : List PendingKey
+  sets_gone = absent_keys pending_key.Set w.sets s.sets
 
-  -- what is listed where a place was taken over
-  record Listed (p : Place) (put gone : List Place) : Type 0 where
-    pub put_is : put_places (taken_at p s w) w ≡ put
-    pub gone_is : gone_places (taken_at p s w) w ≡ gone
+  -- what is listed where a key was taken over
+  record Listed (p : PendingKey) (put gone : List PendingKey) : Type 0 where
+    pub put_is : put_keys (taken_at p s w) w ≡ put
+    pub gone_is : gone_keys (taken_at p s w) w ≡ gone
 
-  after_set : (p : Place) (absent other gone : List Place) → AfterPlace members_eq.eq-value.it members_laws.laws-law.refl place.Set s.sets w.sets p absent other gone
+  after_set : (p : PendingKey) (absent other gone : List PendingKey) → AfterKey members_eq.eq-value.it members_laws.laws-law.refl pending_key.Set s.sets w.sets p absent other gone
       → Listed p (absent ++ (other ++ (policies ++ (profiles ++ endpoints)))) (endpoints_gone ++ (profiles_gone ++ (policies_gone ++ gone)))
   after_set p absent other gone r =
       subst (λ q. Listed q (absent ++ (other ++ (policies ++ (profiles ++ endpoints)))) (endpoints_gone ++ (profiles_gone ++ (policies_gone ++ gone)))) r.here
@@ -189,7 +189,7 @@ module _ (s w : View) where
         gone_is = λ i. endpoints_gone ++ (profiles_gone ++ (policies_gone ++ r.gone_is i));
       })
 
-  after_policy : (p : Place) (changed gone : List Place) → AfterKey policy_eq.eq-value.it policy_laws.laws-law.refl place.Policy s.policies w.policies p changed gone
+  after_policy : (p : PendingKey) (changed gone : List PendingKey) → AfterKey policy_eq.eq-value.it policy_laws.laws-law.refl pending_key.Policy s.policies w.policies p changed gone
       → Listed p (new_sets ++ (other_sets ++ (changed ++ (profiles ++ endpoints)))) (endpoints_gone ++ (profiles_gone ++ (gone ++ sets_gone)))
   after_policy p changed gone r =
       subst (λ q. Listed q (new_sets ++ (other_sets ++ (changed ++ (profiles ++ endpoints)))) (endpoints_gone ++ (profiles_gone ++ (gone ++ sets_gone)))) r.here
@@ -198,7 +198,7 @@ module _ (s w : View) where
         gone_is = λ i. endpoints_gone ++ (profiles_gone ++ (r.gone_is i ++ sets_gone));
       })
 
-  after_profile : (p : Place) (changed gone : List Place) → AfterKey profile_eq.eq-value.it profile_laws.laws-law.refl place.Profile s.profiles w.profiles p changed gone
+  after_profile : (p : PendingKey) (changed gone : List PendingKey) → AfterKey profile_eq.eq-value.it profile_laws.laws-law.refl pending_key.Profile s.profiles w.profiles p changed gone
       → Listed p (new_sets ++ (other_sets ++ (policies ++ (changed ++ endpoints)))) (endpoints_gone ++ (gone ++ (policies_gone ++ sets_gone)))
   after_profile p changed gone r =
       subst (λ q. Listed q (new_sets ++ (other_sets ++ (policies ++ (changed ++ endpoints)))) (endpoints_gone ++ (gone ++ (policies_gone ++ sets_gone)))) r.here
@@ -207,7 +207,7 @@ module _ (s w : View) where
         gone_is = λ i. endpoints_gone ++ (r.gone_is i ++ (policies_gone ++ sets_gone));
       })
 
-  after_endpoint : (p : Place) (changed gone : List Place) → AfterKey endpoint_eq.eq-value.it endpoint_laws.laws-law.refl place.Endpoint s.endpoints w.endpoints p changed gone
+  after_endpoint : (p : PendingKey) (changed gone : List PendingKey) → AfterKey endpoint_eq.eq-value.it endpoint_laws.laws-law.refl pending_key.Endpoint s.endpoints w.endpoints p changed gone
       → Listed p (new_sets ++ (other_sets ++ (policies ++ (profiles ++ changed)))) (gone ++ (profiles_gone ++ (policies_gone ++ sets_gone)))
   after_endpoint p changed gone r =
       subst (λ q. Listed q (new_sets ++ (other_sets ++ (policies ++ (profiles ++ changed)))) (gone ++ (profiles_gone ++ (policies_gone ++ sets_gone)))) r.here
@@ -217,53 +217,53 @@ module _ (s w : View) where
       })
 
   -- the list of what is put, where this one is the rest of it
-  with_put : (p : Place) (put gone rest : List Place) → put ≡ rest → Listed p put gone → Listed p rest gone
+  with_put : (p : PendingKey) (put gone rest : List PendingKey) → put ≡ rest → Listed p put gone → Listed p rest gone
   with_put p put gone rest same r = record { put_is = r.put_is ∙ same; gone_is = r.gone_is }
 
-  with_gone : (p : Place) (put gone rest : List Place) → gone ≡ rest → Listed p put gone → Listed p put rest
+  with_gone : (p : PendingKey) (put gone rest : List PendingKey) → gone ≡ rest → Listed p put gone → Listed p put rest
   with_gone p put gone rest same r = record { put_is = r.put_is; gone_is = r.gone_is ∙ same }
 
-  put_after : (p : Place) (ps : List Place) → put_places s w ≡ p ∷ ps → Listed p ps (gone_places s w)
+  put_after : (p : PendingKey) (ps : List PendingKey) → put_keys s w ≡ p ∷ ps → Listed p ps (gone_keys s w)
   put_after p ps is =
-      let Goal = Listed p ps (gone_places s w) in
+      let Goal = Listed p ps (gone_keys s w) in
       by_append Goal new_sets _ p ps is
-      (λ rest here joins. with_put p _ _ ps joins (after_set p rest other_sets sets_gone (absent_first _ _ place.Set s.sets w.sets p rest here)))
+      (λ rest here joins. with_put p _ _ ps joins (after_set p rest other_sets sets_gone (absent_first _ _ pending_key.Set s.sets w.sets p rest here)))
       (λ no_new is_2. by_append Goal other_sets _ p ps is_2
       (λ rest here joins. with_put p _ _ ps
       ((λ i. no_new i ++ (rest ++ (policies ++ (profiles ++ endpoints)))) ∙ joins)
-      (after_set p new_sets rest sets_gone (other_first _ _ place.Set s.sets w.sets p rest here)))
+      (after_set p new_sets rest sets_gone (other_first _ _ pending_key.Set s.sets w.sets p rest here)))
       (λ no_other is_3. by_append Goal policies _ p ps is_3
       (λ rest here joins. with_put p _ _ ps
       ((λ i. no_new i ++ (no_other i ++ (rest ++ (profiles ++ endpoints)))) ∙ joins)
-      (after_policy p rest policies_gone (changed_first _ _ place.Policy s.policies w.policies p rest here)))
+      (after_policy p rest policies_gone (changed_first _ _ pending_key.Policy s.policies w.policies p rest here)))
       (λ no_policy is_4. by_append Goal profiles _ p ps is_4
       (λ rest here joins. with_put p _ _ ps
       ((λ i. no_new i ++ (no_other i ++ (no_policy i ++ (rest ++ endpoints)))) ∙ joins)
-      (after_profile p rest profiles_gone (changed_first _ _ place.Profile s.profiles w.profiles p rest here)))
+      (after_profile p rest profiles_gone (changed_first _ _ pending_key.Profile s.profiles w.profiles p rest here)))
       (λ no_profile is_5. with_put p _ _ ps
       (λ i. no_new i ++ (no_other i ++ (no_policy i ++ (no_profile i ++ ps))))
-      (after_endpoint p ps endpoints_gone (changed_first _ _ place.Endpoint s.endpoints w.endpoints p ps is_5))))))
+      (after_endpoint p ps endpoints_gone (changed_first _ _ pending_key.Endpoint s.endpoints w.endpoints p ps is_5))))))
 
-  gone_after : (p : Place) (ps : List Place) → gone_places s w ≡ p ∷ ps → Listed p (put_places s w) ps
+  gone_after : (p : PendingKey) (ps : List PendingKey) → gone_keys s w ≡ p ∷ ps → Listed p (put_keys s w) ps
   gone_after p ps is =
-      let Goal = Listed p (put_places s w) ps in
+      let Goal = Listed p (put_keys s w) ps in
       by_append Goal endpoints_gone _ p ps is
-      (λ rest here joins. with_gone p _ _ ps joins (after_endpoint p endpoints rest (key_gone_first _ _ place.Endpoint s.endpoints w.endpoints p rest here)))
+      (λ rest here joins. with_gone p _ _ ps joins (after_endpoint p endpoints rest (key_gone_first _ _ pending_key.Endpoint s.endpoints w.endpoints p rest here)))
       (λ no_endpoint is_2. by_append Goal profiles_gone _ p ps is_2
       (λ rest here joins. with_gone p _ _ ps
       ((λ i. no_endpoint i ++ (rest ++ (policies_gone ++ sets_gone))) ∙ joins)
-      (after_profile p profiles rest (key_gone_first _ _ place.Profile s.profiles w.profiles p rest here)))
+      (after_profile p profiles rest (key_gone_first _ _ pending_key.Profile s.profiles w.profiles p rest here)))
       (λ no_profile is_3. by_append Goal policies_gone _ p ps is_3
       (λ rest here joins. with_gone p _ _ ps
       ((λ i. no_endpoint i ++ (no_profile i ++ (rest ++ sets_gone))) ∙ joins)
-      (after_policy p policies rest (key_gone_first _ _ place.Policy s.policies w.policies p rest here)))
+      (after_policy p policies rest (key_gone_first _ _ pending_key.Policy s.policies w.policies p rest here)))
       (λ no_policy is_4. with_gone p _ _ ps
       (λ i. no_endpoint i ++ (no_profile i ++ (no_policy i ++ ps)))
-      (after_set p new_sets other_sets ps (place_gone_first _ _ place.Set s.sets w.sets p ps is_4)))))
+      (after_set p new_sets other_sets ps (key_gone_first _ _ pending_key.Set s.sets w.sets p ps is_4)))))
 
-  pub pending_after : (p : Place) (ps : List Place) → pending_places s w ≡ p ∷ ps → pending_places (taken_at p s w) w ≡ ps
-  unfolding pending_places
+  pub pending_after : (p : PendingKey) (ps : List PendingKey) → pending_keys s w ≡ p ∷ ps → pending_keys (taken_at p s w) w ≡ ps
+  unfolding pending_keys
   pending_after p ps is =
-      by_append (pending_places (taken_at p s w) w ≡ ps) (put_places s w) (gone_places s w) p ps is
+      by_append (pending_keys (taken_at p s w) w ≡ ps) (put_keys s w) (gone_keys s w) p ps is
       (λ rest here joins. let r = put_after p rest here in (λ i. r.put_is i ++ r.gone_is i) ∙ joins)
       (λ none here. let r = gone_after p ps here in (λ i. r.put_is i ++ r.gone_is i) ∙ ap (λ xs. xs ++ ps) none)
