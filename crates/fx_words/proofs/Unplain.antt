@@ -173,6 +173,11 @@ option_plain word name v is listed a =
     hyphen : word ≡ codes "-" → ⊥
     hyphen e = some_none (name, v) (sym (ap option_in e) ∙ is)
 
+    hyphens : word ≡ codes "--" → ⊥
+    hyphens e =
+        let empty : [] ≡ name = ap (λ (o : Option Cut). (unwrap_or o (name, v)).0) (sym (ap option_in e) ∙ is) in
+        true≢false (sym listed ∙ sym (ap is_option empty))
+
 -- a value in a word of its own
 value_plain : (word : List ℕ) → is_hyphen (slice_index word 0) ≡ false → is_ascii word ≡ true → is_plain word ≡ true
 value_plain word first a =
