@@ -23,6 +23,8 @@ FILES = {
     "crates/felix_main/args": "--node\nn1\n",
 }
 COPIED = "HANDLES crates.txt crates/felix_main/args crates/felix_main/src/main.rt crates/fx_kept/src/lib.rt crates/fx_low/specs/Lib.antt crates/fx_low/src/lib.rt"
+# What the launcher calls beside `rt`.
+COMMANDS = "bash cp dirname find grep mkdir mktemp mv readlink rm sed touch"
 
 
 def write(path, text):
@@ -119,7 +121,9 @@ class Launcher(unittest.TestCase):
 
     def test_without_rt_it_ends_with_70(self):
         os.remove(self.path("bin", "rt"))
-        self.environment["PATH"] = self.path("bin") + ":/usr/bin:/bin"
+        for command in COMMANDS.split():
+            os.symlink(shutil.which(command), self.path("bin", command))
+        self.environment["PATH"] = self.path("bin")
         written, told, status = self.run_it("--node", "n1")
         self.assertEqual((written, status), ("", 70))
         self.assertRegex(told, "rt: not found")
@@ -136,14 +140,14 @@ class Launcher(unittest.TestCase):
             begun = self.begin("--node", "n1")
             proving = self.proving()
             how(begun.pid, number)
-            begun.communicate(timeout=20)
+            begun.communicate(timeout=60)
             self.assertNotIn(begun.returncode, (0, 1))
             self.assertEqual(os.listdir(self.path("temporary")), [])
             self.assertFalse(is_running(proving))
 
     def proving(self):
         """The process of the stand-in, once it waits."""
-        for _ in range(200):
+        for _ in range(1200):
             with open(self.path("fake", "waits"), encoding="utf-8") as file:
                 text = file.read()
             if text:
@@ -154,7 +158,7 @@ class Launcher(unittest.TestCase):
 
 def is_running(process):
     """Whether the process is still there a moment later, and no mere entry that waits to be collected."""
-    for _ in range(100):
+    for _ in range(600):
         try:
             with open("/proc/%d/stat" % process) as file:
                 if file.read().rpartition(")")[2].split()[0] == "Z":
