@@ -119,6 +119,12 @@ class Launcher(unittest.TestCase):
         self.assertEqual(self.run_it("--node", "n1")[2], 70)
         self.assertEqual(self.run_it("--node", "n1")[2], 70)
 
+    def test_a_program_that_cannot_be_written_ends_the_run(self):
+        write(self.path("crates/felix_main/out"), "no folder")
+        written, told, status = self.run_it("--node", "n1")
+        self.assertEqual((written, status), ("", 70))
+        self.assertTrue(told.endswith("felix-replay: the program is proved, and can't be written\n"), told)
+
     def test_without_rt_it_ends_with_70(self):
         os.remove(self.path("bin", "rt"))
         for command in COMMANDS.split():
