@@ -143,7 +143,7 @@ def line_text(line):
 
 
 def input_of(lines, packets=(), with_tables=False):
-    """What the program is given: the lines, the mark, a flush, and what is asked then."""
+    """What the program is given: the lines, that they are all, a flush, and what is asked then."""
     texts = [line_text(line) for line in lines] + ['{"inSync":true}', '{"flush":{}}']
     if with_tables:
         texts.append('{"tables":true}')

@@ -8,7 +8,7 @@ from felix_tools.reading import STANDARD_INPUT, read_changes
 from felix_tools.start import answered
 
 DESCRIPTION = """\
-Writes what kubectl and calicoctl print as lines for felix-replay, with the mark and a flush at the end.
+Writes what kubectl and calicoctl print as lines for felix-replay, with `inSync` and a flush at the end.
 
   kubectl get pods,namespaces,serviceaccounts,networkpolicies -A -o json > cluster.json
   calicoctl get globalnetworkpolicies -o json > global.json

@@ -1,6 +1,8 @@
-"""What README.md and docs/OPERATORS.md show and link to."""
+"""What the documents show, link to and name."""
 import os
 import re
+import subprocess
+import sys
 import unittest
 
 TOP = os.path.dirname(os.path.dirname(os.path.dirname(os.path.abspath(__file__))))
@@ -34,6 +36,18 @@ class Documents(unittest.TestCase):
             for link in re.findall(r"\]\(([^)#]+)(?:#[^)]*)?\)", text_of(page)):
                 path = os.path.join(TOP, os.path.dirname(page), link)
                 self.assertTrue(os.path.exists(path), "%s links to %s" % (page, link))
+
+    def test_definitions_that_are_cited_are_there(self):
+        check = [sys.executable, os.path.join(TOP, ".ci", "definitions")]
+        done = subprocess.run(check, stdout=subprocess.PIPE, universal_newlines=True)
+        self.assertEqual((done.stdout, done.returncode), ("", 0))
+
+    def test_each_crate_of_tests_is_in_the_map(self):
+        crates = re.findall(r"^(\w+_tests):", text_of("crates.txt"), re.MULTILINE)
+        table = text_of("CONTRIBUTING.md").partition("### Where tests stand")[2].partition("\n## ")[0]
+        listed = [name for row in re.findall(r"^\| (.*?) \|", table, re.MULTILINE) for name in re.findall(r"`(\w+)`", row)]
+        self.assertEqual(sorted(set(crates) - set(listed)), [])
+        self.assertEqual([name for name in listed if not os.path.isdir(os.path.join(TOP, "crates", name))], [])
 
 
 if __name__ == "__main__":
