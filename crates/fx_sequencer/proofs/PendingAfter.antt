@@ -1,4 +1,4 @@
--- The pending keys, at which the sent view is not as it is wanted, once the first of them was taken over: all but that one.
+-- The pending keys, once the first of them was taken over: all but that one.
 use Rattle.std.proofs.Common.{◌≡◌, ℕ, Bool, true, false, not, ◌&&◌, List, [], ◌∷◌, ◌++◌, map, Option, Some, None, is_some, refl, ap, ◌∙◌, subst}
 use Rattle.std.specs.List.{filter}
 use Rattle.std.specs.Option.{option_eq}
@@ -42,7 +42,7 @@ no_value h x none some = cc
 
 module _ {X : Type 0} (eq : X → X → Bool) (itself : (x : X) → eq x x ≡ true) (at : List ℕ → PendingKey) (m n : Named X) where
   -- what is listed of the map where a key was taken over
-  pub record AfterKey (p : PendingKey) (absent other gone : List PendingKey) : Type 0 where
+  pub record AfterPending (p : PendingKey) (absent other gone : List PendingKey) : Type 0 where
     pub key : List ℕ
     pub here : at key ≡ p
     pub absent_is : absent_keys at (taken_from m n key) n ≡ absent
@@ -80,7 +80,7 @@ module _ {X : Type 0} (eq : X → X → Bool) (itself : (x : X) → eq x x ≡ t
   gone_stays : (k : List ℕ) (x : X) → maps.get n k ≡ Some x → absent_keys at n (taken_from m n k) ≡ absent_keys at n m
   gone_stays k x there = ap keyed (none_removed m n k x there)
 
-  pub absent_first : (p : PendingKey) (ps : List PendingKey) → absent_keys at m n ≡ p ∷ ps → AfterKey p ps (other_keys eq at m n) (absent_keys at n m)
+  pub absent_first : (p : PendingKey) (ps : List PendingKey) → absent_keys at m n ≡ p ∷ ps → AfterPending p ps (other_keys eq at m n) (absent_keys at n m)
   absent_first p ps is =
       let b = begins (λ (e : List ℕ × X). at e.0) (filter (is_absent m) (maps.entries n)) p ps is in
       let found = head_found (is_absent m) (maps.entries n) b.first b.others b.is in
@@ -93,7 +93,7 @@ module _ {X : Type 0} (eq : X → X → Bool) (itself : (x : X) → eq x x ≡ t
         gone_is = gone_stays b.first.0 b.first.1 (found_there (is_absent m) n b.first found);
       }
 
-  pub other_first : (p : PendingKey) (ps : List PendingKey) → other_keys eq at m n ≡ p ∷ ps → AfterKey p (absent_keys at m n) ps (absent_keys at n m)
+  pub other_first : (p : PendingKey) (ps : List PendingKey) → other_keys eq at m n ≡ p ∷ ps → AfterPending p (absent_keys at m n) ps (absent_keys at n m)
   other_first p ps is =
       let b = begins (λ (e : List ℕ × X). at e.0) (filter (is_other eq m) (maps.entries n)) p ps is in
       let found = head_found (is_other eq m) (maps.entries n) b.first b.others b.is in
@@ -117,8 +117,8 @@ module _ {X : Type 0} (eq : X → X → Bool) (itself : (x : X) → eq x x ≡ t
         gone_is = gone_stays b.first.0 b.first.1 (found_there (is_changed eq m) n b.first found);
       }
 
-  pub key_gone_first : (p : PendingKey) (ps : List PendingKey) → absent_keys at n m ≡ p ∷ ps → AfterKey p (absent_keys at m n) (other_keys eq at m n) ps
-  key_gone_first p ps is =
+  pub pending_gone_first : (p : PendingKey) (ps : List PendingKey) → absent_keys at n m ≡ p ∷ ps → AfterPending p (absent_keys at m n) (other_keys eq at m n) ps
+  pending_gone_first p ps is =
       let b = begins (λ (e : List ℕ × X). at e.0) (filter (is_absent n) (maps.entries m)) p ps is in
       let none = absent_there m n b.first (head_found (is_absent n) (maps.entries m) b.first b.others b.is) in
       record {
@@ -180,7 +180,7 @@ module _ (s w : View) where
     pub put_is : put_keys (taken_at p s w) w ≡ put
     pub gone_is : gone_keys (taken_at p s w) w ≡ gone
 
-  after_set : (p : PendingKey) (absent other gone : List PendingKey) → AfterKey members_eq.eq-value.it members_laws.laws-law.refl pending_key.Set s.sets w.sets p absent other gone
+  after_set : (p : PendingKey) (absent other gone : List PendingKey) → AfterPending members_eq.eq-value.it members_laws.laws-law.refl pending_key.Set s.sets w.sets p absent other gone
       → Listed p (absent ++ (other ++ (policies ++ (profiles ++ endpoints)))) (endpoints_gone ++ (profiles_gone ++ (policies_gone ++ gone)))
   after_set p absent other gone r =
       subst (λ q. Listed q (absent ++ (other ++ (policies ++ (profiles ++ endpoints)))) (endpoints_gone ++ (profiles_gone ++ (policies_gone ++ gone)))) r.here
@@ -259,7 +259,7 @@ module _ (s w : View) where
       (after_policy p policies rest (key_gone_first _ _ pending_key.Policy s.policies w.policies p rest here)))
       (λ no_policy is_4. with_gone p _ _ ps
       (λ i. no_endpoint i ++ (no_profile i ++ (no_policy i ++ ps)))
-      (after_set p new_sets other_sets ps (key_gone_first _ _ pending_key.Set s.sets w.sets p ps is_4)))))
+      (after_set p new_sets other_sets ps (pending_gone_first _ _ pending_key.Set s.sets w.sets p ps is_4)))))
 
   pub pending_after : (p : PendingKey) (ps : List PendingKey) → pending_keys s w ≡ p ∷ ps → pending_keys (taken_at p s w) w ≡ ps
   unfolding pending_keys
