@@ -12,7 +12,7 @@ use Rattle.fx_names.specs.Digests.{Digest}
 use Rattle.fx_lines.specs.declared.commands.Command.{Command}
 use Rattle.fx_lines.specs.declared.commands.Command.TheVariants as command
 use Rattle.fx_run.specs.Run.{state_after}
-use Rattle.felix_replay.specs.Output.{State, start, answer_of, next, after_answer}
+use Rattle.fx_replay.specs.Output.{State, start, answer_of, next, after_answer}
 use Rattle.fx_run.proofs.Runs.{kept_after, all_written}
 use Rattle.felix_replay.specs.Closing.{views_in, views_along, IsWhole}
 use Rattle.fx_agent.proofs.Starting.{empty_view-drivable}

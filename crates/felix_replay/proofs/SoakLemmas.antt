@@ -5,10 +5,11 @@ use Rattle.fx_gen.specs.Generator.{line_of}
 use Rattle.fx_lines.specs.declared.commands.Command.{Command}
 use Rattle.fx_lines.specs.declared.commands.Command.TheVariants as command
 use Rattle.fx_names.specs.Digests.{Digest}
-use Rattle.felix_replay.specs.declared.tally.Tally.{Tally}
-use Rattle.felix_replay.specs.Output.{State, start, next, answer_of}
+use Rattle.fx_replay.specs.declared.tally.Tally.{Tally}
+use Rattle.fx_replay.specs.Output.{State, start, next, answer_of}
 use Rattle.fx_run.specs.Run.{state_after}
-use Rattle.felix_replay.specs.Soak.{drawn_lines, messages_of, flushes_in, messages_in, flushes_along, messages_along, told_number, tally_of, tally_along, tally_after, one_flush_more}
+use Rattle.felix_replay.specs.Soak.{drawn_lines, messages_of, flushes_in, messages_in, flushes_along, messages_along, tally_of, tally_along}
+use Rattle.fx_replay.specs.Tallies.{told_number, tally_after, one_flush_more}
 use Rattle.fx_run.proofs.Runs.{state_after-push}
 
 pub drawn-more : (seed : ℕ) (node : List ℕ) (n : ℕ) → drawn_lines seed node (n + 1) ≡ drawn_lines seed node n ++ line_of seed n node ∷ []

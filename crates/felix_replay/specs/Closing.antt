@@ -9,7 +9,7 @@ use Rattle.fx_fields.specs.declared.refusal.Refusal.{Refusal}
 use Rattle.fx_lines.specs.declared.commands.Command.{Command}
 use Rattle.fx_lines.specs.declared.commands.Command.TheVariants as command
 use Rattle.fx_run.specs.Run.{written}
-use Rattle.felix_replay.specs.Output.{State, answer_of, next}
+use Rattle.fx_replay.specs.Output.{State, answer_of, next}
 
 -- only a flush sends
 abbrev pub views_in : State → Result Command Refusal → List View

@@ -1,5 +1,5 @@
 -- A soak run: lines that are drawn in the place of an input, and a flush behind the last. What is told of it are numbers alone.
-use Rattle.std.specs.Prelude.{ℕ, zero, suc, ◌+◌, ◌-◌, ◌^◌, min, List, [], ◌∷◌, ◌++◌, length, Bool, None, Result, Ok, Err}
+use Rattle.std.specs.Prelude.{ℕ, zero, suc, ◌+◌, ◌-◌, List, [], ◌∷◌, ◌++◌, length, Bool, None, Result, Ok, Err}
 use Rattle.fx_names.specs.Digests.{Digest}
 use Rattle.fx_model.specs.Views.{view_of}
 use Rattle.fx_model.specs.Messages.{flush}
@@ -9,9 +9,10 @@ use Rattle.fx_lines.specs.declared.commands.Command.TheVariants as command
 use Rattle.fx_gen.specs.Generator.{line_of}
 use Rattle.fx_print.specs.Texts.{soak_line}
 use Rattle.fx_words.specs.declared.words.Soak.{Soak}
-use Rattle.felix_replay.specs.declared.tally.Tally.{Tally}
+use Rattle.fx_replay.specs.declared.tally.Tally.{Tally}
 use Rattle.fx_run.specs.Run.{state_after}
-use Rattle.felix_replay.specs.Output.{State, start, next, answer_of, message_count}
+use Rattle.fx_replay.specs.Output.{State, start, next, answer_of}
+use Rattle.fx_replay.specs.Tallies.{told_number}
 
 -- the lines below an index
 unfoldable pub drawn_lines : ℕ → List ℕ → ℕ → List (List ℕ)
@@ -58,10 +59,6 @@ soak_flushes dg node soak = flushes_along (start dg node) (drawn_lines soak.seed
 abbrev pub soak_messages : Digest → List ℕ → Soak → ℕ
 soak_messages dg node soak = messages_along (start dg node) (drawn_lines soak.seed node soak.count) + messages_of (soak_end dg node soak)
 
--- as far as 64 bits tell
-abbrev pub told_number : ℕ → ℕ
-told_number n = min n (2 ^ 64 - 1)
-
 -- what is written, with the number of ticks
 abbrev pub soak_output : Digest → List ℕ → Soak → ℕ → List ℕ
 soak_output dg node soak ticks =
@@ -78,17 +75,3 @@ tally_of flushes messages = record { flushes = told_number flushes; messages = t
 
 abbrev pub tally_along : State → List (List ℕ) → Tally
 tally_along s lines = tally_of (flushes_along s lines) (messages_along s lines)
-
-abbrev pub no_flushes : Tally
-no_flushes = record { flushes = 0; messages = 0 }
-
-abbrev pub one_flush_more : Tally → ℕ → Tally
-one_flush_more t messages = record { flushes = told_number (t.flushes + 1); messages = told_number (t.messages + messages) }
-
-abbrev pub tally_after : Tally → State → Result Command Refusal → Tally
-tally_after t s (Ok command.Blank) = t
-tally_after t s (Ok command.Tables) = t
-tally_after t s (Ok command.Flush) = one_flush_more t (message_count s.sent (view_of s.digest s.resources))
-tally_after t s (Ok (command.Update u)) = t
-tally_after t s (Ok (command.Packet a)) = t
-tally_after t s (Err r) = t

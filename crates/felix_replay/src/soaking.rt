@@ -1,16 +1,17 @@
 //! The soak run: the lines of a seed in the place of an input.
 ghost use Rattle.std.specs.Prelude.{◌≡◌, OnOk, OnErr, IfOk, IsErrOf};
-ghost use Rattle.felix_replay.specs.Standing.{state_of, IsReady};
-ghost use Rattle.felix_replay.specs.Output.{start};
-ghost use Rattle.felix_replay.specs.Soak.{soak_end, no_flushes, tally_along, drawn_lines};
+ghost use Rattle.fx_replay.specs.Standing.{state_of, IsReady};
+ghost use Rattle.fx_replay.specs.Output.{start};
+ghost use Rattle.felix_replay.specs.Soak.{soak_end, tally_along, drawn_lines};
+ghost use Rattle.fx_replay.specs.Tallies.{no_flushes};
 ghost use Rattle.felix_replay.specs.SoakRuns.{SumsUp, SoakRan, SoakStopped};
 ghost use Rattle.fx_run.specs.Ran.{SinkFailed};
 
-use crate::replay::Replay;
 use fx_base::{Memory, Sink, Text};
 use fx_gen::make_line;
 use fx_names::{DigestFunction, DigestRule, Namer};
 use fx_print::soak_text;
+use fx_replay::Replay;
 use fx_run::{RunFault, put_one};
 use fx_words::Soak;
 use std::alloc::Global;

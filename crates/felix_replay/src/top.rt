@@ -10,16 +10,16 @@ ghost use Rattle.fx_run.specs.Ran.{SourceFailed, SinkFailed};
 ghost use Rattle.fx_run.specs.Statuses.{EndedEarly, HasRun, HasRunOrMemory};
 ghost use Rattle.std.specs.List.{AllByRecursion};
 ghost use Rattle.fx_lines.specs.Reading.{HasFailedRead, IsTooLong};
-ghost use Rattle.felix_replay.specs.Output.{start};
+ghost use Rattle.fx_replay.specs.Output.{start};
 ghost use Rattle.felix_replay.specs.Closing.{IsWhole, views_along};
 ghost use Rattle.felix_replay.specs.Flushing.{FlushesSendAll};
 ghost use Rattle.felix_replay.specs.Policed.{KeepsPolicy, PathsAreRuns};
 ghost use Rattle.felix_replay.specs.KubernetesLines.{KeepsKubernetes};
 
-use crate::replay::Replay;
 use crate::soaking::soak;
 use fx_base::{Memory, Sink, Source, Text};
 use fx_names::{DigestFunction, DigestRule, Namer};
+use fx_replay::Replay;
 use fx_run::{RunFault, Status, answer_lines, tell_usage};
 use fx_words::{Asked, read_words};
 use std::alloc::Global;

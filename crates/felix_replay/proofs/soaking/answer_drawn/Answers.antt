@@ -1,9 +1,9 @@
 use Rattle.std.proofs.Common.{ap, ◌∙◌, arith}
-use Rattle.felix_replay.specs.Standing.{state_of}
-use Rattle.felix_replay.specs.Output.{State, answer_of}
+use Rattle.fx_replay.specs.Standing.{state_of}
+use Rattle.fx_replay.specs.Output.{State, answer_of}
 use Rattle.fx_run.specs.Run.{state_after}
 use Rattle.felix_replay.specs.Soak.{drawn_lines, flushes_along, messages_along}
-use Rattle.felix_replay.specs.Stepping.{step-lines}
+use Rattle.fx_replay.specs.Stepping.{step-lines}
 use Rattle.felix_replay.proofs.SoakLemmas.{state-drawn, tally-drawn}
 use Rattle.felix_replay.proofs.soaking.answer_drawn.Goals as goal
 

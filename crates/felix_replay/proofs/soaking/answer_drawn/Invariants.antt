@@ -1,6 +1,6 @@
 use Rattle.std.proofs.Common.{◌≡◌}
-use Rattle.felix_replay.specs.Standing.{state_of, IsReady}
-use Rattle.felix_replay.specs.Output.{start, next}
+use Rattle.fx_replay.specs.Standing.{state_of, IsReady}
+use Rattle.fx_replay.specs.Output.{start, next}
 use Rattle.fx_run.specs.Run.{state_after}
 use Rattle.felix_replay.specs.Soak.{drawn_lines, tally_along}
 use Rattle.felix_replay.proofs.soaking.answer_drawn.Given as goal

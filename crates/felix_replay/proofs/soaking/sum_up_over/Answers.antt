@@ -1,8 +1,9 @@
 use Rattle.std.proofs.Common.{◌-◌, ◌^◌, ap, ◌∙◌, min, ℕ}
 use Rattle.fx_print.specs.Texts.{soak_line}
-use Rattle.felix_replay.specs.declared.tally.Tally.{Tally}
-use Rattle.felix_replay.specs.Output.{State, start}
-use Rattle.felix_replay.specs.Soak.{drawn_lines, soak_end, messages_of, flushes_along, messages_along, one_flush_more}
+use Rattle.fx_replay.specs.declared.tally.Tally.{Tally}
+use Rattle.fx_replay.specs.Output.{State, start}
+use Rattle.felix_replay.specs.Soak.{drawn_lines, soak_end, messages_of, flushes_along, messages_along}
+use Rattle.fx_replay.specs.Tallies.{one_flush_more}
 use Rattle.felix_replay.proofs.SoakLemmas.{tally-end}
 use Rattle.felix_replay.proofs.soaking.sum_up_over.Goals as goal
 
