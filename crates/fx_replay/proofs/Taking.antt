@@ -8,7 +8,7 @@ use Rattle.fx_fields.specs.declared.refusal.Refusal.TheVariants.{Taken}
 use Rattle.fx_print.specs.Texts.{refusal_line}
 use Rattle.fx_replay.specs.declared.tally.Tally.{Tally}
 use Rattle.fx_replay.specs.Tallies.{tally_after}
-use Rattle.fx_replay.specs.Output.{State, unless_taken, update_answer, settled, settled_text}
+use Rattle.fx_replay.specs.Output.{State, unless_taken, update_answer, flushed_in, settled, settled_text}
 
 module _ (s : State) (u : Update) where
   -- nothing clashes
@@ -26,6 +26,6 @@ module _ (s : State) (u : Update) where
   taken-text c is = ap (λ (o : Option Clash). settled_text s (unless_taken o u)) is
 
 -- an update is no flush, whether it is made or not
-pub untallied : (t : Tally) (s : State) (u : Update) (o : Option Clash) → t ≡ tally_after t s (unless_taken o u)
+pub untallied : (t : Tally) (s : State) (u : Update) (o : Option Clash) → t ≡ tally_after t (flushed_in s (unless_taken o u))
 untallied t s u None = refl
 untallied t s u (Some c) = refl

@@ -11,7 +11,7 @@ use Rattle.fx_names.specs.Claims.{Clash}
 use Rattle.fx_model.specs.Claims.{clash}
 use Rattle.fx_model.specs.Views.{view_of, empty_view}
 use Rattle.fx_model.specs.ViewTables.{tables_of}
-use Rattle.fx_model.specs.Messages.{Change, flush}
+use Rattle.fx_model.specs.Messages.{Change, Flush, flush}
 use Rattle.fx_fields.specs.declared.refusal.Refusal.{Refusal}
 use Rattle.fx_fields.specs.declared.refusal.Refusal.TheVariants.{Taken}
 use Rattle.fx_lines.specs.declared.commands.Command.{Command}
@@ -64,12 +64,30 @@ checked dg R (Err r) = Err r
 abbrev pub answer_of : State → List ℕ → Result Command Refusal
 answer_of s line = checked s.digest s.resources (command_of line)
 
+-- ---- what a line flushes
+
+-- a flush sends the messages from the view that was sent to that of the resources
+abbrev pub flush_of : State → Flush
+flush_of s = flush None s.sent (view_of s.digest s.resources)
+
+-- no other line sends anything
+abbrev pub flushed_in : State → Result Command Refusal → Option Flush
+flushed_in s (Ok command.Blank) = None
+flushed_in s (Ok command.Tables) = None
+flushed_in s (Ok command.Flush) = Some (flush_of s)
+flushed_in s (Ok (command.Update u)) = None
+flushed_in s (Ok (command.Packet a)) = None
+flushed_in s (Err r) = None
+
+abbrev pub flushed_by : State → List ℕ → Option Flush
+flushed_by s line = flushed_in s (answer_of s line)
+
 -- ---- what a line does
 
 abbrev pub accepted : State → Command → State
 accepted s command.Blank = s
 accepted s command.Tables = s
-accepted s command.Flush = record s { sent = (flush None s.sent (view_of s.digest s.resources)).ends }
+accepted s command.Flush = record s { sent = (flush_of s).ends }
 accepted s (command.Update u) = record s { resources = after s.resources u }
 accepted s (command.Packet a) = s
 
@@ -99,8 +117,11 @@ abbrev pub messages_text : View → View → List ℕ
 messages_text sent wanted = concat (map message_line (flush None sent wanted).messages)
 
 -- how many there are, as far as 64 bits tell
+abbrev pub count_of : Flush → ℕ
+count_of f = min (length f.messages) (2 ^ 64 - 1)
+
 abbrev pub message_count : View → View → ℕ
-message_count sent wanted = min (length (flush None sent wanted).messages) (2 ^ 64 - 1)
+message_count sent wanted = count_of (flush None sent wanted)
 
 abbrev pub flush_text : View → View → List ℕ
 flush_text sent wanted = messages_text sent wanted ++ flushed_line (message_count sent wanted)

@@ -1,18 +1,17 @@
 //! Answers one line after another.
-ghost use Rattle.std.specs.Prelude.{◌≡◌, ◌-◌, ◌^◌, ◌<◌, None, OnOk, IfOk, true};
+ghost use Rattle.std.specs.Prelude.{◌≡◌, ◌-◌, ◌^◌, ◌<◌, OnOk, IfOk, false, true};
 ghost use Rattle.std.specs.List.{concat};
-ghost use Rattle.fx_model.specs.Messages.{flush};
+ghost use Rattle.fx_model.specs.Closed.{IsClosedView};
 ghost use Rattle.fx_model.specs.TableTexts.{table_lines};
 ghost use Rattle.fx_model.specs.ViewTables.{tables_of};
 ghost use Rattle.fx_model.specs.Views.{view_of};
-ghost use Rattle.fx_graph.specs.Graphs.{sides_of};
 ghost use Rattle.fx_lines.specs.Commands.{command_of};
 ghost use Rattle.fx_lines.specs.Formed.{IsReadCommand};
 ghost use Rattle.fx_print.specs.Texts.{refusal_line, flushed_line};
-ghost use Rattle.fx_replay.specs.Output.{State, was_refused, start, next, text, checked, update_answer, settled, settled_text, flush_text, answer_of, message_count};
+ghost use Rattle.fx_replay.specs.Output.{State, was_refused, start, next, text, checked, update_answer, accepted, settled, settled_text, flush_text, flushed_in, flushed_by, message_count};
 ghost use Rattle.fx_replay.specs.Tallies.{no_flushes, one_flush_more, tally_after};
 ghost use Rattle.fx_replay.specs.PacketRuns.{packet_text};
-ghost use Rattle.fx_replay.specs.Standing.{state_of, IsReady};
+ghost use Rattle.fx_replay.specs.Standing.{state_of};
 ghost use Rattle.fx_replay.specs.Stepping.{next-lines, next-clip};
 ghost use Rattle.fx_run.specs.Writing.{Writes};
 
@@ -44,8 +43,9 @@ pub struct Replay<R: DigestRule, F: DigestFunction<R> + Drop> {
 
 impl<R: DigestRule, F: DigestFunction<R> + Drop> Replay<R, F> {
     pub fn new(alloc: Global, node: &Text, namer: Namer<R, F>) -> Result<Self, Memory>
-        ensures state { IfOk result (λ r. state_of R.digest_of r.agent.store r.agent.graph.state r.lines r.refused ≡ start R.digest_of node.now) }
-        ensures ready { IfOk result (λ r. IsReady R.digest_of r.agent.store r.agent.graph.state r.agent.driver r.agent.failed) }
+        ensures state { IfOk result (λ r.
+            state_of R.digest_of r.agent r.lines r.refused ≡ start R.digest_of node.now) }
+        ensures ready { IfOk result (λ r. r.agent.failed ≡ false) }
         ensures tally { IfOk result (λ r. r.tally ≡ no_flushes) }
     {
         let own_node = node.clone()?;
@@ -62,13 +62,13 @@ impl<R: DigestRule, F: DigestFunction<R> + Drop> Replay<R, F> {
 
     /// Answers the next line, and writes nothing.
     pub fn answer_quietly(&mut self, line: &[u8]) -> Result<(), Memory>
-        requires ready { IsReady R.digest_of self.old.agent.store self.old.agent.graph.state self.old.agent.driver self.old.agent.failed }
+        requires ready { self.old.agent.failed ≡ false }
         requires few { self.old.lines < 2 ^ 64 - 1 }
-        ensures ready { OnOk result (IsReady R.digest_of self.new.agent.store self.new.agent.graph.state self.new.agent.driver self.new.agent.failed) }
-        ensures state { OnOk result (state_of R.digest_of self.new.agent.store self.new.agent.graph.state self.new.lines self.new.refused
-            ≡ next (state_of R.digest_of self.old.agent.store self.old.agent.graph.state self.old.lines self.old.refused) line.now) }
-        ensures tally { OnOk result (self.new.tally ≡ tally_after self.old.tally (state_of R.digest_of self.old.agent.store self.old.agent.graph.state self.old.lines self.old.refused)
-            (answer_of (state_of R.digest_of self.old.agent.store self.old.agent.graph.state self.old.lines self.old.refused) line.now)) }
+        ensures ready { OnOk result (self.new.agent.failed ≡ false) }
+        ensures state { OnOk result (state_of R.digest_of self.new.agent self.new.lines self.new.refused
+            ≡ next (state_of R.digest_of self.old.agent self.old.lines self.old.refused) line.now) }
+        ensures tally { OnOk result (self.new.tally ≡ tally_after self.old.tally
+            (flushed_by (state_of R.digest_of self.old.agent self.old.lines self.old.refused) line.now)) }
     {
         // A sink that counts never fails, so that only memory can be wanting.
         match self.answer(line, &mut CountSink::new()) {
@@ -83,17 +83,18 @@ impl<R: DigestRule, F: DigestFunction<R> + Drop> Replay<R, F> {
         said: Result<Command, Refusal>,
         sink: &mut K,
     ) -> Result<(), RunFault>
-        requires ready { IsReady R.digest_of self.old.agent.store self.old.agent.graph.state self.old.agent.driver self.old.agent.failed }
+        requires ready { self.old.agent.failed ≡ false }
         requires read { IfOk said IsReadCommand }
-        ensures ready { OnOk result (IsReady R.digest_of self.new.agent.store self.new.agent.graph.state self.new.agent.driver self.new.agent.failed) }
-        ensures state { OnOk result (state_of R.digest_of self.new.agent.store self.new.agent.graph.state self.new.lines self.new.refused
-            ≡ settled (state_of R.digest_of self.old.agent.store self.old.agent.graph.state self.old.lines self.old.refused)
-            (checked R.digest_of self.old.agent.store.resources said)) }
-        ensures tally { OnOk result (self.new.tally ≡ tally_after self.old.tally (state_of R.digest_of self.old.agent.store self.old.agent.graph.state self.old.lines self.old.refused)
-            (checked R.digest_of self.old.agent.store.resources said)) }
+        ensures ready { OnOk result (self.new.agent.failed ≡ false) }
+        ensures state { OnOk result (state_of R.digest_of self.new.agent self.new.lines self.new.refused
+            ≡ settled (state_of R.digest_of self.old.agent self.old.lines self.old.refused)
+            (checked R.digest_of self.old.agent.resources said)) }
+        ensures tally { OnOk result (self.new.tally ≡ tally_after self.old.tally
+            (flushed_in (state_of R.digest_of self.old.agent self.old.lines self.old.refused)
+            (checked R.digest_of self.old.agent.resources said))) }
         ensures writes { Writes (K.state sink.old) (K.state sink.new)
-            (settled_text (state_of R.digest_of self.old.agent.store self.old.agent.graph.state self.old.lines self.old.refused)
-            (checked R.digest_of self.old.agent.store.resources said)) result }
+            (settled_text (state_of R.digest_of self.old.agent self.old.lines self.old.refused)
+            (checked R.digest_of self.old.agent.resources said)) result }
     {
         match said {
             Ok(Command::Blank) => Ok(()),
@@ -107,16 +108,16 @@ impl<R: DigestRule, F: DigestFunction<R> + Drop> Replay<R, F> {
 
     // Gives the agent an update. The line is refused where a name that it claims is taken.
     fn take<K: Sink>(&mut self, update: Update, sink: &mut K) -> Result<(), RunFault>
-        requires ready { IsReady R.digest_of self.old.agent.store self.old.agent.graph.state self.old.agent.driver self.old.agent.failed }
+        requires ready { self.old.agent.failed ≡ false }
         requires read { IsReadCommand (Command.Update update) }
-        ensures ready { OnOk result (IsReady R.digest_of self.new.agent.store self.new.agent.graph.state self.new.agent.driver self.new.agent.failed) }
-        ensures state { OnOk result (state_of R.digest_of self.new.agent.store self.new.agent.graph.state self.new.lines self.new.refused
-            ≡ settled (state_of R.digest_of self.old.agent.store self.old.agent.graph.state self.old.lines self.old.refused)
-            (update_answer R.digest_of self.old.agent.store.resources update)) }
+        ensures ready { OnOk result (self.new.agent.failed ≡ false) }
+        ensures state { OnOk result (state_of R.digest_of self.new.agent self.new.lines self.new.refused
+            ≡ settled (state_of R.digest_of self.old.agent self.old.lines self.old.refused)
+            (update_answer R.digest_of self.old.agent.resources update)) }
         ensures tally { OnOk result (self.new.tally ≡ self.old.tally) }
         ensures writes { Writes (K.state sink.old) (K.state sink.new)
-            (settled_text (state_of R.digest_of self.old.agent.store self.old.agent.graph.state self.old.lines self.old.refused)
-            (update_answer R.digest_of self.old.agent.store.resources update)) result }
+            (settled_text (state_of R.digest_of self.old.agent self.old.lines self.old.refused)
+            (update_answer R.digest_of self.old.agent.resources update)) result }
     {
         match self.agent.update(update, &mut self.ticks) {
             Ok(()) => Ok(()),
@@ -131,16 +132,17 @@ impl<R: DigestRule, F: DigestFunction<R> + Drop> Replay<R, F> {
 
     // The tables of the view that was sent.
     fn sent_tables(&self) -> &Tables
-        requires ready { IsReady R.digest_of self.now.agent.store self.now.agent.graph.state self.now.agent.driver self.now.agent.failed }
-        ensures { result.now ≡ tables_of (sides_of self.now.agent.graph.state).sent }
+        requires ready { self.now.agent.failed ≡ false }
+        ensures sent { result.now ≡ tables_of self.now.agent.sent }
+        ensures closed { IsClosedView self.now.agent.sent }
     {
         self.agent.tables()
     }
 
     fn put_tables<K: Sink>(&self, sink: &mut K) -> Result<(), RunFault>
-        requires ready { IsReady R.digest_of self.now.agent.store self.now.agent.graph.state self.now.agent.driver self.now.agent.failed }
+        requires ready { self.now.agent.failed ≡ false }
         ensures writes { Writes (K.state sink.old) (K.state sink.new)
-            (concat (table_lines (tables_of (sides_of self.now.agent.graph.state).sent))) result }
+            (concat (table_lines (tables_of self.now.agent.sent))) result }
     {
         let tables = self.sent_tables();
         let lines = tables_text(self.alloc, tables.sets(), tables.chains())?;
@@ -148,9 +150,9 @@ impl<R: DigestRule, F: DigestFunction<R> + Drop> Replay<R, F> {
     }
 
     fn put_packet<K: Sink>(&self, packet: &Packet, sink: &mut K) -> Result<(), RunFault>
-        requires ready { IsReady R.digest_of self.now.agent.store self.now.agent.graph.state self.now.agent.driver self.now.agent.failed }
+        requires ready { self.now.agent.failed ≡ false }
         ensures writes { Writes (K.state sink.old) (K.state sink.new)
-            (packet_text (tables_of (sides_of self.now.agent.graph.state).sent) packet.now) result }
+            (packet_text (tables_of self.now.agent.sent) packet.now) result }
     {
         let lines = self.decided(packet)?;
         put_all(&lines, sink)
@@ -158,8 +160,8 @@ impl<R: DigestRule, F: DigestFunction<R> + Drop> Replay<R, F> {
 
     // What the tables decide on a packet, and why.
     fn decided(&self, packet: &Packet) -> Result<Vec<Text>, Memory>
-        requires ready { IsReady R.digest_of self.now.agent.store self.now.agent.graph.state self.now.agent.driver self.now.agent.failed }
-        ensures { IfOk result (λ lines. concat lines.items ≡ packet_text (tables_of (sides_of self.now.agent.graph.state).sent) packet.now) }
+        requires ready { self.now.agent.failed ≡ false }
+        ensures { IfOk result (λ lines. concat lines.items ≡ packet_text (tables_of self.now.agent.sent) packet.now) }
     {
         let mut path = Vec::new(self.alloc);
         let outcome = trace(self.sent_tables(), packet, &mut path)?;
@@ -185,17 +187,14 @@ impl<R: DigestRule, F: DigestFunction<R> + Drop> Replay<R, F> {
 
     // Pulls until nothing is left, and tells how many messages there were.
     fn flush<K: Sink>(&mut self, sink: &mut K) -> Result<(), RunFault>
-        requires ready { IsReady R.digest_of self.old.agent.store self.old.agent.graph.state self.old.agent.driver self.old.agent.failed }
-        ensures ready { OnOk result (IsReady R.digest_of self.new.agent.store self.new.agent.graph.state self.new.agent.driver self.new.agent.failed) }
-        ensures state { OnOk result (state_of R.digest_of self.new.agent.store self.new.agent.graph.state self.new.lines self.new.refused
-            ≡ record (state_of R.digest_of self.old.agent.store self.old.agent.graph.state self.old.lines self.old.refused) {
-              sent = (flush None (sides_of self.old.agent.graph.state).sent
-                  (view_of R.digest_of self.old.agent.store.resources)).ends;
-            }) }
+        requires ready { self.old.agent.failed ≡ false }
+        ensures ready { OnOk result (self.new.agent.failed ≡ false) }
+        ensures state { OnOk result (state_of R.digest_of self.new.agent self.new.lines self.new.refused
+            ≡ accepted (state_of R.digest_of self.old.agent self.old.lines self.old.refused) Command.Flush) }
         ensures tally { OnOk result (self.new.tally ≡ one_flush_more self.old.tally
-            (message_count (sides_of self.old.agent.graph.state).sent (view_of R.digest_of self.old.agent.store.resources))) }
+            (message_count self.old.agent.sent (view_of R.digest_of self.old.agent.resources))) }
         ensures writes { Writes (K.state sink.old) (K.state sink.new)
-            (flush_text (sides_of self.old.agent.graph.state).sent (view_of R.digest_of self.old.agent.store.resources)) result }
+            (flush_text self.old.agent.sent (view_of R.digest_of self.old.agent.resources)) result }
     {
         let count = send(self.alloc, &mut self.agent, sink)?;
         self.tally.add(count);
@@ -204,9 +203,9 @@ impl<R: DigestRule, F: DigestFunction<R> + Drop> Replay<R, F> {
 
     /// Flushes, and writes nothing.
     pub fn flush_quietly(&mut self) -> Result<(), Memory>
-        requires ready { IsReady R.digest_of self.old.agent.store self.old.agent.graph.state self.old.agent.driver self.old.agent.failed }
+        requires ready { self.old.agent.failed ≡ false }
         ensures tally { OnOk result (self.new.tally ≡ one_flush_more self.old.tally
-            (message_count (sides_of self.old.agent.graph.state).sent (view_of R.digest_of self.old.agent.store.resources))) }
+            (message_count self.old.agent.sent (view_of R.digest_of self.old.agent.resources))) }
         ensures refused { OnOk result (self.new.refused ≡ self.old.refused) }
     {
         match self.flush(&mut CountSink::new()) {
@@ -219,9 +218,9 @@ impl<R: DigestRule, F: DigestFunction<R> + Drop> Replay<R, F> {
 impl<R: DigestRule, F: DigestFunction<R> + Drop> Machine for Replay<R, F> {
     ghost State = { State };
 
-    ghost state = { λ r. state_of R.digest_of r.agent.store r.agent.graph.state r.lines r.refused };
+    ghost state = { λ r. state_of R.digest_of r.agent r.lines r.refused };
 
-    ghost Ready = { λ r. IsReady R.digest_of r.agent.store r.agent.graph.state r.agent.driver r.agent.failed };
+    ghost Ready = { λ r. r.agent.failed ≡ false };
 
     ghost next = { next };
 
@@ -236,15 +235,15 @@ impl<R: DigestRule, F: DigestFunction<R> + Drop> Machine for Replay<R, F> {
     }
 
     fn answer<K: Sink>(&mut self, line: &[u8], sink: &mut K) -> Result<(), RunFault>
-        requires ready { IsReady R.digest_of self.old.agent.store self.old.agent.graph.state self.old.agent.driver self.old.agent.failed }
+        requires ready { self.old.agent.failed ≡ false }
         requires few { self.old.lines < 2 ^ 64 - 1 }
-        ensures ready { OnOk result (IsReady R.digest_of self.new.agent.store self.new.agent.graph.state self.new.agent.driver self.new.agent.failed) }
-        ensures state { OnOk result (state_of R.digest_of self.new.agent.store self.new.agent.graph.state self.new.lines self.new.refused
-            ≡ next (state_of R.digest_of self.old.agent.store self.old.agent.graph.state self.old.lines self.old.refused) line.now) }
-        ensures tally { OnOk result (self.new.tally ≡ tally_after self.old.tally (state_of R.digest_of self.old.agent.store self.old.agent.graph.state self.old.lines self.old.refused)
-            (answer_of (state_of R.digest_of self.old.agent.store self.old.agent.graph.state self.old.lines self.old.refused) line.now)) }
+        ensures ready { OnOk result (self.new.agent.failed ≡ false) }
+        ensures state { OnOk result (state_of R.digest_of self.new.agent self.new.lines self.new.refused
+            ≡ next (state_of R.digest_of self.old.agent self.old.lines self.old.refused) line.now) }
+        ensures tally { OnOk result (self.new.tally ≡ tally_after self.old.tally
+            (flushed_by (state_of R.digest_of self.old.agent self.old.lines self.old.refused) line.now)) }
         ensures writes { Writes (K.state sink.old) (K.state sink.new)
-            (text (state_of R.digest_of self.old.agent.store self.old.agent.graph.state self.old.lines self.old.refused) line.now) result }
+            (text (state_of R.digest_of self.old.agent self.old.lines self.old.refused) line.now) result }
     {
         let said = command_in(self.alloc, line)?;
         self.lines += 1;

@@ -1,9 +1,8 @@
 //! Writes the messages from one view to another.
-ghost use Rattle.std.specs.Prelude.{◌≡◌, OnOk, IfOk, is_some};
+ghost use Rattle.std.specs.Prelude.{◌≡◌, OnOk, IfOk, is_some, false};
 ghost use Rattle.fx_model.specs.Messages.{next_message, step};
-ghost use Rattle.fx_graph.specs.Graphs.{sides_of};
+ghost use Rattle.fx_model.specs.Views.{view_of};
 ghost use Rattle.fx_replay.specs.Output.{messages_text, message_count, first_text};
-ghost use Rattle.fx_replay.specs.Standing.{IsReady};
 ghost use Rattle.fx_run.specs.Writing.{Writes, HasWritten, HasTorn};
 
 use fx_agent::{Agent, PullFault, Pulled};
@@ -46,16 +45,15 @@ fn pull_one<K: Sink, R: DigestRule, F: DigestFunction<R> + Drop>(
     agent: &mut Agent<R, F>,
     out: &mut LineOut<'_, K>,
 ) -> Result<bool, RunFault>
-    requires ready { IsReady R.digest_of agent.old.store agent.old.graph.state agent.old.driver agent.old.failed }
+    requires ready { agent.old.failed ≡ false }
     ensures same_sink { out.new.sink.ghost_name ≡ out.old.sink.ghost_name }
-    ensures ready { OnOk result (IsReady R.digest_of agent.new.store agent.new.graph.state agent.new.driver agent.new.failed) }
+    ensures ready { OnOk result (agent.new.failed ≡ false) }
     ensures found { IfOk result (λ found. found
-        ≡ is_some (next_message (sides_of agent.old.graph.state).sent (sides_of agent.old.graph.state).now)) }
-    ensures step { OnOk result (sides_of agent.new.graph.state ≡ record (sides_of agent.old.graph.state)
-        { sent = step (sides_of agent.old.graph.state).sent (sides_of agent.old.graph.state).now }) }
-    ensures store { agent.new.store ≡ agent.old.store }
+        ≡ is_some (next_message agent.old.sent (view_of R.digest_of agent.old.resources))) }
+    ensures step { OnOk result (agent.new.sent ≡ step agent.old.sent (view_of R.digest_of agent.old.resources)) }
+    ensures resources { agent.new.resources ≡ agent.old.resources }
     ensures writes { Writes (K.state out.old.sink.now) (K.state out.new.sink.now)
-        (first_text (next_message (sides_of agent.old.graph.state).sent (sides_of agent.old.graph.state).now)) result }
+        (first_text (next_message agent.old.sent (view_of R.digest_of agent.old.resources))) result }
 {
     match agent.pull(out) {
         Ok(Pulled::Sent) => Ok(true),
@@ -73,15 +71,14 @@ fn send_next<K: Sink, R: DigestRule, F: DigestFunction<R> + Drop>(
     agent: &mut Agent<R, F>,
     sink: &mut K,
 ) -> Result<bool, RunFault>
-    requires ready { IsReady R.digest_of agent.old.store agent.old.graph.state agent.old.driver agent.old.failed }
-    ensures ready { OnOk result (IsReady R.digest_of agent.new.store agent.new.graph.state agent.new.driver agent.new.failed) }
+    requires ready { agent.old.failed ≡ false }
+    ensures ready { OnOk result (agent.new.failed ≡ false) }
     ensures found { IfOk result (λ found. found
-        ≡ is_some (next_message (sides_of agent.old.graph.state).sent (sides_of agent.old.graph.state).now)) }
-    ensures step { OnOk result (sides_of agent.new.graph.state ≡ record (sides_of agent.old.graph.state)
-        { sent = step (sides_of agent.old.graph.state).sent (sides_of agent.old.graph.state).now }) }
-    ensures store { agent.new.store ≡ agent.old.store }
+        ≡ is_some (next_message agent.old.sent (view_of R.digest_of agent.old.resources))) }
+    ensures step { OnOk result (agent.new.sent ≡ step agent.old.sent (view_of R.digest_of agent.old.resources)) }
+    ensures resources { agent.new.resources ≡ agent.old.resources }
     ensures writes { Writes (K.state sink.old) (K.state sink.new)
-        (first_text (next_message (sides_of agent.old.graph.state).sent (sides_of agent.old.graph.state).now)) result }
+        (first_text (next_message agent.old.sent (view_of R.digest_of agent.old.resources))) result }
 {
     pull_one(agent, &mut LineOut { alloc, sink })
 }
@@ -92,15 +89,14 @@ pub fn send<K: Sink, R: DigestRule, F: DigestFunction<R> + Drop>(
     agent: &mut Agent<R, F>,
     sink: &mut K,
 ) -> Result<u64, RunFault>
-    requires ready { IsReady R.digest_of agent.old.store agent.old.graph.state agent.old.driver agent.old.failed }
-    ensures ready { OnOk result (IsReady R.digest_of agent.new.store agent.new.graph.state agent.new.driver agent.new.failed) }
+    requires ready { agent.old.failed ≡ false }
+    ensures ready { OnOk result (agent.new.failed ≡ false) }
     ensures count { IfOk result (λ count. count
-        ≡ message_count (sides_of agent.old.graph.state).sent (sides_of agent.old.graph.state).now) }
-    ensures reached { OnOk result (sides_of agent.new.graph.state
-        ≡ record (sides_of agent.old.graph.state) { sent = (sides_of agent.old.graph.state).now }) }
-    ensures store { agent.new.store ≡ agent.old.store }
+        ≡ message_count agent.old.sent (view_of R.digest_of agent.old.resources)) }
+    ensures reached { OnOk result (agent.new.sent ≡ view_of R.digest_of agent.old.resources) }
+    ensures resources { agent.new.resources ≡ agent.old.resources }
     ensures writes { Writes (K.state sink.old) (K.state sink.new)
-        (messages_text (sides_of agent.old.graph.state).sent (sides_of agent.old.graph.state).now) result }
+        (messages_text agent.old.sent (view_of R.digest_of agent.old.resources)) result }
 {
     let mut count: u64 = 0;
     while send_next(alloc, agent, sink)? {

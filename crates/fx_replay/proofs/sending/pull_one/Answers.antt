@@ -1,18 +1,11 @@
 use Rattle.std.proofs.Common.{◌≡◌, ap}
 use Rattle.fx_replay.proofs.Pulling.{sent-writes, sent-found, quiet-found, quiet-writes, torn-writes, memory-writes, memory-name, no_resync}
-use Rattle.fx_replay.proofs.Ready.{agent-ready, ready-agent}
 use Rattle.fx_replay.proofs.sending.pull_one.Goals as goal
-
-pub pull-requires : goal.pull-requires
-pull-requires g c = ready-agent c.requires.ready
 
 pub returns-in-Ok-Sent-clause-same_sink : goal.returns-in-Ok-Sent-clause-same_sink
 returns-in-Ok-Sent-clause-same_sink g c =
     let p = rw c.in-Ok-Sent.field-0-is at c.in-Ok-Sent.ensures.pulled in
     p.1.1.1
-
-pub returns-in-Ok-Sent-clause-ready : goal.returns-in-Ok-Sent-clause-ready
-returns-in-Ok-Sent-clause-ready g c = agent-ready c.in-Ok-Sent.ensures.agent c.in-Ok-Sent.ensures.stays
 
 pub returns-in-Ok-Sent-clause-found : goal.returns-in-Ok-Sent-clause-found
 returns-in-Ok-Sent-clause-found g c =
@@ -28,9 +21,6 @@ pub returns-in-Ok-Nothing-clause-same_sink : goal.returns-in-Ok-Nothing-clause-s
 returns-in-Ok-Nothing-clause-same_sink g c =
     let p = rw c.in-Ok-Nothing.field-0-is at c.in-Ok-Nothing.ensures.pulled in
     ap (λ o. o.sink.ghost_name) p.1
-
-pub returns-in-Ok-Nothing-clause-ready : goal.returns-in-Ok-Nothing-clause-ready
-returns-in-Ok-Nothing-clause-ready g c = agent-ready c.in-Ok-Nothing.ensures.agent c.in-Ok-Nothing.ensures.stays
 
 pub returns-in-Ok-Nothing-clause-found : goal.returns-in-Ok-Nothing-clause-found
 returns-in-Ok-Nothing-clause-found g c =
@@ -66,4 +56,4 @@ returns-in-Err-Memory-clause-writes g c =
 pub unreachable-requires : goal.unreachable-requires
 unreachable-requires g c =
     let cause = rw c.in-Err-NeedsResync.field-0-is at c.in-Err-NeedsResync.ensures.cause in
-    no_resync _ c.requires.ready.still cause
+    no_resync _ c.requires.ready cause

@@ -1,11 +1,7 @@
 use Rattle.std.proofs.Common.{◌≡◌, ◌∙◌, ap}
 use Rattle.fx_model.specs.Resources.{empty_resources}
 use Rattle.fx_replay.specs.Output.{start}
-use Rattle.fx_replay.proofs.Ready.{agent-ready}
 use Rattle.fx_replay.proofs.replay.Replay.new.Goals as goal
-
-pub returns-clause-ready : goal.returns-clause-ready
-returns-clause-ready g c = agent-ready c.in_ok-agent.ensures.agent c.in_ok-agent.ensures.ready
 
 pub returns-clause-state : goal.returns-clause-state
 returns-clause-state g c = λ j. record (start g.R.DigestRule.digest_of c.args.node.now) {

@@ -1,8 +1,7 @@
-use Rattle.fx_replay.proofs.Ready.{ready-agent}
 use Rattle.fx_replay.proofs.replay.Replay.sent_tables.Goals as goal
 
-pub tables-requires : goal.tables-requires
-tables-requires g c = ready-agent c.requires.ready
+pub returns-clause-sent : goal.returns-clause-sent
+returns-clause-sent g c = c.tables.ensures.sent c.requires.ready
 
-pub returns : goal.returns
-returns g c = c.tables.ensures.sent c.requires.ready.still
+pub returns-clause-closed : goal.returns-clause-closed
+returns-clause-closed g c = (c.tables.ensures.drivable c.requires.ready).closed

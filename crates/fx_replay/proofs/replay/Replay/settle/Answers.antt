@@ -21,6 +21,6 @@ pub returns-in-Ok-Update-clause-tally : goal.returns-in-Ok-Update-clause-tally
 returns-in-Ok-Update-clause-tally g c =
     let dg = g.R.DigestRule.digest_of in
     let was = c.args.self.now in
-    let s : State = state_of dg was.agent.store was.agent.graph.state was.lines was.refused in
+    let s : State = state_of dg was.agent was.lines was.refused in
     let u = c.in-Ok-Update.update in
-    rw (c.in-Ok-Update.is, c.in-Ok-Update.field-0-is) (on_ok_trans c.take.result c.take.new.self.tally was.tally _ c.take.ensures.tally (untallied was.tally s u (clash dg was.agent.store.resources u)))
+    rw (c.in-Ok-Update.is, c.in-Ok-Update.field-0-is) (on_ok_trans c.take.result c.take.new.self.tally was.tally _ c.take.ensures.tally (untallied was.tally s u (clash dg was.agent.resources u)))
