@@ -12,7 +12,7 @@ use Rattle.fx_names.specs.Digests.{Digest}
 use Rattle.fx_lines.specs.declared.commands.Command.{Command}
 use Rattle.fx_lines.specs.declared.commands.Command.TheVariants as command
 use Rattle.fx_run.specs.Run.{state_after}
-use Rattle.felix_replay.specs.Output.{State, start, answer_of, next, after_answer}
+use Rattle.fx_replay.specs.Output.{State, start, answer_of, next, after_answer, flushed_in, flushed_by}
 use Rattle.fx_run.proofs.Runs.{kept_after, all_written}
 use Rattle.felix_replay.specs.Closing.{views_in, views_along, IsWhole}
 use Rattle.fx_agent.proofs.Starting.{empty_view-drivable}
@@ -21,7 +21,7 @@ wholes : (vs : List View) → AllByRecursion IsClosedView vs → AllByRecursion 
 wholes [] all = tt
 wholes (v ∷ vs) all = (record { view = all.0; tables = closed-tables v all.0 }, wholes vs all.1)
 
-in_line : (s : State) (a : Result Command Refusal) → IsClosedView s.sent → AllByRecursion IsWhole (views_in s a)
+in_line : (s : State) (a : Result Command Refusal) → IsClosedView s.sent → AllByRecursion IsWhole (views_in s (flushed_in s a))
 in_line s (Ok command.Blank) closed = tt
 in_line s (Ok command.Tables) closed = tt
 in_line s (Ok command.Flush) closed = wholes _ (flush-closed None s.sent _ closed (view_of-closed s.digest s.resources))
@@ -42,7 +42,7 @@ after_any s line closed = after_line s (answer_of s line) closed
 
 pub run_stays_whole : (dg : Digest) (node : List ℕ) (lines : List (List ℕ)) → AllByRecursion IsWhole (views_along (start dg node) lines)
 run_stays_whole dg node lines =
-    all_written next (λ s line. views_in s (answer_of s line)) (λ s. IsClosedView s.sent) IsWhole after_any (λ s line closed. in_line s (answer_of s line) closed) (start dg node) lines empty_view-drivable.closed
+    all_written next (λ s line. views_in s (flushed_by s line)) (λ s. IsClosedView s.sent) IsWhole after_any (λ s line closed. in_line s (answer_of s line) closed) (start dg node) lines empty_view-drivable.closed
 
 pub run_closed : (dg : Digest) (node : List ℕ) (lines : List (List ℕ)) → IsClosedView (state_after next (start dg node) lines).sent
 run_closed dg node lines = kept_after next (λ s. IsClosedView s.sent) after_any (start dg node) lines empty_view-drivable.closed

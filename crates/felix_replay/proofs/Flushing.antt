@@ -7,7 +7,7 @@ use Rattle.fx_laws.proofs.Flushes.{flush-ends}
 use Rattle.fx_model.specs.Views.{view_of}
 use Rattle.fx_names.specs.Digests.{Digest}
 use Rattle.felix_replay.specs.Flushing.{IsUpdate, HaveNoUpdate, IsAllSent, FlushesSendAll}
-use Rattle.felix_replay.specs.Output.{State, start, answer_of, next, after_answer}
+use Rattle.fx_replay.specs.Output.{State, start, answer_of, next, after_answer}
 use Rattle.fx_run.specs.Run.{state_after}
 use Rattle.fx_run.proofs.Runs.{state_after-append}
 

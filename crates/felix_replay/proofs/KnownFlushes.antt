@@ -6,7 +6,7 @@ use Rattle.fx_lines.specs.declared.commands.Command.{Command}
 use Rattle.fx_lines.specs.declared.commands.Command.TheVariants as command
 use Rattle.fx_model.specs.declared.resources.Update.TheVariants as update
 use Rattle.felix_replay.specs.Flushing.{IsUpdate, HaveNoUpdate}
-use Rattle.felix_replay.specs.Output.{State, checked, next}
+use Rattle.fx_replay.specs.Output.{State, checked, next}
 
 -- a blank line
 pub blank_line : (s : State) (line : List ℕ) → command_of line ≡ Ok command.Blank → HaveNoUpdate s (line ∷ [])

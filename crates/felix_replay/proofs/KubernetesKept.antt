@@ -6,7 +6,7 @@ use Rattle.fx_model.specs.PacketTexts.{packet_lines}
 use Rattle.fx_model.specs.Policy.{packet_verdict}
 use Rattle.fx_names.specs.Digests.{Digest}
 use Rattle.fx_kube_laws.proofs.Kept.{kubernetes_verdict_is_kept}
-use Rattle.felix_replay.specs.Output.{start, next}
+use Rattle.fx_replay.specs.Output.{start, next}
 use Rattle.fx_run.specs.Run.{state_after}
 use Rattle.felix_replay.specs.KubernetesLines.{KeepsKubernetes}
 use Rattle.felix_replay.proofs.Policing.{keeps_policy}

@@ -1,13 +1,8 @@
-pub mod SendingLemmas
 pub mod ClosingLemmas
 pub mod Flushing
 pub mod KnownFlushes
 pub mod Served
 pub mod Policing
-pub mod Asked
 pub mod KubernetesKept
-pub mod Ready
-pub mod Taking
-pub mod Pulling
 pub mod SoakLemmas
 pub mod StoppingLemmas

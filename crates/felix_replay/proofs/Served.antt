@@ -17,7 +17,7 @@ use Rattle.fx_lines.proofs.ReadForms.{command_of-read}
 use Rattle.fx_agent.proofs.Starting.{none-servable}
 use Rattle.fx_run.specs.Run.{state_after}
 use Rattle.fx_run.proofs.Runs.{kept_after}
-use Rattle.felix_replay.specs.Output.{State, start, unless_taken, checked, accepted, answer_of, after_answer, next}
+use Rattle.fx_replay.specs.Output.{State, start, unless_taken, checked, accepted, answer_of, after_answer, next}
 
 start-servable : (dg : Digest) (node : List ℕ) → IsServable dg (start dg node).resources
 start-servable dg node = none-servable dg node

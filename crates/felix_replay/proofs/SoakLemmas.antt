@@ -1,14 +1,13 @@
 -- A soak run, line by line.
-use Rattle.std.proofs.Common.{◌≡◌, ◌+◌, ◌-◌, ◌^◌, ℕ, suc, min, List, [], ◌∷◌, ◌++◌, Result, Ok, Err, sym, ◌∙◌, ap, arith}
-use Rattle.fx_fields.specs.declared.refusal.Refusal.{Refusal}
+use Rattle.std.proofs.Common.{◌≡◌, ◌+◌, ◌-◌, ◌^◌, ℕ, suc, min, List, [], ◌∷◌, ◌++◌, length, Option, Some, None, sym, ◌∙◌, ap, arith}
 use Rattle.fx_gen.specs.Generator.{line_of}
-use Rattle.fx_lines.specs.declared.commands.Command.{Command}
-use Rattle.fx_lines.specs.declared.commands.Command.TheVariants as command
+use Rattle.fx_model.specs.Messages.{Flush}
 use Rattle.fx_names.specs.Digests.{Digest}
-use Rattle.felix_replay.specs.declared.tally.Tally.{Tally}
-use Rattle.felix_replay.specs.Output.{State, start, next, answer_of}
+use Rattle.fx_replay.specs.declared.tally.Tally.{Tally}
+use Rattle.fx_replay.specs.Output.{State, start, next, flushed_by}
 use Rattle.fx_run.specs.Run.{state_after}
-use Rattle.felix_replay.specs.Soak.{drawn_lines, messages_of, flushes_in, messages_in, flushes_along, messages_along, told_number, tally_of, tally_along, tally_after, one_flush_more}
+use Rattle.felix_replay.specs.Soak.{drawn_lines, flushes_in, messages_in, flushes_along, messages_along, tally_of, tally_along}
+use Rattle.fx_replay.specs.Tallies.{told_number, tally_after, one_flush_more}
 use Rattle.fx_run.proofs.Runs.{state_after-push}
 
 pub drawn-more : (seed : ℕ) (node : List ℕ) (n : ℕ) → drawn_lines seed node (n + 1) ≡ drawn_lines seed node n ++ line_of seed n node ∷ []
@@ -21,20 +20,20 @@ plus_none n = omega arith
 regroup : (a b c : ℕ) → a + (b + c) ≡ (a + b) + c
 regroup a b c = omega arith
 
-flushes-push : (s : State) (lines : List (List ℕ)) (line : List ℕ) → flushes_along s (lines ++ line ∷ []) ≡ flushes_along s lines + flushes_in (answer_of (state_after next s lines) line)
+flushes-push : (s : State) (lines : List (List ℕ)) (line : List ℕ) → flushes_along s (lines ++ line ∷ []) ≡ flushes_along s lines + flushes_in (flushed_by (state_after next s lines) line)
 unfolding flushes_along state_after
-flushes-push s [] line = plus_none (flushes_in (answer_of s line))
+flushes-push s [] line = plus_none (flushes_in (flushed_by s line))
 flushes-push s (x ∷ xs) line =
-    ap (λ (n : ℕ). flushes_in (answer_of s x) + n) (flushes-push (next s x) xs line)
-    ∙ regroup (flushes_in (answer_of s x)) (flushes_along (next s x) xs) (flushes_in (answer_of (state_after next (next s x) xs) line))
+    ap (λ (n : ℕ). flushes_in (flushed_by s x) + n) (flushes-push (next s x) xs line)
+    ∙ regroup (flushes_in (flushed_by s x)) (flushes_along (next s x) xs) (flushes_in (flushed_by (state_after next (next s x) xs) line))
 
-messages-push : (s : State) (lines : List (List ℕ)) (line : List ℕ) → messages_along s (lines ++ line ∷ []) ≡ messages_along s lines + messages_in (state_after next s lines) (answer_of (state_after next s lines) line)
+messages-push : (s : State) (lines : List (List ℕ)) (line : List ℕ) → messages_along s (lines ++ line ∷ []) ≡ messages_along s lines + messages_in (flushed_by (state_after next s lines) line)
 unfolding messages_along state_after
-messages-push s [] line = plus_none (messages_in s (answer_of s line))
+messages-push s [] line = plus_none (messages_in (flushed_by s line))
 messages-push s (x ∷ xs) line =
     let t = state_after next (next s x) xs in
-    ap (λ (n : ℕ). messages_in s (answer_of s x) + n) (messages-push (next s x) xs line)
-    ∙ regroup (messages_in s (answer_of s x)) (messages_along (next s x) xs) (messages_in t (answer_of t line))
+    ap (λ (n : ℕ). messages_in (flushed_by s x) + n) (messages-push (next s x) xs line)
+    ∙ regroup (messages_in (flushed_by s x)) (messages_along (next s x) xs) (messages_in (flushed_by t line))
 
 same_tally : (a b c d : ℕ) → a ≡ c → b ≡ d → tally_of a b ≡ tally_of c d
 same_tally a b c d e f = λ j. tally_of (e j) (f j)
@@ -50,13 +49,9 @@ flushed f m sent =
     let both : ℕ → ℕ → Tally = λ a b. record { flushes = a; messages = b } in
     λ j. both (e j) (h j)
 
-tallied : (s : State) (a : Result Command Refusal) (f m : ℕ) → tally_after (tally_of f m) s a ≡ tally_of (f + flushes_in a) (m + messages_in s a)
-tallied s (Ok command.Blank) f m = still f m
-tallied s (Ok command.Tables) f m = still f m
-tallied s (Ok command.Flush) f m = flushed f m (messages_of s)
-tallied s (Ok (command.Update u)) f m = still f m
-tallied s (Ok (command.Packet a)) f m = still f m
-tallied s (Err r) f m = still f m
+tallied : (o : Option Flush) (f m : ℕ) → tally_after (tally_of f m) o ≡ tally_of (f + flushes_in o) (m + messages_in o)
+tallied None f m = still f m
+tallied (Some sent) f m = flushed f m (length sent.messages)
 
 module _ (dg : Digest) (node : List ℕ) (seed n : ℕ) where
   abbrev lines : List (List ℕ)
@@ -68,9 +63,9 @@ module _ (dg : Digest) (node : List ℕ) (seed n : ℕ) where
   abbrev drawn : List ℕ
   drawn = line_of seed n node
 
-  tally-push : tally_after (tally_along (start dg node) lines) behind (answer_of behind drawn) ≡ tally_along (start dg node) (drawn_lines seed node (n + 1))
+  tally-push : tally_after (tally_along (start dg node) lines) (flushed_by behind drawn) ≡ tally_along (start dg node) (drawn_lines seed node (n + 1))
   tally-push =
-      tallied behind (answer_of behind drawn) (flushes_along (start dg node) lines) (messages_along (start dg node) lines)
+      tallied (flushed_by behind drawn) (flushes_along (start dg node) lines) (messages_along (start dg node) lines)
       ∙ same_tally _ _ _ _ (sym (flushes-push (start dg node) lines drawn)) (sym (messages-push (start dg node) lines drawn))
       ∙ ap (λ (l : List (List ℕ)). tally_along (start dg node) l) (sym (drawn-more seed node n))
 
@@ -79,12 +74,12 @@ module _ (dg : Digest) (node : List ℕ) (seed n : ℕ) where
     pub state-drawn : (now : State) → now ≡ next s line → now ≡ state_after next (start dg node) (drawn_lines seed node (n + 1))
     state-drawn now e = e ∙ ap (next s) same ∙ ap (λ (t : State). next t drawn) is ∙ sym (state_after-push next (start dg node) lines drawn) ∙ ap (λ (l : List (List ℕ)). state_after next (start dg node) l) (sym (drawn-more seed node n))
 
-    pub tally-drawn : (was now : Tally) → was ≡ tally_along (start dg node) lines → now ≡ tally_after was s (answer_of s line) → now ≡ tally_along (start dg node) (drawn_lines seed node (n + 1))
+    pub tally-drawn : (was now : Tally) → was ≡ tally_along (start dg node) lines → now ≡ tally_after was (flushed_by s line) → now ≡ tally_along (start dg node) (drawn_lines seed node (n + 1))
     tally-drawn was now first e =
         e
-        ∙ ap (λ (t : Tally). tally_after t s (answer_of s line)) first
-        ∙ ap (λ (l : List ℕ). tally_after (tally_along (start dg node) lines) s (answer_of s l)) same
-        ∙ ap (λ (t : State). tally_after (tally_along (start dg node) lines) t (answer_of t drawn)) is
+        ∙ ap (λ (t : Tally). tally_after t (flushed_by s line)) first
+        ∙ ap (λ (l : List ℕ). tally_after (tally_along (start dg node) lines) (flushed_by s l)) same
+        ∙ ap (λ (t : State). tally_after (tally_along (start dg node) lines) (flushed_by t drawn)) is
         ∙ tally-push
 
 -- the last flush

@@ -5,7 +5,7 @@ use Rattle.fx_lines.specs.declared.commands.Command.{Command}
 use Rattle.fx_lines.specs.declared.commands.Command.TheVariants as command
 use Rattle.fx_model.specs.Views.{view_of}
 use Rattle.fx_names.specs.Digests.{Digest}
-use Rattle.felix_replay.specs.Output.{State, start, next, answer_of}
+use Rattle.fx_replay.specs.Output.{State, start, next, answer_of}
 use Rattle.fx_run.specs.Run.{state_after}
 
 -- an accepted update

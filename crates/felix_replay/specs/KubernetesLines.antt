@@ -12,7 +12,7 @@ use Rattle.fx_names.specs.Digests.{Digest}
 use Rattle.fx_k8s.specs.Clusters.{IsConverted, IsPlain}
 use Rattle.fx_k8s.specs.KubeVerdict.{Cluster, kubernetes_verdict}
 use Rattle.fx_lines.specs.declared.commands.Command.TheVariants as command
-use Rattle.felix_replay.specs.Output.{State, start, next, answer_of, text}
+use Rattle.fx_replay.specs.Output.{State, start, next, answer_of, text}
 use Rattle.fx_run.specs.Run.{state_after}
 
 -- the lines end with Kubernetes' verdict; which rule decides, Kubernetes doesn't say

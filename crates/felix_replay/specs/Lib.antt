@@ -1,8 +1,4 @@
 pub mod Words
-pub mod PacketRuns
-pub mod Output
-pub mod Standing
-pub mod Stepping
 pub mod Top
 pub mod Closing
 pub mod Flushing

@@ -16,7 +16,7 @@ use Rattle.fx_names.specs.Digests.{Digest}
 use Rattle.fx_model.specs.Views.{view_of}
 use Rattle.fx_lines.specs.declared.commands.Command.TheVariants as command
 use Rattle.fx_model.specs.PacketTexts.{packet_lines}
-use Rattle.felix_replay.specs.Output.{State, start, next, answer_of, text}
+use Rattle.fx_replay.specs.Output.{State, start, next, answer_of, text}
 use Rattle.fx_run.specs.Run.{state_after}
 
 -- the machine's run over the tables of the sent view, and the lines that it gives

@@ -1,51 +1,36 @@
 -- A soak run: lines that are drawn in the place of an input, and a flush behind the last. What is told of it are numbers alone.
-use Rattle.std.specs.Prelude.{ℕ, zero, suc, ◌+◌, ◌-◌, ◌^◌, min, List, [], ◌∷◌, ◌++◌, length, Bool, None, Result, Ok, Err}
+use Rattle.std.specs.Prelude.{ℕ, zero, suc, ◌+◌, ◌-◌, List, [], ◌∷◌, ◌++◌, length, Bool, Option, Some, None}
 use Rattle.fx_names.specs.Digests.{Digest}
-use Rattle.fx_model.specs.Views.{view_of}
-use Rattle.fx_model.specs.Messages.{flush}
-use Rattle.fx_fields.specs.declared.refusal.Refusal.{Refusal}
-use Rattle.fx_lines.specs.declared.commands.Command.{Command}
-use Rattle.fx_lines.specs.declared.commands.Command.TheVariants as command
+use Rattle.fx_model.specs.Messages.{Flush}
 use Rattle.fx_gen.specs.Generator.{line_of}
 use Rattle.fx_print.specs.Texts.{soak_line}
 use Rattle.fx_words.specs.declared.words.Soak.{Soak}
-use Rattle.felix_replay.specs.declared.tally.Tally.{Tally}
+use Rattle.fx_replay.specs.declared.tally.Tally.{Tally}
 use Rattle.fx_run.specs.Run.{state_after}
-use Rattle.felix_replay.specs.Output.{State, start, next, answer_of, message_count}
+use Rattle.fx_replay.specs.Output.{State, start, next, flush_of, flushed_by}
+use Rattle.fx_replay.specs.Tallies.{told_number}
 
 -- the lines below an index
 unfoldable pub drawn_lines : ℕ → List ℕ → ℕ → List (List ℕ)
 drawn_lines seed node zero = []
 drawn_lines seed node (suc n) = drawn_lines seed node n ++ line_of seed n node ∷ []
 
--- how many messages a flush sends
-abbrev pub messages_of : State → ℕ
-messages_of s = length (flush None s.sent (view_of s.digest s.resources)).messages
+-- how many flushes there are in a line, and how many messages it sends
+abbrev pub flushes_in : Option Flush → ℕ
+flushes_in None = 0
+flushes_in (Some f) = 1
 
--- how many flushes a line is, and how many messages it sends
-abbrev pub flushes_in : Result Command Refusal → ℕ
-flushes_in (Ok command.Blank) = 0
-flushes_in (Ok command.Tables) = 0
-flushes_in (Ok command.Flush) = 1
-flushes_in (Ok (command.Update u)) = 0
-flushes_in (Ok (command.Packet a)) = 0
-flushes_in (Err r) = 0
-
-abbrev pub messages_in : State → Result Command Refusal → ℕ
-messages_in s (Ok command.Blank) = 0
-messages_in s (Ok command.Tables) = 0
-messages_in s (Ok command.Flush) = messages_of s
-messages_in s (Ok (command.Update u)) = 0
-messages_in s (Ok (command.Packet a)) = 0
-messages_in s (Err r) = 0
+abbrev pub messages_in : Option Flush → ℕ
+messages_in None = 0
+messages_in (Some f) = length f.messages
 
 unfoldable pub flushes_along : State → List (List ℕ) → ℕ
 flushes_along s [] = 0
-flushes_along s (line ∷ lines) = flushes_in (answer_of s line) + flushes_along (next s line) lines
+flushes_along s (line ∷ lines) = flushes_in (flushed_by s line) + flushes_along (next s line) lines
 
 unfoldable pub messages_along : State → List (List ℕ) → ℕ
 messages_along s [] = 0
-messages_along s (line ∷ lines) = messages_in s (answer_of s line) + messages_along (next s line) lines
+messages_along s (line ∷ lines) = messages_in (flushed_by s line) + messages_along (next s line) lines
 
 -- behind the last line
 abbrev pub soak_end : Digest → List ℕ → Soak → State
@@ -56,11 +41,8 @@ abbrev pub soak_flushes : Digest → List ℕ → Soak → ℕ
 soak_flushes dg node soak = flushes_along (start dg node) (drawn_lines soak.seed node soak.count) + 1
 
 abbrev pub soak_messages : Digest → List ℕ → Soak → ℕ
-soak_messages dg node soak = messages_along (start dg node) (drawn_lines soak.seed node soak.count) + messages_of (soak_end dg node soak)
-
--- as far as 64 bits tell
-abbrev pub told_number : ℕ → ℕ
-told_number n = min n (2 ^ 64 - 1)
+soak_messages dg node soak =
+    messages_along (start dg node) (drawn_lines soak.seed node soak.count) + length (flush_of (soak_end dg node soak)).messages
 
 -- what is written, with the number of ticks
 abbrev pub soak_output : Digest → List ℕ → Soak → ℕ → List ℕ
@@ -78,17 +60,3 @@ tally_of flushes messages = record { flushes = told_number flushes; messages = t
 
 abbrev pub tally_along : State → List (List ℕ) → Tally
 tally_along s lines = tally_of (flushes_along s lines) (messages_along s lines)
-
-abbrev pub no_flushes : Tally
-no_flushes = record { flushes = 0; messages = 0 }
-
-abbrev pub one_flush_more : Tally → ℕ → Tally
-one_flush_more t messages = record { flushes = told_number (t.flushes + 1); messages = told_number (t.messages + messages) }
-
-abbrev pub tally_after : Tally → State → Result Command Refusal → Tally
-tally_after t s (Ok command.Blank) = t
-tally_after t s (Ok command.Tables) = t
-tally_after t s (Ok command.Flush) = one_flush_more t (message_count s.sent (view_of s.digest s.resources))
-tally_after t s (Ok (command.Update u)) = t
-tally_after t s (Ok (command.Packet a)) = t
-tally_after t s (Err r) = t

@@ -8,7 +8,7 @@ use Rattle.fx_run.specs.Statuses as statuses
 use Rattle.fx_names.specs.Digests.{Digest}
 use Rattle.fx_words.specs.declared.words.Asked.{Asked}
 use Rattle.fx_words.specs.declared.words.Soak.{Soak}
-use Rattle.felix_replay.specs.Output.{start, next, text, was_refused}
+use Rattle.fx_replay.specs.Output.{start, next, text, was_refused}
 use Rattle.felix_replay.specs.SoakRuns.{SoakRan, SoakStopped}
 
 -- The input was read to its end, and the output is the definition's. The input is all that the source had left, where it tells.

@@ -4,8 +4,5 @@
 pub use fx_run::Status;
 pub use top::felix_replay;
 
-mod replay;
-mod sending;
 mod soaking;
-mod tally;
 mod top;

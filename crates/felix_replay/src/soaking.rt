@@ -1,16 +1,17 @@
 //! The soak run: the lines of a seed in the place of an input.
-ghost use Rattle.std.specs.Prelude.{◌≡◌, OnOk, OnErr, IfOk, IsErrOf};
-ghost use Rattle.felix_replay.specs.Standing.{state_of, IsReady};
-ghost use Rattle.felix_replay.specs.Output.{start};
-ghost use Rattle.felix_replay.specs.Soak.{soak_end, no_flushes, tally_along, drawn_lines};
+ghost use Rattle.std.specs.Prelude.{◌≡◌, OnOk, OnErr, IfOk, IsErrOf, false};
+ghost use Rattle.fx_replay.specs.Standing.{state_of};
+ghost use Rattle.fx_replay.specs.Output.{start};
+ghost use Rattle.felix_replay.specs.Soak.{soak_end, tally_along, drawn_lines};
+ghost use Rattle.fx_replay.specs.Tallies.{no_flushes};
 ghost use Rattle.felix_replay.specs.SoakRuns.{SumsUp, SoakRan, SoakStopped};
 ghost use Rattle.fx_run.specs.Ran.{SinkFailed};
 
-use crate::replay::Replay;
 use fx_base::{Memory, Sink, Text};
 use fx_gen::make_line;
 use fx_names::{DigestFunction, DigestRule, Namer};
 use fx_print::soak_text;
+use fx_replay::Replay;
 use fx_run::{RunFault, put_one};
 use fx_words::Soak;
 use std::alloc::Global;
@@ -63,8 +64,9 @@ fn sum_up_over<R: DigestRule, F: DigestFunction<R> + Drop>(
     run: Soak,
     replay: &mut Replay<R, F>,
 ) -> Result<Summary, Memory>
-    requires ready { IsReady R.digest_of replay.old.agent.store replay.old.agent.graph.state replay.old.agent.driver replay.old.agent.failed }
-    requires state { state_of R.digest_of replay.old.agent.store replay.old.agent.graph.state replay.old.lines replay.old.refused ≡ start R.digest_of node.now }
+    requires ready { replay.old.agent.failed ≡ false }
+    requires state { state_of R.digest_of replay.old.agent replay.old.lines replay.old.refused
+        ≡ start R.digest_of node.now }
     requires tally { replay.old.tally ≡ no_flushes }
     ensures { IfOk result (λ summary. SumsUp R.digest_of node.now run summary.line summary.refused) }
 {
@@ -91,12 +93,15 @@ fn answer_drawn<R: DigestRule, F: DigestFunction<R> + Drop>(
     run: Soak,
     replay: &mut Replay<R, F>,
 ) -> Result<(), Memory>
-    requires ready { IsReady R.digest_of replay.old.agent.store replay.old.agent.graph.state replay.old.agent.driver replay.old.agent.failed }
-    requires state { state_of R.digest_of replay.old.agent.store replay.old.agent.graph.state replay.old.lines replay.old.refused ≡ start R.digest_of node.now }
+    requires ready { replay.old.agent.failed ≡ false }
+    requires state { state_of R.digest_of replay.old.agent replay.old.lines replay.old.refused
+        ≡ start R.digest_of node.now }
     requires tally { replay.old.tally ≡ no_flushes }
-    ensures ready { OnOk result (IsReady R.digest_of replay.new.agent.store replay.new.agent.graph.state replay.new.agent.driver replay.new.agent.failed) }
-    ensures state { OnOk result (state_of R.digest_of replay.new.agent.store replay.new.agent.graph.state replay.new.lines replay.new.refused ≡ soak_end R.digest_of node.now run) }
-    ensures tally { OnOk result (replay.new.tally ≡ tally_along (start R.digest_of node.now) (drawn_lines run.seed node.now run.count)) }
+    ensures ready { OnOk result (replay.new.agent.failed ≡ false) }
+    ensures state { OnOk result (state_of R.digest_of replay.new.agent replay.new.lines replay.new.refused
+        ≡ soak_end R.digest_of node.now run) }
+    ensures tally { OnOk result (replay.new.tally
+        ≡ tally_along (start R.digest_of node.now) (drawn_lines run.seed node.now run.count)) }
 {
     for index in 0..run.count {
         let line = make_line(alloc, run.seed, index, node)?;

@@ -10,16 +10,16 @@ ghost use Rattle.fx_run.specs.Ran.{SourceFailed, SinkFailed};
 ghost use Rattle.fx_run.specs.Statuses.{EndedEarly, HasRun, HasRunOrMemory};
 ghost use Rattle.std.specs.List.{AllByRecursion};
 ghost use Rattle.fx_lines.specs.Reading.{HasFailedRead, IsTooLong};
-ghost use Rattle.felix_replay.specs.Output.{start};
+ghost use Rattle.fx_replay.specs.Output.{start};
 ghost use Rattle.felix_replay.specs.Closing.{IsWhole, views_along};
 ghost use Rattle.felix_replay.specs.Flushing.{FlushesSendAll};
 ghost use Rattle.felix_replay.specs.Policed.{KeepsPolicy, PathsAreRuns};
 ghost use Rattle.felix_replay.specs.KubernetesLines.{KeepsKubernetes};
 
-use crate::replay::Replay;
 use crate::soaking::soak;
 use fx_base::{Memory, Sink, Source, Text};
 use fx_names::{DigestFunction, DigestRule, Namer};
+use fx_replay::Replay;
 use fx_run::{RunFault, Status, answer_lines, tell_usage};
 use fx_words::{Asked, read_words};
 use std::alloc::Global;
@@ -44,7 +44,8 @@ pub fn felix_replay<S: Source, K: Sink, R: DigestRule, F: DigestFunction<R> + Dr
 
     // Where the source tells what is left and the sink what it holds, the output and the status of an input are the definition's.
     ensures as_defined { HasRun result → AsksReplay (asked_of words.now)
-        → IsAsDefined R.digest_of (node_name words.now) (S.state source.old) (K.state sink.old) (K.state sink.new) result }
+        → IsAsDefined R.digest_of (node_name words.now) (S.state source.old)
+        (K.state sink.old) (K.state sink.new) result }
 
     // Whether or not they tell: the input was read to its end, or each drawn line was answered, and the output is the definition's.
     ensures named { HasRun result → IsSome (asked_of words.now) }
@@ -93,7 +94,8 @@ pub fn felix_replay<S: Source, K: Sink, R: DigestRule, F: DigestFunction<R> + Dr
 
     // What a run that ended early has written is a prefix of the output.
     ensures stopped { IsSome (asked_of words.now) → EndedEarly result
-        → StoppedFor R.digest_of (asked_of words.now) (S.state source.old) (S.state source.new) (K.state sink.old) (K.state sink.new) }
+        → StoppedFor R.digest_of (asked_of words.now) (S.state source.old) (S.state source.new)
+        (K.state sink.old) (K.state sink.new) }
     ensures usage_prefix { asked_of words.now ≡ None
         → AppendsPrefix (K.state sink.old).held (K.state sink.new).held usage_line }
 
@@ -135,10 +137,10 @@ fn run<S: Source, K: Sink, R: DigestRule, F: DigestFunction<R> + Drop>(
 ) -> Result<bool, RunFault>
     requires fresh { (S.state source.old).given ≡ 0 }
     requires unended { (S.state source.old).ended ≡ false }
-    ensures ran { IfOk result (RanBy R.digest_of asked.now.node asked.now.soak (S.state source.old) (S.state source.new)
-        (K.state sink.old) (K.state sink.new)) }
-    ensures stopped { OnErr result (StoppedBy R.digest_of asked.now.node asked.now.soak (S.state source.old) (S.state source.new)
-        (K.state sink.old) (K.state sink.new)) }
+    ensures ran { IfOk result (RanBy R.digest_of asked.now.node asked.now.soak
+        (S.state source.old) (S.state source.new) (K.state sink.old) (K.state sink.new)) }
+    ensures stopped { OnErr result (StoppedBy R.digest_of asked.now.node asked.now.soak
+        (S.state source.old) (S.state source.new) (K.state sink.old) (K.state sink.new)) }
     ensures read_fault { IsErrOf result RunFault.ReadFault → HasFailedRead (S.state source.old) (S.state source.new) }
     ensures write_fault { IsErrOf result RunFault.WriteFault → SinkFailed (K.state sink.old) (K.state sink.new) }
     ensures write_short { IsErrOf result RunFault.WriteFault → (S.state source.new).given < 2 ^ 32 }

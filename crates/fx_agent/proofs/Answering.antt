@@ -2,17 +2,11 @@
 use Rattle.std.proofs.Common.{◌≡◌, ◌⊎◌, inl, inr, Bool, true, false, not, Option, Some, None, is_some, Result, Err, refl, sym, ap, ◌∙◌}
 use Rattle.std.specs.Prelude.{◌↔◌, IsErrOf}
 use Rattle.fx_model.specs.Messages.{Change}
-use Rattle.fx_store.specs.declared.fault.CheckFault.{CheckFault}
-use Rattle.fx_store.specs.declared.fault.CheckFault.TheVariants as check
 use Rattle.fx_model.specs.declared.out.OutFault.{OutFault}
 use Rattle.fx_model.specs.declared.out.OutFault.TheVariants as out
 use Rattle.fx_agent.specs.declared.faults.Pulled.{Pulled}
 use Rattle.fx_agent.specs.declared.faults.Pulled.TheVariants as pulled
-use Rattle.fx_agent.specs.Answers.{IsOutLeft, StaysIfTaken}
-
-pub stays_if_taken : {same : Type 0} (e : CheckFault) → same → StaysIfTaken same e
-stays_if_taken (check.Taken name holder) is = is
-stays_if_taken check.Memory is = tt
+use Rattle.fx_agent.specs.Answers.{IsOutLeft}
 
 -- ---- messages
 

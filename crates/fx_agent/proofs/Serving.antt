@@ -1,5 +1,5 @@
--- What an agent holds stays as it is said, after an update and after a message; and what it decides.
-use Rattle.std.proofs.Common.{◌≡◌, Bool, true, false, None, Option, sym, ap, ◌∙◌, subst}
+-- What an agent holds stays as it is said after an update; and what it decides.
+use Rattle.std.proofs.Common.{◌≡◌, true, None, Option, sym, ap, ◌∙◌, subst}
 use Rattle.fx_names.specs.Digests.{Digest}
 use Rattle.fx_model.specs.declared.chain.Reason.{Reason}
 use Rattle.fx_model.specs.declared.packet.Packet.{Packet}
@@ -27,7 +27,7 @@ use Rattle.fx_store.specs.Keeping.{KeepsClaims}
 use Rattle.fx_walk.proofs.Families.{first_there}
 use Rattle.fx_kube_laws.proofs.Kept.{kubernetes_verdict_is_kept}
 use Rattle.fx_agent.specs.Answers.{IsAnswer, IsKubernetesVerdict}
-use Rattle.fx_agent.specs.Driven.{IsDriven, KeepsResources}
+use Rattle.fx_agent.specs.Driven.{IsDriven}
 use Rattle.fx_agent.specs.Sound.{IsAgent, IsSound}
 use Rattle.fx_agent.proofs.Driving.{driven-anew}
 
@@ -61,17 +61,6 @@ sound-after dg s t g h d was u formed on_workloads free follows sent made claims
       driven = driven-anew dg (after s.resources u) servable.formed (sides_of g) (sides_of h) d was.driven sent graph.now;
     }
 
--- ---- messages
-
--- where graph and driver went on together, all stands as before
-pub sound-on : (dg : Digest) (s : Store) (g h : GraphState) (d e : Driver) → IsSound dg s g d → KeepsResources dg g h → IsDriven (sides_of h) e → IsSound dg s h e
-sound-on dg s g h d e was keeps driven = record {
-  servable = was.servable;
-  claims = was.claims;
-  graph = keeps s.resources was.graph;
-  driven = driven;
-}
-
 -- ---- whole agents
 
 pub driven-first : (sides : Sides) (d : Driver) → IsDriven sides d → HasFirst d.tables.chains
@@ -81,36 +70,21 @@ driven-first sides d is = subst (λ (t : Tables). HasFirst t.chains) (sym is.dri
 pub agent-sound : (dg : Digest) (s : Store) (g : GraphState) (d : Driver) {failed : Bool} → IsSound dg s g d → IsAgent dg s g d failed
 agent-sound dg s g d is = record { first = driven-first (sides_of g) d is.driven; sound = λ ready. is }
 
-no_truth : {A : Type 0} → true ≡ false → A
-no_truth e = cc
-
--- one that has failed
-pub agent-failed : (dg : Digest) (s : Store) (g : GraphState) (d : Driver) → HasFirst d.tables.chains → IsAgent dg s g d true
-agent-failed dg s g d first = record { first = first; sound = λ ready. no_truth ready }
-
 -- ---- packets
 
-pub sound-tables : (dg : Digest) (s : Store) (g : GraphState) (d : Driver) → IsSound dg s g d → (sides_of g).sent ≡ (sides_of g).now → d.tables ≡ tables_of (view_of dg s.resources)
-sound-tables dg s g d is same = is.driven.drives.tables ∙ ap tables_of (same ∙ is.graph.now)
+pub sound-tables : (dg : Digest) (s : Store) (g : GraphState) (d : Driver) → IsSound dg s g d → (sides_of g).sent ≡ view_of dg s.resources → d.tables ≡ tables_of (view_of dg s.resources)
+sound-tables dg s g d is same = is.driven.drives.tables ∙ ap tables_of same
 
 -- the policy reference's answer, where all was sent
-pub sound-policy : (dg : Digest) (s : Store) (g : GraphState) (d : Driver) → IsSound dg s g d → (sides_of g).sent ≡ (sides_of g).now
+pub sound-policy : (dg : Digest) (s : Store) (g : GraphState) (d : Driver) → IsSound dg s g d → (sides_of g).sent ≡ view_of dg s.resources
     → (a : Packet) → a.state ≡ New → (v : Verdict) (egress ingress : Option Reason) → IsPolicyAnswer d.tables a v egress ingress → IsAnswer (packet_verdict s.resources a) v egress ingress
 sound-policy dg s g d is same a new v egress ingress answer =
     let known = answer dg s.resources (sound-tables dg s g d is same) is.servable new in
     record { same_verdict = known.0; same_egress = known.1; same_ingress = known.2 }
 
 -- and Kubernetes' verdict, where the resources are a cluster's
-pub sound-kubernetes : (dg : Digest) (s : Store) (g : GraphState) (d : Driver) → IsSound dg s g d → (sides_of g).sent ≡ (sides_of g).now
+pub sound-kubernetes : (dg : Digest) (s : Store) (g : GraphState) (d : Driver) → IsSound dg s g d → (sides_of g).sent ≡ view_of dg s.resources
     → (a : Packet) → a.state ≡ New → (v : Verdict) (egress ingress : Option Reason) → IsPolicyAnswer d.tables a v egress ingress → IsKubernetesVerdict s.resources a v
 sound-kubernetes dg s g d is same a new v egress ingress answer K converted plain =
     let known = sound-policy dg s g d is same a new v egress ingress answer in
     known.same_verdict ∙ kubernetes_verdict_is_kept K s.resources a converted plain
-
--- the same agent
-pub agent-same : (dg : Digest) (s : Store) (g h : GraphState) (d e : Driver) (failed : Bool) → IsAgent dg s g d failed → h ≡ g → e ≡ d → IsAgent dg s h e failed
-agent-same dg s g h d e failed is graph driver =
-    subst (λ (x : GraphState). IsAgent dg s x e failed) (sym graph) (subst (λ (x : Driver). IsAgent dg s g x failed) (sym driver) is)
-
-pub driver-keeps : (d e : Driver) → e ≡ d → HasFirst d.tables.chains → HasFirst e.tables.chains
-driver-keeps d e same first = subst (λ (x : Driver). HasFirst x.tables.chains) (sym same) first

@@ -1,3 +1,4 @@
+pub mod States
 pub mod Driven
 pub mod Sound
 pub mod Answers

@@ -5,20 +5,23 @@
 //! - **Gives** one message after another, and what becomes of a packet.
 //!
 //! Once memory has run out in a call, each later update and pull answers that the agent has to begin anew, and changes nothing.
-ghost use Rattle.std.specs.Prelude.{◌≡◌, ◌↔◌, true, false, IfOk, OnOk, IfErr};
+ghost use Rattle.std.specs.Prelude.{◌≡◌, ◌↔◌, true, false, None, IfOk, OnOk, IfErr};
 ghost use Rattle.std.specs.Option.{option_copied};
 ghost use Rattle.fx_model.specs.Claims.{clash};
 ghost use Rattle.fx_model.specs.Formed.{is_formed, puts_workload_interface};
 ghost use Rattle.fx_model.specs.Machine.{Decides};
 ghost use Rattle.fx_model.specs.Policy.{packet_verdict};
 ghost use Rattle.fx_model.specs.Resources.{after, empty_resources};
+ghost use Rattle.fx_model.specs.ViewPolicy.{IsServable};
 ghost use Rattle.fx_model.specs.ViewTables.{tables_of};
 ghost use Rattle.fx_model.specs.Views.{empty_view, view_of};
 ghost use Rattle.fx_model.specs.declared.packet.State.TheVariants as state;
 ghost use Rattle.fx_store.specs.Checking.{Tells};
-ghost use Rattle.fx_graph.specs.Graphs.{sides_of};
+ghost use Rattle.fx_store.specs.Keeping.{KeepsClaims};
+ghost use Rattle.fx_driver.specs.Driven.{HasFirst};
+ghost use Rattle.fx_driver.specs.Stepping.{IsDrivable};
+ghost use Rattle.fx_graph.specs.Graphs.{Follows, IsGraphOf, sides_of};
 ghost use Rattle.fx_agent.specs.Answers.{IsAnswer, IsKubernetesVerdict, IsUpdateCause, StaysIfTaken, UpdateLeaves};
-ghost use Rattle.fx_agent.specs.Sound.{IsAgent, IsSound};
 
 use crate::faults::UpdateFault;
 use fx_base::{Memory, Text, Ticker};
@@ -30,9 +33,10 @@ use fx_store::{CheckFault, Store};
 use fx_tables::Tables;
 use fx_walk::{Outcome, decide};
 use std::alloc::Global;
+use std::marker::Model;
 
 /// The resources of a node, the graph that follows them, the driver that holds the tables of what was sent, and whether memory has
-/// run out.
+/// run out. Contracts see what these stand for; that they agree, until memory has run out, is the type's invariant.
 #[derive(Drop)]
 pub struct Agent<R: DigestRule, F: DigestFunction<R> + Drop> {
     pub(crate) store: Store,
@@ -41,12 +45,33 @@ pub struct Agent<R: DigestRule, F: DigestFunction<R> + Drop> {
     pub(crate) failed: bool,
 }
 
+impl<R: DigestRule, F: DigestFunction<R> + Drop> Model for Agent<R, F> {
+    ghost use Rattle.fx_model.specs.contracts.resources.Resources as resources;
+    ghost use Rattle.fx_model.specs.contracts.view.View as sent;
+    ghost use Rattle.fx_tables.specs.contracts.tables.Tables as tables;
+    ghost use Rattle.fx_graph.specs.Graphs.{sides_of};
+    ghost use Rattle.fx_agent.specs.Sound.{IsAgent};
+    ghost use Rattle.fx_agent.specs.States.{AgentState, agent_code};
+
+    ghost Value = { AgentState };
+
+    ghost coded = { agent_code resources.the_row.coded sent.the_row.coded tables.the_row.coded };
+
+    ghost view = { λ a. record {
+      resources = a.store.resources;
+      sent = (sides_of a.graph.state).sent;
+      tables = a.driver.tables;
+      failed = a.failed;
+    } };
+
+    ghost invariant = { λ a. IsAgent R.digest_of a.store a.graph.state a.driver a.failed };
+}
+
 impl<R: DigestRule, F: DigestFunction<R> + Drop> Agent<R, F> {
     /// The agent of a node without resources, to which nothing was sent yet.
     pub fn new(alloc: Global, node: Text, namer: Namer<R, F>) -> Result<Self, Memory>
-        ensures agent { IfOk result (λ a. IsAgent R.digest_of a.store a.graph.state a.driver a.failed) }
-        ensures resources { IfOk result (λ a. a.store.resources ≡ empty_resources node) }
-        ensures sent { IfOk result (λ a. (sides_of a.graph.state).sent ≡ empty_view) }
+        ensures resources { IfOk result (λ a. a.resources ≡ empty_resources node) }
+        ensures sent { IfOk result (λ a. a.sent ≡ empty_view) }
         ensures ready { IfOk result (λ a. a.failed ≡ false) }
     {
         let driver = Driver::new(alloc)?;
@@ -63,22 +88,20 @@ impl<R: DigestRule, F: DigestFunction<R> + Drop> Agent<R, F> {
 
     /// Takes an update, unless a name that it claims is another holder's.
     pub fn update<T: Ticker>(&mut self, update: Update, ticks: &mut T) -> Result<(), UpdateFault>
-        requires agent { IsAgent R.digest_of self.old.store self.old.graph.state self.old.driver self.old.failed }
         requires formed { is_formed update ≡ true }
-        requires interface { puts_workload_interface self.old.store.resources.node update ≡ true }
-        ensures agent { IsAgent R.digest_of self.new.store self.new.graph.state self.new.driver self.new.failed }
+        requires interface { puts_workload_interface self.old.resources.node update ≡ true }
         ensures ready { OnOk result (self.old.failed ≡ false) }
-        ensures free { OnOk result (clash R.digest_of self.old.store.resources update ≡ None) }
-        ensures resources { OnOk result (self.new.store.resources ≡ after self.old.store.resources update) }
-        ensures sent { OnOk result ((sides_of self.new.graph.state).sent ≡ (sides_of self.old.graph.state).sent) }
+        ensures free { OnOk result (clash R.digest_of self.old.resources update ≡ None) }
+        ensures resources { OnOk result (self.new.resources ≡ after self.old.resources update) }
+        ensures sent { OnOk result (self.new.sent ≡ self.old.sent) }
         ensures stays { OnOk result (self.new.failed ≡ false) }
-        ensures cause { IfErr result (IsUpdateCause self.old.failed (clash R.digest_of self.old.store.resources update)) }
+        ensures cause { IfErr result (IsUpdateCause self.old.failed (clash R.digest_of self.old.resources update)) }
         ensures left { IfErr result (UpdateLeaves (self.new ≡ self.old) self.new.failed) }
     {
         if self.failed {
             return Err(UpdateFault::NeedsResync);
         }
-        match self.make(update, ticks) {
+        match make(&mut self.store, &mut self.graph, update, ticks) {
             Ok(()) => Ok(()),
             Err(CheckFault::Taken { name, holder }) => Err(UpdateFault::Taken { name, holder }),
             Err(CheckFault::Memory) => {
@@ -88,36 +111,14 @@ impl<R: DigestRule, F: DigestFunction<R> + Drop> Agent<R, F> {
         }
     }
 
-    // Makes an update that clashes with nothing. The graph takes it first: it asks for the resources before the update.
-    fn make<T: Ticker>(&mut self, update: Update, ticks: &mut T) -> Result<(), CheckFault>
-        requires sound { IsSound R.digest_of self.old.store self.old.graph.state self.old.driver }
-        requires formed { is_formed update ≡ true }
-        requires interface { puts_workload_interface self.old.store.resources.node update ≡ true }
-        ensures sound { OnOk result (IsSound R.digest_of self.new.store self.new.graph.state self.new.driver) }
-        ensures tells { Tells result (clash R.digest_of self.old.store.resources update) }
-        ensures resources { OnOk result (self.new.store.resources ≡ after self.old.store.resources update) }
-        ensures sent { OnOk result ((sides_of self.new.graph.state).sent ≡ (sides_of self.old.graph.state).sent) }
-        ensures taken { IfErr result (StaysIfTaken (self.new ≡ self.old)) }
-        ensures driver { self.new.driver ≡ self.old.driver }
-        ensures failed { self.new.failed ≡ self.old.failed }
-    {
-        self.store.check(&update, self.graph.namer())?;
-        self.graph.apply(&update, ticks)?;
-        self.store.apply(update, self.graph.namer())?;
-        Ok(())
-    }
-
-    /// Whether a message is pending: memory never ran out, and the sent view isn't the wanted one. It takes no memory.
+    /// Whether a message is pending: memory never ran out, and the sent view isn't that of the resources. It takes no memory.
     pub fn pending(&self) -> bool
-        ensures told { (result ≡ true) ↔ ((self.now.failed ≡ false)
-            × (¬ ((sides_of self.now.graph.state).sent ≡ (sides_of self.now.graph.state).now))) }
+        ensures told { (result ≡ true)
+            ↔ ((self.now.failed ≡ false) × (¬ (self.now.sent ≡ view_of R.digest_of self.now.resources))) }
 
-        // If none is, and memory never ran out, all was sent: the sent view is the wanted one, which is that of the resources.
+        // If none is, and memory never ran out, all was sent.
         ensures all_sent { result ≡ false → self.now.failed ≡ false
-            → (sides_of self.now.graph.state).sent ≡ (sides_of self.now.graph.state).now }
-        ensures view { IsAgent R.digest_of self.now.store self.now.graph.state self.now.driver self.now.failed
-            → result ≡ false → self.now.failed ≡ false
-            → (sides_of self.now.graph.state).sent ≡ view_of R.digest_of self.now.store.resources }
+            → self.now.sent ≡ view_of R.digest_of self.now.resources }
     {
         if self.failed {
             return false;
@@ -127,30 +128,58 @@ impl<R: DigestRule, F: DigestFunction<R> + Drop> Agent<R, F> {
 
     /// What the tables decide on a packet. It takes no memory.
     pub fn decide(&self, packet: &Packet) -> Outcome<'_>
-        requires { IsAgent R.digest_of self.now.store self.now.graph.state self.now.driver self.now.failed }
-        ensures machine { Decides self.now.driver.tables packet.now
+        ensures machine { Decides self.now.tables packet.now
             result.verdict (option_copied result.egress) (option_copied result.ingress) }
 
         // Where all was sent, a first packet has the policy reference's answer.
         ensures policy { self.now.failed ≡ false
-            → (sides_of self.now.graph.state).sent ≡ (sides_of self.now.graph.state).now → packet.now.state ≡ state.New
-            → IsAnswer (packet_verdict self.now.store.resources packet.now)
+            → self.now.sent ≡ view_of R.digest_of self.now.resources → packet.now.state ≡ state.New
+            → IsAnswer (packet_verdict self.now.resources packet.now)
             result.verdict (option_copied result.egress) (option_copied result.ingress) }
 
         // Where moreover the resources are what a cluster becomes, the verdict is Kubernetes'.
         ensures kubernetes { self.now.failed ≡ false
-            → (sides_of self.now.graph.state).sent ≡ (sides_of self.now.graph.state).now → packet.now.state ≡ state.New
-            → IsKubernetesVerdict self.now.store.resources packet.now result.verdict }
+            → self.now.sent ≡ view_of R.digest_of self.now.resources → packet.now.state ≡ state.New
+            → IsKubernetesVerdict self.now.resources packet.now result.verdict }
     {
         decide(self.driver.tables(), packet)
     }
 
     /// The tables as they stand: until memory runs out, those of the view that was sent.
     pub fn tables(&self) -> &Tables
-        requires { IsAgent R.digest_of self.now.store self.now.graph.state self.now.driver self.now.failed }
-        ensures tables { result.now ≡ self.now.driver.tables }
-        ensures sent { self.now.failed ≡ false → result.now ≡ tables_of (sides_of self.now.graph.state).sent }
+        ensures tables { result.now ≡ self.now.tables }
+        ensures sent { self.now.failed ≡ false → result.now ≡ tables_of self.now.sent }
+
+        // Of each agent: packets have a first chain, and until memory runs out what it holds can be served and sent.
+        ensures first { HasFirst self.now.tables.chains }
+        ensures servable { self.now.failed ≡ false → IsServable R.digest_of self.now.resources }
+        ensures drivable { self.now.failed ≡ false → IsDrivable self.now.sent }
     {
         self.driver.tables()
     }
+}
+
+// Makes an update that clashes with nothing. The graph takes it first: it asks for the resources before the update.
+fn make<T: Ticker, R: DigestRule, F: DigestFunction<R> + Drop>(
+    store: &mut Store,
+    graph: &mut Graph<R, F>,
+    update: Update,
+    ticks: &mut T,
+) -> Result<(), CheckFault>
+    requires servable { IsServable R.digest_of store.old.resources }
+    requires claims { KeepsClaims R.digest_of store.old }
+    requires graph { IsGraphOf R.digest_of store.old.resources graph.old.state }
+    requires formed { is_formed update ≡ true }
+    ensures tells { Tells result (clash R.digest_of store.old.resources update) }
+    ensures resources { OnOk result (store.new.resources ≡ after store.old.resources update) }
+    ensures claims { OnOk result (KeepsClaims R.digest_of store.new) }
+    ensures follows { OnOk result (Follows R.digest_of update graph.old.state graph.new.state) }
+    ensures sent { OnOk result ((sides_of graph.new.state).sent ≡ (sides_of graph.old.state).sent) }
+    ensures store { IfErr result (StaysIfTaken (store.new ≡ store.old)) }
+    ensures graph { IfErr result (StaysIfTaken (graph.new ≡ graph.old)) }
+{
+    store.check(&update, graph.namer())?;
+    graph.apply(&update, ticks)?;
+    store.apply(update, graph.namer())?;
+    Ok(())
 }

@@ -2,11 +2,11 @@
 ghost use Rattle.std.specs.Prelude.{◌≡◌, ◌↔◌, false, IfOk, OnOk, IfErr, IsErrOf};
 ghost use Rattle.fx_base.specs.Streams.{Rose};
 ghost use Rattle.fx_model.specs.Messages.{next_message, step};
+ghost use Rattle.fx_model.specs.Views.{view_of};
 ghost use Rattle.fx_driver.specs.Driven.{HasFirst};
 ghost use Rattle.fx_graph.specs.Graphs.{sides_of};
 ghost use Rattle.fx_agent.specs.Answers.{IsOutLeft, IsPullCause, IsPulled, OutLeaves, PullLeaves};
 ghost use Rattle.fx_agent.specs.Driven.{IsDriven, KeepsResources};
-ghost use Rattle.fx_agent.specs.Sound.{IsAgent};
 
 use crate::agent::Agent;
 use crate::faults::{PullFault, Pulled};
@@ -19,20 +19,17 @@ use fx_names::{DigestFunction, DigestRule};
 impl<R: DigestRule, F: DigestFunction<R> + Drop> Agent<R, F> {
     /// Hands the next message on. If it can't be written, it stays the next one.
     pub fn pull<O: MessageOut>(&mut self, out: &mut O) -> Result<Pulled, PullFault>
-        requires { IsAgent R.digest_of self.old.store self.old.graph.state self.old.driver self.old.failed }
-        ensures agent { IsAgent R.digest_of self.new.store self.new.graph.state self.new.driver self.new.failed }
         ensures ready { OnOk result (self.old.failed ≡ false) }
         ensures stays { OnOk result (self.new.failed ≡ false) }
-        ensures pulled { IfOk result (IsPulled (next_message (sides_of self.old.graph.state).sent (sides_of self.old.graph.state).now)
+        ensures pulled { IfOk result (IsPulled (next_message self.old.sent (view_of R.digest_of self.old.resources))
             (λ c. O.handed out.old c out.new) (out.new ≡ out.old)) }
         ensures nothing { IfOk result (λ p. (p ≡ Pulled.Nothing)
-            ↔ ((sides_of self.old.graph.state).sent ≡ (sides_of self.old.graph.state).now)) }
-        ensures step { OnOk result (sides_of self.new.graph.state ≡ record (sides_of self.old.graph.state)
-            { sent = step (sides_of self.old.graph.state).sent (sides_of self.old.graph.state).now }) }
-        ensures store { self.new.store ≡ self.old.store }
+            ↔ (self.old.sent ≡ view_of R.digest_of self.old.resources)) }
+        ensures step { OnOk result (self.new.sent ≡ step self.old.sent (view_of R.digest_of self.old.resources)) }
+        ensures resources { self.new.resources ≡ self.old.resources }
         ensures cause { IfErr result (IsPullCause self.old.failed (O.faults out.old) (O.faults out.new)) }
         ensures left { IfErr result (PullLeaves (self.new ≡ self.old) self.new.failed) }
-        ensures out { IfErr result (OutLeaves (next_message (sides_of self.old.graph.state).sent (sides_of self.old.graph.state).now)
+        ensures out { IfErr result (OutLeaves (next_message self.old.sent (view_of R.digest_of self.old.resources))
             (λ c. O.handed out.old c out.new) (λ c. O.torn out.old c out.new) (out.new ≡ out.old)) }
     {
         if self.failed {

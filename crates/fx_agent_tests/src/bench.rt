@@ -1,10 +1,8 @@
 //! An agent that is given lines, and an out that keeps the texts of messages.
 ghost use Rattle.std.specs.Prelude.{◌≡◌, ◌-◌, ◌∷◌, ◌++◌, [], true, ℕ, List, IfOk, OnOk, OnErr};
-ghost use Rattle.fx_names.specs.Digests.{plain_digest};
 ghost use Rattle.fx_model.specs.Formed.{is_formed, puts_workload_interface};
 ghost use Rattle.fx_model.specs.Lent.{change_of};
 ghost use Rattle.fx_model.specs.MessageTexts.{message_line};
-ghost use Rattle.fx_agent.specs.Sound.{IsAgent};
 
 use fx_agent::Agent;
 use fx_base::{Counter, Memory, Text};
@@ -77,9 +75,7 @@ impl MessageOut for TextOut {
 }
 
 /// The agent of the node `n1`.
-pub fn new_agent(alloc: Global) -> Result<PlainAgent, Memory>
-    ensures { IfOk result (λ a. IsAgent plain_digest a.store a.graph.state a.driver a.failed) }
-{
+pub fn new_agent(alloc: Global) -> Result<PlainAgent, Memory> {
     let node = Text::new(alloc, b"n1")?;
     let agent = Agent::new(alloc, node, Namer::new(PlainRule))?;
     Ok(agent)
@@ -105,10 +101,7 @@ pub fn packet_in(alloc: Global, line: &str) -> Result<Packet, Fail> {
 }
 
 /// Gives the agent the updates of these lines, none of which clashes.
-pub fn give(alloc: Global, lines: &[&str], agent: &mut PlainAgent) -> Result<(), Fail>
-    requires { IsAgent plain_digest agent.old.store agent.old.graph.state agent.old.driver agent.old.failed }
-    ensures { OnOk result (IsAgent plain_digest agent.new.store agent.new.graph.state agent.new.driver agent.new.failed) }
-{
+pub fn give(alloc: Global, lines: &[&str], agent: &mut PlainAgent) -> Result<(), Fail> {
     for line in lines {
         agent.update(update_in(alloc, line)?, &mut Counter::new())?;
     }

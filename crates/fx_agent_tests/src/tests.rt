@@ -1,8 +1,4 @@
 //! Runs of an agent.
-ghost use Rattle.std.specs.Prelude.{OnOk};
-ghost use Rattle.fx_names.specs.Digests.{plain_digest};
-ghost use Rattle.fx_agent.specs.Sound.{IsAgent};
-
 use crate::bench::{PlainAgent, TextOut, give, new_agent, packet_in, update_in};
 use crate::lines::{
     FIRST, FIRST_TOLD, IN_SYNC, OPEN, OPEN_TOLD, PACKET, SECOND, SECOND_GONE, SECOND_GONE_TOLD,
@@ -34,10 +30,7 @@ fn pull_all(
     wanted: &[&str],
     agent: &mut PlainAgent,
     out: &mut TextOut,
-) -> Result<(), Fail>
-    requires { IsAgent plain_digest agent.old.store agent.old.graph.state agent.old.driver agent.old.failed }
-    ensures { OnOk result (IsAgent plain_digest agent.new.store agent.new.graph.state agent.new.driver agent.new.failed) }
-{
+) -> Result<(), Fail> {
     for text in wanted {
         assert!(rt; agent.pending());
         assert_eq!(rt; agent.pull(out)?, Pulled::Sent);
@@ -59,9 +52,7 @@ fn comes_and_goes(
     alloc: Global,
     agent: &mut PlainAgent,
     out: &mut TextOut,
-) -> Result<(), Fail>
-    requires { IsAgent plain_digest agent.old.store agent.old.graph.state agent.old.driver agent.old.failed }
-{
+) -> Result<(), Fail> {
     pull_all(rt, &[OPEN_TOLD, FIRST_TOLD, SECOND_TOLD], agent, out)?;
     is_answered(rt, alloc, agent, Verdict::Allow)?;
     give(alloc, &[SECOND_GONE], agent)?;
@@ -78,18 +69,18 @@ fn is_answered(
     alloc: Global,
     agent: &PlainAgent,
     verdict: Verdict,
-) -> Result<(), Fail>
-    requires { IsAgent plain_digest agent.now.store agent.now.graph.state agent.now.driver agent.now.failed }
-{
+) -> Result<(), Fail> {
     let packet = packet_in(alloc, PACKET)?;
     assert_eq!(rt; agent.decide(&packet).verdict, verdict);
     Ok(())
 }
 
 // The first write fails.
-fn is_written_later(rt: &impl Abort, agent: &mut PlainAgent, out: &mut TextOut) -> Result<(), Fail>
-    requires { IsAgent plain_digest agent.old.store agent.old.graph.state agent.old.driver agent.old.failed }
-{
+fn is_written_later(
+    rt: &impl Abort,
+    agent: &mut PlainAgent,
+    out: &mut TextOut,
+) -> Result<(), Fail> {
     out.failing = 1;
     assert_eq!(rt; agent.pull(out), Err(PullFault::Write));
     assert!(rt; out.texts.is_empty());
@@ -102,9 +93,7 @@ fn keeps_its_name(
     alloc: Global,
     agent: &mut PlainAgent,
     out: &mut TextOut,
-) -> Result<(), Fail>
-    requires { IsAgent plain_digest agent.old.store agent.old.graph.state agent.old.driver agent.old.failed }
-{
+) -> Result<(), Fail> {
     let taking = update_in(alloc, TAKING)?;
     let Err(UpdateFault::Taken { holder, .. }) = agent.update(taking, &mut Counter::new()) else {
         return Err(Fail::new("a taken name was given away"));
@@ -119,9 +108,7 @@ fn begins_anew(
     alloc: Global,
     agent: &mut PlainAgent,
     out: &mut TextOut,
-) -> Result<(), Fail>
-    requires { IsAgent plain_digest agent.old.store agent.old.graph.state agent.old.driver agent.old.failed }
-{
+) -> Result<(), Fail> {
     out.full = true;
     assert_eq!(rt; agent.pull(out), Err(PullFault::Memory));
     assert!(rt; !agent.pending());
@@ -139,9 +126,7 @@ fn run(
     trial: Trial,
     agent: &mut PlainAgent,
     out: &mut TextOut,
-) -> Result<(), Fail>
-    requires { IsAgent plain_digest agent.old.store agent.old.graph.state agent.old.driver agent.old.failed }
-{
+) -> Result<(), Fail> {
     give(alloc, &[OPEN, FIRST, SECOND, IN_SYNC], agent)?;
     match trial {
         Trial::OneByOne => comes_and_goes(rt, alloc, agent, out),

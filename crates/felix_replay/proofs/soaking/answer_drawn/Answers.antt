@@ -1,9 +1,9 @@
 use Rattle.std.proofs.Common.{ap, ◌∙◌, arith}
-use Rattle.felix_replay.specs.Standing.{state_of}
-use Rattle.felix_replay.specs.Output.{State, answer_of}
+use Rattle.fx_replay.specs.Standing.{state_of}
+use Rattle.fx_replay.specs.Output.{State, answer_of}
 use Rattle.fx_run.specs.Run.{state_after}
 use Rattle.felix_replay.specs.Soak.{drawn_lines, flushes_along, messages_along}
-use Rattle.felix_replay.specs.Stepping.{step-lines}
+use Rattle.fx_replay.specs.Stepping.{step-lines}
 use Rattle.felix_replay.proofs.SoakLemmas.{state-drawn, tally-drawn}
 use Rattle.felix_replay.proofs.soaking.answer_drawn.Goals as goal
 
@@ -23,13 +23,13 @@ loop-index-preserved g c =
     let was = c.loop-index.replay in
     let now = c.answer_quietly.new.self in
     let i = c.loop-index.invariant in
-    let s = state_of dg was.agent.store was.agent.graph.state was.lines was.refused in
+    let s = state_of dg was.agent was.lines was.refused in
     let line = c.bytes.result.now in
     let same = c.bytes.ensures ∙ c.in_ok-line.ensures in
     let e = c.in_ok-answer_quietly.ensures in
     record {
       ready = e.ready;
-      state = state-drawn dg node c.args.run.seed c.loop-index.index s line i.state same (state_of dg now.agent.store now.agent.graph.state now.lines now.refused) e.state;
+      state = state-drawn dg node c.args.run.seed c.loop-index.index s line i.state same (state_of dg now.agent now.lines now.refused) e.state;
       tally = tally-drawn dg node c.args.run.seed c.loop-index.index s line i.state same was.tally now.tally i.tally e.tally;
       few = ap (λ (t : State). t.lines) e.state ∙ step-lines s (answer_of s line) ∙ omega (arith, i.few);
     }

@@ -1,8 +1,9 @@
-use Rattle.std.proofs.Common.{◌-◌, ◌^◌, ap, ◌∙◌, min, ℕ}
+use Rattle.std.proofs.Common.{◌-◌, ◌^◌, ap, ◌∙◌, min, ℕ, length}
 use Rattle.fx_print.specs.Texts.{soak_line}
-use Rattle.felix_replay.specs.declared.tally.Tally.{Tally}
-use Rattle.felix_replay.specs.Output.{State, start}
-use Rattle.felix_replay.specs.Soak.{drawn_lines, soak_end, messages_of, flushes_along, messages_along, one_flush_more}
+use Rattle.fx_replay.specs.declared.tally.Tally.{Tally}
+use Rattle.fx_replay.specs.Output.{State, start, flush_of}
+use Rattle.felix_replay.specs.Soak.{drawn_lines, soak_end, flushes_along, messages_along}
+use Rattle.fx_replay.specs.Tallies.{one_flush_more}
 use Rattle.felix_replay.proofs.SoakLemmas.{tally-end}
 use Rattle.felix_replay.proofs.soaking.sum_up_over.Goals as goal
 
@@ -16,8 +17,8 @@ returns g c =
     let replay = c.flush_quietly.new.self in
     let end = soak_end dg node run in
     let lines = drawn_lines run.seed node run.count in
-    let sent = ap (λ (s : State). messages_of s) drawn.state in
-    let tally = tally-end (flushes_along (start dg node) lines) (messages_along (start dg node) lines) (messages_of end) c.answer_drawn.new.replay.tally replay.tally drawn.tally (last.tally ∙ ap (λ (n : ℕ). one_flush_more c.answer_drawn.new.replay.tally (min n (2 ^ 64 - 1))) sent) in
+    let sent = ap (λ (s : State). length (flush_of s).messages) drawn.state in
+    let tally = tally-end (flushes_along (start dg node) lines) (messages_along (start dg node) lines) (length (flush_of end).messages) c.answer_drawn.new.replay.tally replay.tally drawn.tally (last.tally ∙ ap (λ (n : ℕ). one_flush_more c.answer_drawn.new.replay.tally (min n (2 ^ 64 - 1))) sent) in
     record {
       ticks = c.count.result;
       output = c.in_ok-line.ensures ∙ ap (λ (t : Tally). soak_line run.seed run.count t.flushes t.messages c.count.result) tally;

@@ -1,7 +1,7 @@
 use Rattle.std.proofs.Common.{IfOk, OnErr, subst, ap}
 use Rattle.fx_lines.proofs.Cuts.{OnErr-always}
 use Rattle.fx_run.proofs.LineByLine.{stopped_first}
-use Rattle.felix_replay.specs.Output.{State, start, next, text, was_refused}
+use Rattle.fx_replay.specs.Output.{State, start, next, text, was_refused}
 use Rattle.fx_run.specs.Ran.{Ran, Stopped}
 use Rattle.felix_replay.proofs.top.replay.Goals as goal
 

@@ -1,5 +1,5 @@
 use Rattle.std.proofs.Common.{arith}
-use Rattle.felix_replay.proofs.SendingLemmas.{on_ok_always}
+use Rattle.fx_replay.proofs.SendingLemmas.{on_ok_always}
 use Rattle.felix_replay.proofs.top.run.Goals as goal
 
 pub returns-in-None-clause-ran : goal.returns-in-None-clause-ran

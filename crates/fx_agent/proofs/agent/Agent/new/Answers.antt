@@ -9,8 +9,8 @@ use Rattle.fx_agent.proofs.Serving.{agent-sound}
 use Rattle.fx_agent.proofs.Starting.{empty_view-drivable, none-servable}
 use Rattle.fx_agent.proofs.agent.Agent.new.Goals as goal
 
-pub returns-clause-agent : goal.returns-clause-agent
-returns-clause-agent g c =
+pub invariant_of-result : goal.invariant_of-result
+invariant_of-result g c =
     let dg = g.R.DigestRule.digest_of in
     let is = c.new-store.ensures.resources in
     let servable = subst (IsServable dg) (sym is) (none-servable dg c.args.node) in
@@ -19,9 +19,3 @@ returns-clause-agent g c =
     (record { drives = c.in_ok-driver.ensures; from = empty_view-drivable; to = empty_view-drivable }) c.new-graph.ensures.sent graph.now in
     agent-sound dg c.new-store.result c.new-graph.result.state c.in_ok-driver.driver
     (record { servable = servable; claims = c.new-store.ensures.claims dg; graph = graph; driven = driven })
-
-pub returns-clause-resources : goal.returns-clause-resources
-returns-clause-resources g c = c.new-store.ensures.resources
-
-pub returns-clause-sent : goal.returns-clause-sent
-returns-clause-sent g c = c.new-graph.ensures.sent

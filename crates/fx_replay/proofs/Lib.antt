@@ -1,0 +1,5 @@
+pub mod SendingLemmas
+pub mod PacketLines
+pub mod Asked
+pub mod Taking
+pub mod Pulling

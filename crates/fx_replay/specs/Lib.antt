@@ -1,0 +1,5 @@
+pub mod PacketRuns
+pub mod Output
+pub mod Standing
+pub mod Stepping
+pub mod Tallies

@@ -1,0 +1,156 @@
+-- The output of a replay: what each line writes, and what stands between two lines. The rules that it follows stand in
+-- docs/INPUT.md and docs/OUTPUT.md of this repository.
+use Rattle.std.specs.Prelude.{ℕ, ◌+◌, ◌-◌, ◌^◌, min, List, [], ◌++◌, map, length, Bool, true, false, Option, Some, None, Result, Ok, Err}
+use Rattle.std.specs.List.{concat}
+use Rattle.fx_model.specs.declared.resources.Update.{Update}
+use Rattle.fx_model.specs.declared.resources.Resources.{Resources}
+use Rattle.fx_model.specs.declared.view.View.{View}
+use Rattle.fx_model.specs.Resources.{after, empty_resources}
+use Rattle.fx_names.specs.Digests.{Digest}
+use Rattle.fx_names.specs.Claims.{Clash}
+use Rattle.fx_model.specs.Claims.{clash}
+use Rattle.fx_model.specs.Views.{view_of, empty_view}
+use Rattle.fx_model.specs.ViewTables.{tables_of}
+use Rattle.fx_model.specs.Messages.{Change, Flush, flush}
+use Rattle.fx_fields.specs.declared.refusal.Refusal.{Refusal}
+use Rattle.fx_fields.specs.declared.refusal.Refusal.TheVariants.{Taken}
+use Rattle.fx_lines.specs.declared.commands.Command.{Command}
+use Rattle.fx_lines.specs.declared.commands.Command.TheVariants as command
+use Rattle.fx_lines.specs.Commands.{command_of}
+use Rattle.fx_print.specs.Texts.{refusal_line, flushed_line}
+use Rattle.fx_model.specs.MessageTexts.{message_line}
+use Rattle.fx_model.specs.TableTexts.{table_lines}
+use Rattle.fx_replay.specs.PacketRuns.{packet_text}
+use Rattle.fx_run.specs.Ran.{output_of, end_of}
+
+-- what stands between two lines: the digest by which names are made, which stays, the resources, the view that was sent, how many
+-- lines there were and whether one was refused
+pub record State : Type 0 where
+  pub digest : Digest
+  pub resources : Resources
+  pub sent : View
+  pub lines : ℕ
+  pub refused : Bool
+
+-- before the first line of the node of this name
+abbrev pub start : Digest → List ℕ → State
+start dg node = record {
+  digest = dg;
+  resources = empty_resources node;
+  sent = empty_view;
+  lines = 0;
+  refused = false;
+}
+
+-- ---- what a line says of the resources
+
+-- an update whose claims clash is refused, with the first clash
+abbrev pub unless_taken : Option Clash → Update → Result Command Refusal
+unless_taken None u = Ok (command.Update u)
+unless_taken (Some c) u = Err (Taken c.name c.holder)
+
+abbrev pub update_answer : Digest → Resources → Update → Result Command Refusal
+update_answer dg R u = unless_taken (clash dg R u) u
+
+abbrev pub checked : Digest → Resources → Result Command Refusal → Result Command Refusal
+checked dg R (Ok command.Blank) = Ok command.Blank
+checked dg R (Ok command.Tables) = Ok command.Tables
+checked dg R (Ok command.Flush) = Ok command.Flush
+checked dg R (Ok (command.Update u)) = update_answer dg R u
+checked dg R (Ok (command.Packet a)) = Ok (command.Packet a)
+checked dg R (Err r) = Err r
+
+-- the command or the refusal of a line
+abbrev pub answer_of : State → List ℕ → Result Command Refusal
+answer_of s line = checked s.digest s.resources (command_of line)
+
+-- ---- what a line flushes
+
+-- a flush sends the messages from the view that was sent to that of the resources
+abbrev pub flush_of : State → Flush
+flush_of s = flush None s.sent (view_of s.digest s.resources)
+
+-- no other line sends anything
+abbrev pub flushed_in : State → Result Command Refusal → Option Flush
+flushed_in s (Ok command.Blank) = None
+flushed_in s (Ok command.Tables) = None
+flushed_in s (Ok command.Flush) = Some (flush_of s)
+flushed_in s (Ok (command.Update u)) = None
+flushed_in s (Ok (command.Packet a)) = None
+flushed_in s (Err r) = None
+
+abbrev pub flushed_by : State → List ℕ → Option Flush
+flushed_by s line = flushed_in s (answer_of s line)
+
+-- ---- what a line does
+
+abbrev pub accepted : State → Command → State
+accepted s command.Blank = s
+accepted s command.Tables = s
+accepted s command.Flush = record s { sent = (flush_of s).ends }
+accepted s (command.Update u) = record s { resources = after s.resources u }
+accepted s (command.Packet a) = s
+
+-- what a counted line does; a refused one changes nothing
+abbrev pub settled : State → Result Command Refusal → State
+settled s (Ok c) = accepted s c
+settled s (Err r) = record s { refused = true }
+
+abbrev pub counted : State → State
+counted s = record s { lines = s.lines + 1 }
+
+abbrev pub after_answer : State → Result Command Refusal → State
+after_answer s answer = settled (counted s) answer
+
+abbrev pub next : State → List ℕ → State
+next s line = after_answer s (answer_of s line)
+
+-- ---- what a line writes
+
+-- the line of a message, where there is one
+abbrev pub first_text : Option Change → List ℕ
+first_text None = []
+first_text (Some c) = message_line c
+
+-- the messages from one view to another
+abbrev pub messages_text : View → View → List ℕ
+messages_text sent wanted = concat (map message_line (flush None sent wanted).messages)
+
+-- how many there are, as far as 64 bits tell
+abbrev pub count_of : Flush → ℕ
+count_of f = min (length f.messages) (2 ^ 64 - 1)
+
+abbrev pub message_count : View → View → ℕ
+message_count sent wanted = count_of (flush None sent wanted)
+
+abbrev pub flush_text : View → View → List ℕ
+flush_text sent wanted = messages_text sent wanted ++ flushed_line (message_count sent wanted)
+
+abbrev pub command_text : State → Command → List ℕ
+command_text s command.Blank = []
+command_text s command.Tables = concat (table_lines (tables_of s.sent))
+command_text s command.Flush = flush_text s.sent (view_of s.digest s.resources)
+command_text s (command.Update u) = []
+command_text s (command.Packet a) = packet_text (tables_of s.sent) a
+
+-- what a counted line writes
+abbrev pub settled_text : State → Result Command Refusal → List ℕ
+settled_text s (Ok c) = command_text s c
+settled_text s (Err r) = refusal_line s.lines r
+
+abbrev pub answer_text : State → Result Command Refusal → List ℕ
+answer_text s answer = settled_text (counted s) answer
+
+abbrev pub text : State → List ℕ → List ℕ
+text s line = answer_text s (answer_of s line)
+
+-- ---- the whole output
+
+abbrev pub output : Digest → List ℕ → List ℕ → List ℕ
+output dg node bytes = output_of next text (start dg node) bytes
+
+abbrev pub was_refused : State → Bool
+was_refused s = s.refused
+
+abbrev pub is_refused : Digest → List ℕ → List ℕ → Bool
+is_refused dg node bytes = was_refused (end_of next (start dg node) bytes)
