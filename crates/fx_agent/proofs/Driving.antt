@@ -27,7 +27,7 @@ wanted-drivable dg R formed = record {
 
 -- other resources, and so another view that is wanted
 pub driven-anew : (dg : Digest) (R : Resources) → are_formed R ≡ true → (sides anew : Sides) (driver : Driver) → IsDriven sides driver
-    → anew.sent ≡ sides.sent → anew.now ≡ view_of dg R → IsDriven anew driver
+    → anew.sent ≡ sides.sent → anew.wanted ≡ view_of dg R → IsDriven anew driver
 driven-anew dg R formed sides anew driver was sent now = record {
   drives = subst (Drives driver) (sym sent) was.drives;
   from = subst IsDrivable (sym sent) was.from;
@@ -38,26 +38,26 @@ module _ (sides : Sides) (driver : Driver) (was : IsDriven sides driver) where
   abbrev sent : View
   sent = sides.sent
 
-  abbrev now : View
-  now = sides.now
+  abbrev wanted : View
+  wanted = sides.wanted
 
-  stepped-drivable : (c : Change) → next_message sent now ≡ Some c → IsDrivable (step_at c sent now)
+  stepped-drivable : (c : Change) → next_message sent wanted ≡ Some c → IsDrivable (step_at c sent wanted)
   stepped-drivable c is = record {
-    closed = step-closed sent now was.from.closed was.to.closed c is;
-    formed = step-formed sent now c was.from.formed was.to.formed;
-    kinds = step-of-kinds sent now c was.from.kinds was.to.kinds;
+    closed = step-closed sent wanted was.from.closed was.to.closed c is;
+    formed = step-formed sent wanted c was.from.formed was.to.formed;
+    kinds = step-of-kinds sent wanted c was.from.kinds was.to.kinds;
   }
 
-  pub is-step : (c : Change) → next_message sent now ≡ Some c → IsStep sent now c
+  pub is-step : (c : Change) → next_message sent wanted ≡ Some c → IsStep sent wanted c
   is-step c is = record { from = was.from; to = was.to; next = is }
 
-  pub is-next : (c : Change) → next_message sent now ≡ Some c → IsNext driver c
-  is-next c is = (sent, (now, (was.drives, is-step c is)))
+  pub is-next : (c : Change) → next_message sent wanted ≡ Some c → IsNext driver c
+  is-next c is = (sent, (wanted, (was.drives, is-step c is)))
 
   -- after the message the driver holds the view after the step
-  pub driven-on : (c : Change) → next_message sent now ≡ Some c → (after : Driver) → Follows driver after c → IsDriven (record { sent = step sent now; now = now }) after
+  pub driven-on : (c : Change) → next_message sent wanted ≡ Some c → (after : Driver) → Follows driver after c → IsDriven (record { sent = step sent wanted; wanted = wanted }) after
   driven-on c is after follows = record {
-    drives = follows sent now was.drives (is-step c is);
-    from = subst (λ (o : Option Change). IsDrivable (step_by o sent now)) (sym is) (stepped-drivable c is);
+    drives = follows sent wanted was.drives (is-step c is);
+    from = subst (λ (o : Option Change). IsDrivable (step_by o sent wanted)) (sym is) (stepped-drivable c is);
     to = was.to;
   }

@@ -12,7 +12,7 @@ use Rattle.fx_graph.specs.Graphs.{IsGraphOf}
 pub record IsDriven (sides : Sides) (driver : Driver) : Type 0 where
   pub drives : Drives driver sides.sent
   pub from : IsDrivable sides.sent
-  pub to : IsDrivable sides.now
+  pub to : IsDrivable sides.wanted
 
 -- a graph stays that of the same resources
 abbrev pub KeepsResources : Digest → GraphState → GraphState → Type 0

@@ -55,17 +55,17 @@ fn hand_on<O: MessageOut, R: DigestRule, F: DigestFunction<R> + Drop>(
     requires { IsDriven (sides_of graph.old.state) driver.old }
     ensures driven { OnOk result (IsDriven (sides_of graph.new.state) driver.new) }
     ensures first { HasFirst driver.old.tables.chains → HasFirst driver.new.tables.chains }
-    ensures pulled { IfOk result (IsPulled (next_message (sides_of graph.old.state).sent (sides_of graph.old.state).now)
+    ensures pulled { IfOk result (IsPulled (next_message (sides_of graph.old.state).sent (sides_of graph.old.state).wanted)
         (λ c. O.handed out.old c out.new) (out.new ≡ out.old)) }
     ensures nothing { IfOk result (λ p. (p ≡ Pulled.Nothing)
-        ↔ ((sides_of graph.old.state).sent ≡ (sides_of graph.old.state).now)) }
+        ↔ ((sides_of graph.old.state).sent ≡ (sides_of graph.old.state).wanted)) }
     ensures step { OnOk result (sides_of graph.new.state ≡ record (sides_of graph.old.state)
-        { sent = step (sides_of graph.old.state).sent (sides_of graph.old.state).now }) }
+        { sent = step (sides_of graph.old.state).sent (sides_of graph.old.state).wanted }) }
     ensures resources { KeepsResources R.digest_of graph.old.state graph.new.state }
     ensures cause { IsErrOf result OutFault.Write → Rose (O.faults out.old) (O.faults out.new) }
     ensures graph { IsErrOf result OutFault.Write → graph.new ≡ graph.old }
     ensures driver { IsErrOf result OutFault.Write → driver.new ≡ driver.old }
-    ensures out { IfErr result (IsOutLeft (next_message (sides_of graph.old.state).sent (sides_of graph.old.state).now)
+    ensures out { IfErr result (IsOutLeft (next_message (sides_of graph.old.state).sent (sides_of graph.old.state).wanted)
         (λ c. O.handed out.old c out.new) (λ c. O.torn out.old c out.new)) }
 {
     let Some(message) = graph.peek() else {

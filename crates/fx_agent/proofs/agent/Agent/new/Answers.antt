@@ -15,7 +15,7 @@ invariant_of-result g c =
     let is = c.new-store.ensures.resources in
     let servable = subst (IsServable dg) (sym is) (none-servable dg c.args.node) in
     let graph = subst (λ (S : Resources). IsGraphOf dg S c.new-graph.result.state) (ap empty_resources c.in_ok-graph_node.ensures.cases ∙ sym is) c.new-graph.ensures.resources in
-    let driven = driven-anew dg c.new-store.result.resources servable.formed (record { sent = empty_view; now = empty_view }) c.new-graph.result.state.nodes.sequencer c.in_ok-driver.driver
+    let driven = driven-anew dg c.new-store.result.resources servable.formed (record { sent = empty_view; wanted = empty_view }) c.new-graph.result.state.nodes.sequencer c.in_ok-driver.driver
     (record { drives = c.in_ok-driver.ensures; from = empty_view-drivable; to = empty_view-drivable }) c.new-graph.ensures.sent graph.now in
     agent-sound dg c.new-store.result c.new-graph.result.state c.in_ok-driver.driver
     (record { servable = servable; claims = c.new-store.ensures.claims dg; graph = graph; driven = driven })
