@@ -1,5 +1,5 @@
 -- What an agent holds stays as it is said after an update; and what it decides.
-use Rattle.std.proofs.Common.{◌≡◌, true, None, Option, sym, ap, ◌∙◌, subst}
+use Rattle.std.proofs.Common.{◌≡◌, Bool, true, None, Option, sym, ap, ◌∙◌, subst}
 use Rattle.fx_names.specs.Digests.{Digest}
 use Rattle.fx_model.specs.declared.chain.Reason.{Reason}
 use Rattle.fx_model.specs.declared.packet.Packet.{Packet}
