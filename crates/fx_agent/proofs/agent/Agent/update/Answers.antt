@@ -11,7 +11,7 @@ invariant_of-self g c =
     let new = c.make.new in
     let made = c.in-Ok.ensures in
     let interface : puts_workload_interface was.store.resources.node c.args.update ≡ true =
-        ap (λ (a : AgentState). puts_workload_interface a.resources.node c.args.update) c.self.view_is ∙ c.requires.interface in
+    ap (λ (a : AgentState). puts_workload_interface a.resources.node c.args.update) c.self.view_is ∙ c.requires.interface in
     agent-sound dg new.store new.graph.state was.driver
     (sound-after dg was.store new.store was.graph.state new.graph.state was.driver (c.self.invariant.sound c.if-self.false) c.args.update
     c.requires.formed interface made.tells made.follows made.sent made.resources made.claims)
