@@ -9,8 +9,8 @@ use Rattle.fx_graph.specs.Graphs.{IsGraphOf}
 use Rattle.fx_graph_tests.proofs.Starting.{none-formed}
 use Rattle.fx_graph_tests.proofs.tests.run.Goals as goal
 
-pub follow-requires : goal.follow-requires
-follow-requires g c =
+pub follow-followed-requires : goal.follow-followed-requires
+follow-followed-requires g c =
     let node = c.in_ok-node.node in
     let is = c.new-store.ensures.resources in
     record {
