@@ -1,5 +1,13 @@
+pub mod Candidates
 pub mod Canonicals
-pub mod Rows
-pub mod Listed
-pub mod Reversed
-pub mod Changed
+pub mod Gaining
+pub mod Indexing
+pub mod Keeping
+pub mod Labelling
+pub mod Meeting
+pub mod Moving
+pub mod Needing
+pub mod Sums
+pub mod Tested
+pub mod Told
+pub mod Walked

@@ -1,3 +1,5 @@
 pub mod Canonicals
 pub mod Counts
+pub mod Indexed
 pub mod Matched
+pub mod Tested

@@ -1,7 +1,6 @@
 -- Which pairs of a selector's text and an item the index tells of.
-use Rattle.std.specs.Prelude.{◌≡◌, ℕ, cond, Bool, false, List, Option, Some, None}
+use Rattle.std.specs.Prelude.{◌≡◌, ℕ, Bool, false, List, Option, Some, None}
 use Rattle.std.specs.Ordering.{nat_cmp, eq_by_cmp}
-use Rattle.std.specs.Str.{bytes_eq}
 use Rattle.std.specs.Cmp.Lexicographic.{slice_cmp}
 use Rattle.std.specs.FinMap as map
 use Rattle.fx_base.specs.Set as set
@@ -31,10 +30,6 @@ text_eq t u = eq_by_cmp (slice_cmp nat_cmp) t u
 abbrev pub item_eq : ItemKey → ItemKey → Bool
 item_eq i k = eq_by_cmp cmp-value.it i k
 
--- one parent has these labels, or is absent
-abbrev pub with_parent : Parents → List ℕ → Option LabelMap → Parents
-with_parent parents name labels q = cond (bytes_eq q name) labels (parents q)
-
 -- the effective labels of an item that is there
 abbrev pub labels_of : Parents → Option Held → Option LabelMap
 labels_of parents None = None
@@ -49,16 +44,9 @@ abbrev pub tests : Option Counted → Option LabelMap → Bool
 tests None labels = false
 tests (Some counted) labels = holds_on counted.selector labels
 
--- the same with other labels of the parents
-abbrev pub is_matched_by : Inputs → Parents → List ℕ → ItemKey → Bool
-is_matched_by n parents t i = tests (map.get n.selectors t) (labels_of parents (map.get n.items i))
-
 abbrev pub is_matched : Inputs → List ℕ → ItemKey → Bool
-is_matched n t i = is_matched_by n (map.get n.parents) t i
+is_matched n t i = tests (map.get n.selectors t) (labels_of (map.get n.parents) (map.get n.items i))
 
 -- the pairs are those whose selector is counted and holds on the item's effective labels
-abbrev pub IsMatchedBy : Inputs → Parents → Pairs → Type 0
-IsMatchedBy n parents pairs = (t : List ℕ) (i : ItemKey) → set.contains pairs (t, i) ≡ is_matched_by n parents t i
-
 abbrev pub IsMatched : Inputs → Pairs → Type 0
 IsMatched n pairs = (t : List ℕ) (i : ItemKey) → set.contains pairs (t, i) ≡ is_matched n t i

@@ -10,7 +10,6 @@ ghost use Rattle.fx_label_index.specs.declared.counted.Counted.{Counted};
 use fx_base::{Memory, Text, TextMap, Uses};
 use fx_selector::Selector;
 use std::alloc::Global;
-use std::collections::btree_map::Iter;
 use std::marker::Model;
 
 /// A selector, and how often it was put.
@@ -61,11 +60,10 @@ impl SelectorMap {
         self.held.contains_key(text)
     }
 
-    /// The entries, by ascending texts.
-    pub fn iter(&self) -> Iter<'_, Text, Counted>
-        ensures { result ≡ map.entries self.now }
+    pub fn get(&self, text: &Text) -> Option<&Counted>
+        ensures { option_copied result ≡ map.get self.now text.now }
     {
-        self.held.iter()
+        self.held.get(text)
     }
 
     /// The selector, unless it stands more than once.

@@ -3,34 +3,37 @@
 //! - **Inputs**: items with their own labels and their parents, parents' labels by their names, and selectors, each as often as
 //!   it was put.
 //! - **Tells** a `MatchSink` the pairs of a selector's text and an item on whose effective labels the selector holds.
-//! - **Holds** its inputs, and nothing beside them.
+//! - **Holds** its inputs, each item's effective labels with the items that have each label, the items that list each
+//!   parent, texts by what their selectors need, and for each item the texts that hold on it.
+//! - **Tests** a selector on an item only where the item's labels have what the selector needs, and not where they stay
+//!   the same. What goes is taken away without a test.
 //! - **Definition**: `IsMatched`. In Felix this node is the label inheritance index, `InheritIndex`.
-ghost use Rattle.std.specs.Prelude.{◌≡◌, OnOk};
+ghost use Rattle.std.specs.Prelude.{◌≡◌, ◌≤◌, ◌+◌, ◌-◌, ◌^◌, min, OnOk};
 ghost use Rattle.std.specs.FinMap as map;
 ghost use Rattle.fx_base.specs.Set as set;
 ghost use Rattle.fx_selector.specs.Tree.{IsSelector};
 ghost use Rattle.fx_selector.specs.Canonical.{canonical_text};
 ghost use Rattle.fx_label_index.specs.Counts.{raised, lowered};
 ghost use Rattle.fx_label_index.specs.Matched.{IsMatched};
+ghost use Rattle.fx_label_index.specs.Tested.{IsTested, gained};
 
-use crate::counted::SelectorMap;
-use crate::effective::{effective, labels_of};
-use crate::held::{Held, Inputs};
-use crate::retest::{retest, retest_items, retest_last, retest_selector};
-use fx_base::{Memory, Seq, Text, TextMap, Ticker};
-use fx_model::{ItemKey, ItemMap, MatchSink};
+use crate::state::State;
+use fx_base::{Memory, Text, Ticker};
+use fx_model::{ItemKey, MatchSink};
 use fx_selector::{Labels, Selector};
 use std::alloc::Global;
 use std::marker::Model;
 
-/// Brings a sink up to date with each call. After want of memory neither the index nor its sink is used again.
+/// Brings a sink up to date with each call. After want of memory each call answers it, and the sink isn't used again.
 #[derive(Drop)]
 pub struct LabelIndex {
-    alloc: Global,
-    inputs: Inputs,
+    state: State,
+    failed: bool,
 }
 
 impl Model for LabelIndex {
+    ghost use Rattle.std.specs.Prelude.{◌≡◌, false};
+    ghost use Rattle.fx_label_index.specs.Indexed.{AreIndexed};
     ghost use Rattle.fx_label_index.specs.declared.held.Inputs.{Inputs};
     ghost use Rattle.fx_label_index.specs.contracts.held.Inputs as all;
 
@@ -38,7 +41,9 @@ impl Model for LabelIndex {
 
     ghost coded = { all.the_row.coded };
 
-    ghost view = { λ a. a.inputs };
+    ghost view = { λ a. a.state.inputs };
+
+    ghost invariant = { λ a. a.failed ≡ false → AreIndexed a.state };
 }
 
 impl LabelIndex {
@@ -47,12 +52,8 @@ impl LabelIndex {
         ensures matched { IsMatched result set.empty }
     {
         LabelIndex {
-            alloc,
-            inputs: Inputs {
-                items: ItemMap::new(alloc),
-                parents: TextMap::new(alloc),
-                selectors: SelectorMap::new(alloc),
-            },
+            state: State::new(alloc),
+            failed: false,
         }
     }
 
@@ -71,16 +72,16 @@ impl LabelIndex {
               (record { labels = labels.now; parents = parents.now });
         }) }
         ensures matched { OnOk result (IsMatched self.new (S.pairs sink.new)) }
+        ensures tests { OnOk result (IsTested self.old self.new (T.number ticks.old) (T.number ticks.new)) }
+        ensures gained { OnOk result (min (T.number ticks.old + gained (S.pairs sink.old) (S.pairs sink.new))
+            (2 ^ 64 - 1) ≤ T.number ticks.new) }
     {
-        let held = Held {
-            labels: labels.clone()?,
-            parents: Seq::from_vec(Vec::from_clones(self.alloc, parents)?),
-        };
-        let before = labels_of(self.alloc, &self.inputs, key)?;
-        let after = effective(self.alloc, &held, &self.inputs.parents)?;
-        let selectors = &self.inputs.selectors;
-        retest(selectors, key, before.as_ref(), Some(&after), sink, ticks)?;
-        self.inputs.items.insert(key.clone()?, held)?;
+        if self.failed {
+            return Err(Memory);
+        }
+        self.failed = true;
+        self.state.put_item(key, labels, parents, sink, ticks)?;
+        self.failed = false;
         Ok(())
     }
 
@@ -93,11 +94,17 @@ impl LabelIndex {
         requires { IsMatched self.old (S.pairs sink.old) }
         ensures inputs { OnOk result (self.new ≡ record self.old { items = map.remove self.old.items key.now }) }
         ensures matched { OnOk result (IsMatched self.new (S.pairs sink.new)) }
+        ensures tests { OnOk result (IsTested self.old self.new (T.number ticks.old) (T.number ticks.new)) }
+        ensures gained { OnOk result (min (T.number ticks.old + gained (S.pairs sink.old) (S.pairs sink.new))
+            (2 ^ 64 - 1) ≤ T.number ticks.new) }
+        ensures quiet { T.number ticks.new ≡ T.number ticks.old }
     {
-        let before = labels_of(self.alloc, &self.inputs, key)?;
-        let selectors = &self.inputs.selectors;
-        retest(selectors, key, before.as_ref(), None, sink, ticks)?;
-        self.inputs.items.remove(key);
+        if self.failed {
+            return Err(Memory);
+        }
+        self.failed = true;
+        self.state.remove_item(key, sink)?;
+        self.failed = false;
         Ok(())
     }
 
@@ -112,9 +119,16 @@ impl LabelIndex {
         requires { IsMatched self.old (S.pairs sink.old) }
         ensures inputs { OnOk result (self.new ≡ record self.old { parents = map.insert self.old.parents name.now labels.now }) }
         ensures matched { OnOk result (IsMatched self.new (S.pairs sink.new)) }
+        ensures tests { OnOk result (IsTested self.old self.new (T.number ticks.old) (T.number ticks.new)) }
+        ensures gained { OnOk result (min (T.number ticks.old + gained (S.pairs sink.old) (S.pairs sink.new))
+            (2 ^ 64 - 1) ≤ T.number ticks.new) }
     {
-        retest_items(self.alloc, &self.inputs, name, Some(labels), sink, ticks)?;
-        self.inputs.parents.insert(name.clone()?, labels.clone()?)?;
+        if self.failed {
+            return Err(Memory);
+        }
+        self.failed = true;
+        self.state.put_parent(name, labels, sink, ticks)?;
+        self.failed = false;
         Ok(())
     }
 
@@ -127,9 +141,16 @@ impl LabelIndex {
         requires { IsMatched self.old (S.pairs sink.old) }
         ensures inputs { OnOk result (self.new ≡ record self.old { parents = map.remove self.old.parents name.now }) }
         ensures matched { OnOk result (IsMatched self.new (S.pairs sink.new)) }
+        ensures tests { OnOk result (IsTested self.old self.new (T.number ticks.old) (T.number ticks.new)) }
+        ensures gained { OnOk result (min (T.number ticks.old + gained (S.pairs sink.old) (S.pairs sink.new))
+            (2 ^ 64 - 1) ≤ T.number ticks.new) }
     {
-        retest_items(self.alloc, &self.inputs, name, None, sink, ticks)?;
-        self.inputs.parents.remove(name);
+        if self.failed {
+            return Err(Memory);
+        }
+        self.failed = true;
+        self.state.remove_parent(name, sink, ticks)?;
+        self.failed = false;
         Ok(())
     }
 
@@ -146,11 +167,16 @@ impl LabelIndex {
         requires matched { IsMatched self.old (S.pairs sink.old) }
         ensures inputs { OnOk result (self.new ≡ record self.old { selectors = raised self.old.selectors text.now selector.now }) }
         ensures matched { OnOk result (IsMatched self.new (S.pairs sink.new)) }
+        ensures tests { OnOk result (IsTested self.old self.new (T.number ticks.old) (T.number ticks.new)) }
+        ensures gained { OnOk result (min (T.number ticks.old + gained (S.pairs sink.old) (S.pairs sink.new))
+            (2 ^ 64 - 1) ≤ T.number ticks.new) }
     {
-        if !self.inputs.selectors.contains(text) {
-            retest_selector(self.alloc, &self.inputs, text, selector, false, sink, ticks)?;
+        if self.failed {
+            return Err(Memory);
         }
-        self.inputs.selectors.raise(text, selector)?;
+        self.failed = true;
+        self.state.put_selector(text, selector, sink, ticks)?;
+        self.failed = false;
         Ok(())
     }
 
@@ -164,9 +190,17 @@ impl LabelIndex {
         requires { IsMatched self.old (S.pairs sink.old) }
         ensures inputs { OnOk result (self.new ≡ record self.old { selectors = lowered self.old.selectors text.now }) }
         ensures matched { OnOk result (IsMatched self.new (S.pairs sink.new)) }
+        ensures tests { OnOk result (IsTested self.old self.new (T.number ticks.old) (T.number ticks.new)) }
+        ensures gained { OnOk result (min (T.number ticks.old + gained (S.pairs sink.old) (S.pairs sink.new))
+            (2 ^ 64 - 1) ≤ T.number ticks.new) }
+        ensures quiet { T.number ticks.new ≡ T.number ticks.old }
     {
-        retest_last(self.alloc, &self.inputs, text, sink, ticks)?;
-        self.inputs.selectors.lower(text)?;
+        if self.failed {
+            return Err(Memory);
+        }
+        self.failed = true;
+        self.state.remove_selector(text, sink)?;
+        self.failed = false;
         Ok(())
     }
 }

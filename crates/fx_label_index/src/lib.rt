@@ -7,4 +7,7 @@ mod counted;
 mod effective;
 mod held;
 mod index;
-mod retest;
+mod indexes;
+mod state;
+mod telling;
+mod testing;

@@ -1,0 +1,3 @@
+pub mod ItemLemmas
+pub mod Meeting
+pub mod TextLemmas
