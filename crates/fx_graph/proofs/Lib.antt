@@ -4,8 +4,10 @@ pub mod Sums
 pub mod UsedTexts
 pub mod Counted
 pub mod Uppers
+pub mod Testing
 pub mod Named
 pub mod Agreeing
+pub mod Bounded
 pub mod Kept
 pub mod Following
 pub mod InSync

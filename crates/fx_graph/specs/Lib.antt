@@ -5,3 +5,4 @@ pub mod InStep
 pub mod BehindBy
 pub mod Taking
 pub mod Graphs
+pub mod Testing

@@ -21,6 +21,7 @@ impl Nodes {
         ensures taken { OnOk result (taken_of self.new ≡ contributing key.now item.now (taken_of self.old)) }
         ensures beside { OnOk result (IsBeside self.old self.new) }
         ensures settled { OnOk result (IsInStep R.digest_of None self.new) }
+        ensures index { OnOk result (self.new.upper.joined.index ≡ self.old.upper.joined.index) }
     {
         put_item::<Brand>(
             self.alloc,
@@ -38,6 +39,7 @@ impl Nodes {
         ensures taken { OnOk result (taken_of self.new ≡ withdrawn key.now (taken_of self.old)) }
         ensures beside { OnOk result (IsBeside self.old self.new) }
         ensures settled { OnOk result (IsInStep R.digest_of None self.new) }
+        ensures index { OnOk result (self.new.upper.joined.index ≡ self.old.upper.joined.index) }
     {
         remove_item::<Brand>(self.alloc, key, &mut self.members, &mut self.sequencer)?;
         Ok(())
@@ -59,6 +61,7 @@ impl Nodes {
             (record { iface = iface.now; profiles = each (profile_key R.digest_of) profiles.now }) (taken_of self.old)) }
         ensures beside { OnOk result (IsBeside self.old self.new) }
         ensures settled { OnOk result (IsInStep R.digest_of None self.new) }
+        ensures index { OnOk result (self.new.upper.joined.index ≡ self.old.upper.joined.index) }
     {
         let keys = profile_keys(self.alloc, profiles, namer)?;
         let resolver = &mut self.resolver;
@@ -72,6 +75,7 @@ impl Nodes {
         ensures taken { OnOk result (taken_of self.new ≡ without_local key.now (taken_of self.old)) }
         ensures beside { OnOk result (IsBeside self.old self.new) }
         ensures settled { OnOk result (IsInStep R.digest_of None self.new) }
+        ensures index { OnOk result (self.new.upper.joined.index ≡ self.old.upper.joined.index) }
     {
         remove_endpoint::<Brand>(self.alloc, key, &mut self.resolver, &mut self.sequencer)?;
         Ok(())
@@ -83,6 +87,7 @@ impl Nodes {
         ensures taken { OnOk result (taken_of self.new ≡ with_tier name.now tier.now (taken_of self.old)) }
         ensures beside { OnOk result (IsBeside self.old self.new) }
         ensures settled { OnOk result (IsInStep R.digest_of None self.new) }
+        ensures index { OnOk result (self.new.upper.joined.index ≡ self.old.upper.joined.index) }
     {
         put_tier::<Brand>(
             self.alloc,
@@ -100,6 +105,7 @@ impl Nodes {
         ensures taken { OnOk result (taken_of self.new ≡ without_tier name.now (taken_of self.old)) }
         ensures beside { OnOk result (IsBeside self.old self.new) }
         ensures settled { OnOk result (IsInStep R.digest_of None self.new) }
+        ensures index { OnOk result (self.new.upper.joined.index ≡ self.old.upper.joined.index) }
     {
         remove_tier::<Brand>(self.alloc, name, &mut self.resolver, &mut self.sequencer)?;
         Ok(())

@@ -1,9 +1,11 @@
 //! Sets that came into use, put into the label index.
-ghost use Rattle.std.specs.Prelude.{◌≡◌, OnOk};
+ghost use Rattle.std.specs.Prelude.{◌≡◌, ℕ, OnOk};
 ghost use Rattle.std.specs.FinMap as map;
 ghost use Rattle.std.specs.Option.{option_copied};
 ghost use Rattle.fx_graph.specs.Fed.{raised_at, raised_by};
+ghost use Rattle.fx_graph.specs.Testing.{IsRaisedFrom};
 ghost use Rattle.fx_graph_rules.specs.Joining.{IsJoined};
+ghost use Rattle.fx_label_index.specs.declared.held.Inputs.{Inputs};
 ghost use Rattle.fx_members.specs.Members.{AreMembers};
 ghost use Rattle.fx_graph_view.specs.Kept.{SameButSets};
 
@@ -35,6 +37,9 @@ fn feed_one_in<S: ActiveSink, T: Ticker>(
     ensures inputs { OnOk result (members.new ≡ record members.old { matched = joined.new.pairs }) }
     ensures members { OnOk result (AreMembers members.new sequencer.new.wanted.sets) }
     ensures beside { OnOk result (SameButSets sequencer.old sequencer.new) }
+    ensures tests { OnOk result ((first : Inputs) (m : ℕ)
+        → IsRaisedFrom first m joined.old.index (T.number ticks.old)
+        → IsRaisedFrom first m joined.new.index (T.number ticks.new)) }
 {
     let Some(set) = set else {
         return Ok(());
@@ -66,6 +71,9 @@ pub fn feed_in<S: ActiveSink, T: Ticker>(
     ensures inputs { OnOk result (members.new ≡ record members.old { matched = joined.new.pairs }) }
     ensures members { OnOk result (AreMembers members.new sequencer.new.wanted.sets) }
     ensures beside { OnOk result (SameButSets sequencer.old sequencer.new) }
+    ensures tests { OnOk result ((first : Inputs) (m : ℕ)
+        → IsRaisedFrom first m joined.old.index (T.number ticks.old)
+        → IsRaisedFrom first m joined.new.index (T.number ticks.new)) }
 {
     for (name, _) in notes.iter() {
         let set = uses.get(name);

@@ -6,6 +6,7 @@ ghost use Rattle.fx_model.specs.declared.ids.Key.TheVariants as keys;
 ghost use Rattle.fx_model.specs.declared.resources.Item.TheVariants as items;
 ghost use Rattle.fx_model.specs.declared.resources.Update.TheVariants as update;
 ghost use Rattle.fx_graph.specs.Graphs.{CanFollow, Follows, sides_of};
+ghost use Rattle.fx_label_index.specs.Tested.{IsTested};
 
 use crate::state::GraphState;
 use fx_base::{Memory, Ticker};
@@ -34,6 +35,8 @@ impl GraphState {
         ensures follows { OnOk result (Follows R.digest_of (update.Put (keys.Item key.now) (items.Endpoint endpoint.now))
             self.old self.new) }
         ensures sent { OnOk result ((sides_of self.new).sent ≡ (sides_of self.old).sent) }
+        ensures tests { OnOk result (IsTested self.old.nodes.upper.joined.index self.new.nodes.upper.joined.index
+            (T.number ticks.old) (T.number ticks.new)) }
     {
         if !self.is_local(endpoint) {
             self.put_elsewhere(key, item, endpoint, namer, ticks)?;
@@ -63,6 +66,8 @@ impl GraphState {
         ensures follows { OnOk result (Follows R.digest_of (update.Put (keys.Item key.now) (items.Endpoint endpoint.now))
             self.old self.new) }
         ensures sent { OnOk result ((sides_of self.new).sent ≡ (sides_of self.old).sent) }
+        ensures tests { OnOk result (IsTested self.old.nodes.upper.joined.index self.new.nodes.upper.joined.index
+            (T.number ticks.old) (T.number ticks.new)) }
     {
         let nodes = &mut self.nodes;
         nodes.put_other(key, item, endpoint, namer, ticks)?;
@@ -87,6 +92,8 @@ impl GraphState {
         ensures follows { OnOk result (Follows R.digest_of (update.Put (keys.Item key.now) (items.Endpoint endpoint.now))
             self.old self.new) }
         ensures sent { OnOk result ((sides_of self.new).sent ≡ (sides_of self.old).sent) }
+        ensures tests { OnOk result (IsTested self.old.nodes.upper.joined.index self.new.nodes.upper.joined.index
+            (T.number ticks.old) (T.number ticks.new)) }
     {
         let waiting = Waiting {
             iface: endpoint.iface.clone()?,
@@ -115,6 +122,8 @@ impl GraphState {
         ensures follows { OnOk result (Follows R.digest_of (update.Put (keys.Item key.now) (items.Endpoint endpoint.now))
             self.old self.new) }
         ensures sent { OnOk result ((sides_of self.new).sent ≡ (sides_of self.old).sent) }
+        ensures tests { OnOk result (IsTested self.old.nodes.upper.joined.index self.new.nodes.upper.joined.index
+            (T.number ticks.old) (T.number ticks.new)) }
     {
         let nodes = &mut self.nodes;
         nodes.put_served(key, item, endpoint, namer, ticks)?;
@@ -132,6 +141,8 @@ impl GraphState {
         requires resources { CanFollow R.digest_of (update.Delete (keys.Item key.now)) self.old }
         ensures follows { OnOk result (Follows R.digest_of (update.Delete (keys.Item key.now)) self.old self.new) }
         ensures sent { OnOk result ((sides_of self.new).sent ≡ (sides_of self.old).sent) }
+        ensures tests { OnOk result (IsTested self.old.nodes.upper.joined.index self.new.nodes.upper.joined.index
+            (T.number ticks.old) (T.number ticks.new)) }
     {
         let nodes = &mut self.nodes;
         nodes.remove_endpoint(key, namer, ticks)?;

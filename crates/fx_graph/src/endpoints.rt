@@ -6,6 +6,7 @@ ghost use Rattle.fx_node_laws.specs.Tied.{known_endpoint};
 ghost use Rattle.fx_resolver.specs.Resolved.{HaveOwnInterfaces};
 ghost use Rattle.fx_graph.specs.InStep.{IsInStep};
 ghost use Rattle.fx_graph.specs.Taking.{with_served, with_other, without_item, AreApart, IsBeside, taken_of};
+ghost use Rattle.fx_label_index.specs.Tested.{IsTested};
 
 use crate::nodes::Nodes;
 use fx_base::{Memory, Ticker};
@@ -32,6 +33,8 @@ impl Nodes {
         ensures taken { OnOk result (taken_of self.new ≡ with_served R.digest_of key.now endpoint.now (taken_of self.old)) }
         ensures beside { OnOk result (IsBeside self.old self.new) }
         ensures settled { OnOk result (IsInStep R.digest_of None self.new) }
+        ensures tests { OnOk result (IsTested self.old.upper.joined.index self.new.upper.joined.index
+            (T.number ticks.old) (T.number ticks.new)) }
     {
         let profiles = endpoint.profiles.as_slice();
         self.contribute::<R>(key, item)?;
@@ -55,6 +58,8 @@ impl Nodes {
         ensures taken { OnOk result (taken_of self.new ≡ with_other key.now endpoint.now (taken_of self.old)) }
         ensures beside { OnOk result (IsBeside self.old self.new) }
         ensures settled { OnOk result (IsInStep R.digest_of None self.new) }
+        ensures tests { OnOk result (IsTested self.old.upper.joined.index self.new.upper.joined.index
+            (T.number ticks.old) (T.number ticks.new)) }
     {
         let profiles = endpoint.profiles.as_slice();
         self.contribute::<R>(key, item)?;
@@ -75,6 +80,8 @@ impl Nodes {
         ensures taken { OnOk result (taken_of self.new ≡ without_item key.now (taken_of self.old)) }
         ensures beside { OnOk result (IsBeside self.old self.new) }
         ensures settled { OnOk result (IsInStep R.digest_of None self.new) }
+        ensures tests { OnOk result (IsTested self.old.upper.joined.index self.new.upper.joined.index
+            (T.number ticks.old) (T.number ticks.new)) }
     {
         self.withdraw::<R>(key)?;
         self.remove_local::<R>(key)?;

@@ -1,12 +1,16 @@
 //! The label index, brought to the sets that are used.
 ghost use Rattle.std.specs.Prelude.{◌≡◌, ℕ, List, Option, OnOk};
 ghost use Rattle.fx_graph.specs.Since.{AreBehindBy};
+ghost use Rattle.fx_graph.specs.Testing.{AreCountedSets};
 ghost use Rattle.fx_graph.specs.Used.{used_in};
-ghost use Rattle.fx_graph_rules.specs.Counting.{with_some};
+ghost use Rattle.fx_graph_rules.specs.Counting.{with_some, StillCounted};
 ghost use Rattle.fx_graph_rules.specs.Uppers.{AreInStep};
 ghost use Rattle.fx_members.specs.Members.{AreMembers};
 ghost use Rattle.fx_graph_view.specs.Kept.{SameButSets};
-ghost use Rattle.fx_graph_view.specs.Noted.{AreFormed};
+ghost use Rattle.fx_graph_view.specs.Noted.{AreFormed, AreNoted};
+ghost use Rattle.fx_label_index.specs.Tested.{IsTested};
+ghost use Rattle.fx_label_index.specs.declared.held.Inputs.{Inputs};
+ghost use Rattle.fx_model.specs.Sinks.{Uses};
 
 use crate::coming::feed_in;
 use crate::leaving::feed_out;
@@ -51,6 +55,10 @@ pub fn feed<S: ActiveSink, T: Ticker>(
     ensures inputs { OnOk result (members.new ≡ record members.old { matched = upper.new.joined.pairs }) }
     ensures members { OnOk result (AreMembers members.new sequencer.new.wanted.sets) }
     ensures beside { OnOk result (SameButSets sequencer.old sequencer.new) }
+    ensures tests { OnOk result ((was : Uses) (first : Inputs) (m : ℕ) → AreNoted notes.now was uses.now
+        → AreCountedSets first.selectors was → StillCounted first.selectors upper.old.joined.index.selectors
+        → IsTested first upper.old.joined.index m (T.number ticks.old)
+        → IsTested first upper.new.joined.index m (T.number ticks.new)) }
 {
     feed_in(
         alloc,

@@ -4,11 +4,13 @@
 //! - **Holds** the five nodes and the sequencer. Whatever the updates were, the view that is wanted is the view of the resources.
 //! - **Gives** the next message from the view that was sent towards that one, and takes note of it once it was sent.
 ghost use Rattle.std.specs.Prelude.{◌≡◌, ◌↔◌, true, OnOk, OnErr, IsSome, IsNone, option_map};
+ghost use Rattle.fx_base.specs.Ticks.{IsTicked};
 ghost use Rattle.fx_model.specs.declared.resources.Resources.{Resources};
 ghost use Rattle.fx_model.specs.Formed.{is_formed};
 ghost use Rattle.fx_model.specs.Lent.{change_of};
 ghost use Rattle.fx_model.specs.Messages.{next_message, step};
 ghost use Rattle.fx_model.specs.Resources.{empty_resources};
+ghost use Rattle.fx_model.specs.Tests.{least_tests, most_tests};
 ghost use Rattle.fx_model.specs.Views.{empty_view, view_of};
 ghost use Rattle.fx_graph.specs.Graphs.{CanFollow, Follows, IsGraphOf, sides_of};
 
@@ -37,18 +39,19 @@ impl<R: DigestRule, F: DigestFunction<R> + Drop> Graph<R, F> {
         }
     }
 
-    /// Makes an update. Of whichever resources the graph is, it is then that of the resources after the update.
+    /// Makes an update. Of whichever resources the graph is, it is then that of the resources after the update. The tests of
+    /// selectors on labels that it makes lie between the least and the most that the update calls for.
     pub fn apply<T: Ticker>(&mut self, update: &Update, ticks: &mut T) -> Result<(), Memory>
         requires update { is_formed update.now ≡ true }
         requires resources { CanFollow R.digest_of update.now self.old.state }
         ensures follows { OnOk result (Follows R.digest_of update.now self.old.state self.new.state) }
         ensures sent { OnOk result ((sides_of self.new.state).sent ≡ (sides_of self.old.state).sent) }
+        ensures tests { OnOk result ((resources : Resources) → IsGraphOf R.digest_of resources self.old.state
+            → IsTicked (least_tests resources update.now) (most_tests resources update.now)
+            (T.number ticks.old) (T.number ticks.new)) }
     {
-        match update {
-            Update::Put { key, item } => self.state.put(key, item, &self.namer, ticks),
-            Update::Delete { key } => self.state.delete(key, &self.namer, ticks),
-            Update::InSync => self.state.begin(&self.namer, ticks),
-        }
+        self.state.apply(update, &self.namer, ticks)?;
+        Ok(())
     }
 
     /// The next message, if there is one. It takes no memory.

@@ -2,6 +2,7 @@
 ghost use Rattle.std.specs.Prelude.{◌≡◌, None, OnOk};
 ghost use Rattle.fx_graph.specs.InStep.{IsInStep};
 ghost use Rattle.fx_graph.specs.Taking.{labelled_served, labelled_other, unlabelled, AreApart, IsBeside, taken_of};
+ghost use Rattle.fx_label_index.specs.Tested.{IsTested};
 
 use crate::nodes::Nodes;
 use fx_base::{Memory, Text, Ticker};
@@ -27,6 +28,8 @@ impl Nodes {
         ensures taken { OnOk result (taken_of self.new ≡ labelled_served key.now labels.now parents.now (taken_of self.old)) }
         ensures beside { OnOk result (IsBeside self.old self.new) }
         ensures settled { OnOk result (IsInStep R.digest_of None self.new) }
+        ensures tests { OnOk result (IsTested self.old.upper.joined.index self.new.upper.joined.index
+            (T.number ticks.old) (T.number ticks.new)) }
     {
         let told = mem::replace(&mut self.told, ActiveTold::new(self.alloc));
         let mut log: ActiveLog<K> = ActiveLog::new(self.alloc, told);
@@ -52,6 +55,8 @@ impl Nodes {
         ensures taken { OnOk result (taken_of self.new ≡ labelled_other key.now labels.now parents.now (taken_of self.old)) }
         ensures beside { OnOk result (IsBeside self.old self.new) }
         ensures settled { OnOk result (IsInStep R.digest_of None self.new) }
+        ensures tests { OnOk result (IsTested self.old.upper.joined.index self.new.upper.joined.index
+            (T.number ticks.old) (T.number ticks.new)) }
     {
         let told = mem::replace(&mut self.told, ActiveTold::new(self.alloc));
         let mut log: ActiveLog<K> = ActiveLog::new(self.alloc, told);
@@ -73,6 +78,8 @@ impl Nodes {
         ensures taken { OnOk result (taken_of self.new ≡ unlabelled key.now (taken_of self.old)) }
         ensures beside { OnOk result (IsBeside self.old self.new) }
         ensures settled { OnOk result (IsInStep R.digest_of None self.new) }
+        ensures tests { OnOk result (IsTested self.old.upper.joined.index self.new.upper.joined.index
+            (T.number ticks.old) (T.number ticks.new)) }
     {
         let told = mem::replace(&mut self.told, ActiveTold::new(self.alloc));
         let mut log: ActiveLog<K> = ActiveLog::new(self.alloc, told);

@@ -34,6 +34,7 @@ fn feed_one_out<S: ActiveSink, T: Ticker>(
     ensures inputs { OnOk result (members.new ≡ record members.old { matched = joined.new.pairs }) }
     ensures members { OnOk result (AreMembers members.new sequencer.new.wanted.sets) }
     ensures beside { OnOk result (SameButSets sequencer.old sequencer.new) }
+    ensures quiet { OnOk result (T.number ticks.new ≡ T.number ticks.old) }
 {
     let Some(set) = was else {
         return Ok(());
@@ -64,6 +65,7 @@ pub fn feed_out<S: ActiveSink, T: Ticker>(
     ensures inputs { OnOk result (members.new ≡ record members.old { matched = joined.new.pairs }) }
     ensures members { OnOk result (AreMembers members.new sequencer.new.wanted.sets) }
     ensures beside { OnOk result (SameButSets sequencer.old sequencer.new) }
+    ensures quiet { OnOk result (T.number ticks.new ≡ T.number ticks.old) }
 {
     for (_, was) in notes.iter() {
         feed_one_out(alloc, was, joined, sink, members, sequencer, ticks)?;

@@ -4,6 +4,7 @@ ghost use Rattle.fx_model.specs.declared.resources.Item.TheVariants as items;
 ghost use Rattle.fx_model.specs.Labels.{namespace_parents, set_namespace};
 ghost use Rattle.fx_graph.specs.InStep.{IsInStep};
 ghost use Rattle.fx_graph.specs.Taking.{contributing, withdrawn, labelled_other, unlabelled, AreApart, IsBeside, taken_of};
+ghost use Rattle.fx_label_index.specs.Tested.{IsTested};
 
 use crate::nodes::Nodes;
 use fx_base::{Memory, Ticker};
@@ -29,6 +30,8 @@ impl Nodes {
             (contributing key.now (items.NetSet net_set.now) (taken_of self.old))) }
         ensures beside { OnOk result (IsBeside self.old self.new) }
         ensures settled { OnOk result (IsInStep R.digest_of None self.new) }
+        ensures tests { OnOk result (IsTested self.old.upper.joined.index self.new.upper.joined.index
+            (T.number ticks.old) (T.number ticks.new)) }
     {
         let parents = namespace_parents(self.alloc, key)?;
         self.contribute::<R>(key, item)?;
@@ -48,6 +51,8 @@ impl Nodes {
         ensures taken { OnOk result (taken_of self.new ≡ unlabelled key.now (withdrawn key.now (taken_of self.old))) }
         ensures beside { OnOk result (IsBeside self.old self.new) }
         ensures settled { OnOk result (IsInStep R.digest_of None self.new) }
+        ensures tests { OnOk result (IsTested self.old.upper.joined.index self.new.upper.joined.index
+            (T.number ticks.old) (T.number ticks.new)) }
     {
         self.withdraw::<R>(key)?;
         self.unlabel::<Brand, R, F, T>(key, namer, ticks)?;

@@ -3,6 +3,7 @@ ghost use Rattle.std.specs.Prelude.{◌≡◌, None, OnOk};
 ghost use Rattle.fx_node_laws.specs.Changes.{with_policy, without_policy};
 ghost use Rattle.fx_graph.specs.InStep.{IsInStep};
 ghost use Rattle.fx_graph.specs.Taking.{AreApart, IsBeside, taken_of};
+ghost use Rattle.fx_label_index.specs.Tested.{IsTested};
 
 use crate::nodes::Nodes;
 use fx_base::{Memory, Seq, Ticker};
@@ -27,6 +28,8 @@ impl Nodes {
         ensures taken { OnOk result (taken_of self.new ≡ with_policy id.now policy.now (taken_of self.old)) }
         ensures beside { OnOk result (IsBeside self.old self.new) }
         ensures settled { OnOk result (IsInStep R.digest_of None self.new) }
+        ensures tests { OnOk result (IsTested self.old.upper.joined.index self.new.upper.joined.index
+            (T.number ticks.old) (T.number ticks.new)) }
     {
         let told = mem::replace(&mut self.told, ActiveTold::new(self.alloc));
         let mut log: ActiveLog<K> = ActiveLog::new(self.alloc, told);
@@ -49,6 +52,8 @@ impl Nodes {
         ensures taken { OnOk result (taken_of self.new ≡ without_policy id.now (taken_of self.old)) }
         ensures beside { OnOk result (IsBeside self.old self.new) }
         ensures settled { OnOk result (IsInStep R.digest_of None self.new) }
+        ensures tests { OnOk result (IsTested self.old.upper.joined.index self.new.upper.joined.index
+            (T.number ticks.old) (T.number ticks.new)) }
     {
         let told = mem::replace(&mut self.told, ActiveTold::new(self.alloc));
         let mut log: ActiveLog<K> = ActiveLog::new(self.alloc, told);

@@ -8,6 +8,7 @@ ghost use Rattle.fx_graph_rules.specs.Uppers.{AreInStep, AreInStepForSome};
 ghost use Rattle.fx_node_laws.specs.Waits.{known_waiting, with_waiting};
 ghost use Rattle.fx_graph.specs.InStep.{IsInStep};
 ghost use Rattle.fx_graph.specs.Taking.{AreApart, IsBeside, taken_of, serving, AreOwnTogether, AreShort};
+ghost use Rattle.fx_label_index.specs.Tested.{IsTested};
 
 use crate::nodes::Nodes;
 use fx_base::{Memory, Seq, Ticker};
@@ -56,6 +57,8 @@ impl Nodes {
         ensures waiting { OnOk result (self.new.waiting ≡ map.empty) }
         ensures sent { OnOk result (self.new.sequencer.sent ≡ self.old.sequencer.sent) }
         ensures settled { OnOk result (IsInStep R.digest_of None self.new) }
+        ensures tests { OnOk result (IsTested self.old.upper.joined.index self.new.upper.joined.index
+            (T.number ticks.old) (T.number ticks.new)) }
     {
         let waiting = mem::replace(&mut self.waiting, ItemMap::new(self.alloc));
         self.put_locals(&waiting, namer)?;
@@ -77,6 +80,7 @@ impl Nodes {
         }) }
         ensures beside { OnOk result (IsBeside self.old self.new) }
         ensures settled { OnOk result (IsInStep R.digest_of None self.new) }
+        ensures index { OnOk result (self.new.upper.joined.index ≡ self.old.upper.joined.index) }
     {
         for (key, endpoint) in waiting.iter() {
             let profiles = endpoint.profiles.as_slice();
@@ -98,6 +102,8 @@ impl Nodes {
         ensures taken { OnOk result (taken_of self.new ≡ serving waiting.now (taken_of self.old)) }
         ensures beside { OnOk result (IsBeside self.old self.new) }
         ensures settled { OnOk result (IsInStep R.digest_of None self.new) }
+        ensures tests { OnOk result (IsTested self.old.upper.joined.index self.new.upper.joined.index
+            (T.number ticks.old) (T.number ticks.new)) }
     {
         let told = mem::replace(&mut self.told, ActiveTold::new(self.alloc));
         let mut log: ActiveLog<K> = ActiveLog::new(self.alloc, told);

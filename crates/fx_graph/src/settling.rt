@@ -4,6 +4,10 @@ ghost use Rattle.fx_scanner.specs.Apart.{IsApart};
 ghost use Rattle.fx_graph.specs.BehindBy.{IsBehindBy};
 ghost use Rattle.fx_graph.specs.InStep.{IsInStep};
 ghost use Rattle.fx_graph.specs.Taking.{IsBeside, taken_of};
+ghost use Rattle.fx_graph.specs.Testing.{AreCountedSets};
+ghost use Rattle.fx_graph_rules.specs.Counting.{StillCounted, IsCountedText};
+ghost use Rattle.fx_label_index.specs.Tested.{IsTested};
+ghost use Rattle.fx_label_index.specs.declared.held.Inputs.{Inputs};
 
 use crate::feeding::feed;
 use crate::nodes::Nodes;
@@ -31,6 +35,10 @@ impl Nodes {
         ensures settled { OnOk result ((before : Option (List ℕ))
             → IsBehindBy R.digest_of before self.old changes.now logged
             → IsInStep R.digest_of before self.new) }
+        ensures tests { OnOk result ((first : Inputs) (m : ℕ) → AreCountedSets first.selectors self.old.uses
+            → StillCounted first.selectors self.old.upper.joined.index.selectors
+            → IsTested first self.old.upper.joined.index m (T.number ticks.old)
+            → IsTested first self.new.upper.joined.index m (T.number ticks.new)) }
     {
         let alloc = self.alloc;
         let pairs = &self.upper.joined.pairs;
@@ -72,6 +80,9 @@ impl Nodes {
         ensures taken { OnOk result (taken_of self.new ≡ taken_of self.old) }
         ensures beside { OnOk result (IsBeside self.old self.new) }
         ensures settled { OnOk result (IsInStep R.digest_of None self.new) }
+        ensures tests { OnOk result ((first : Inputs) (m : ℕ) → IsCountedText first.selectors text
+            → IsTested first self.old.upper.joined.index m (T.number ticks.old)
+            → IsTested first self.new.upper.joined.index m (T.number ticks.new)) }
     {
         let changes = self.upper.forget(text, &mut self.told, ticks)?;
         let pairs = &self.upper.joined.pairs;

@@ -1,20 +1,43 @@
 //! Updates of resources in the graph, but for endpoints.
-ghost use Rattle.std.specs.Prelude.{◌≡◌, true, OnOk};
+ghost use Rattle.std.specs.Prelude.{◌≡◌, ℕ, true, OnOk};
 ghost use Rattle.fx_model.specs.Formed.{is_formed, is_net_set_key};
 ghost use Rattle.fx_model.specs.declared.ids.Key.TheVariants as keys;
 ghost use Rattle.fx_model.specs.declared.resources.Item.TheVariants as items;
 ghost use Rattle.fx_model.specs.declared.resources.Update.TheVariants as update;
 ghost use Rattle.fx_graph.specs.Graphs.{CanFollow, Follows, sides_of};
+ghost use Rattle.fx_label_index.specs.Tested.{IsTested};
 
 use crate::state::GraphState;
 use fx_base::{Memory, Text, Ticker};
-use fx_model::{Item, ItemKey, Key, NetSet, Policy, PolicyId, Profile, Tier};
+use fx_model::{Item, ItemKey, Key, NetSet, Policy, PolicyId, Profile, Tier, Update};
 use fx_names::{DigestFunction, DigestRule, Namer};
 use std::marker::Brand;
 
 impl GraphState {
+    /// Makes an update.
+    pub(crate) fn apply<R: DigestRule, F: DigestFunction<R> + Drop, T: Ticker>(
+        &mut self,
+        update: &Update,
+        namer: &Namer<R, F>,
+        ticks: &mut T,
+    ) -> Result<(), Memory>
+        requires update { is_formed update.now ≡ true }
+        requires resources { CanFollow R.digest_of update.now self.old }
+        ensures follows { OnOk result (Follows R.digest_of update.now self.old self.new) }
+        ensures sent { OnOk result ((sides_of self.new).sent ≡ (sides_of self.old).sent) }
+        ensures tests { OnOk result (IsTested self.old.nodes.upper.joined.index self.new.nodes.upper.joined.index
+            (T.number ticks.old) (T.number ticks.new)) }
+    {
+        match update {
+            Update::Put { key, item } => self.put(key, item, namer, ticks),
+            Update::Delete { key } => self.delete(key, namer, ticks),
+            Update::InSync => self.begin(namer, ticks),
+        }
+    }
+
     /// Puts a resource. An item of another kind than its key changes nothing.
-    pub(crate) fn put<R: DigestRule, F: DigestFunction<R> + Drop, T: Ticker>(
+    #[tactic(auto, using(fx_label_index::proofs::Sums::self_tested))]
+    fn put<R: DigestRule, F: DigestFunction<R> + Drop, T: Ticker>(
         &mut self,
         key: &Key,
         item: &Item,
@@ -25,6 +48,8 @@ impl GraphState {
         requires resources { CanFollow R.digest_of (update.Put key.now item.now) self.old }
         ensures follows { OnOk result (Follows R.digest_of (update.Put key.now item.now) self.old self.new) }
         ensures sent { OnOk result ((sides_of self.new).sent ≡ (sides_of self.old).sent) }
+        ensures tests { OnOk result (IsTested self.old.nodes.upper.joined.index self.new.nodes.upper.joined.index
+            (T.number ticks.old) (T.number ticks.new)) }
     {
         match (key, item) {
             (Key::Item(key), Item::Endpoint(endpoint)) => {
@@ -43,7 +68,7 @@ impl GraphState {
     }
 
     /// Deletes what stands at a key, if anything does.
-    pub(crate) fn delete<R: DigestRule, F: DigestFunction<R> + Drop, T: Ticker>(
+    fn delete<R: DigestRule, F: DigestFunction<R> + Drop, T: Ticker>(
         &mut self,
         key: &Key,
         namer: &Namer<R, F>,
@@ -52,6 +77,8 @@ impl GraphState {
         requires { CanFollow R.digest_of (update.Delete key.now) self.old }
         ensures follows { OnOk result (Follows R.digest_of (update.Delete key.now) self.old self.new) }
         ensures sent { OnOk result ((sides_of self.new).sent ≡ (sides_of self.old).sent) }
+        ensures tests { OnOk result (IsTested self.old.nodes.upper.joined.index self.new.nodes.upper.joined.index
+            (T.number ticks.old) (T.number ticks.new)) }
     {
         match key {
             Key::Item(key) => self.delete_item(key, namer, ticks),
@@ -70,6 +97,8 @@ impl GraphState {
         requires { CanFollow R.digest_of (update.Delete (keys.Item key.now)) self.old }
         ensures follows { OnOk result (Follows R.digest_of (update.Delete (keys.Item key.now)) self.old self.new) }
         ensures sent { OnOk result ((sides_of self.new).sent ≡ (sides_of self.old).sent) }
+        ensures tests { OnOk result (IsTested self.old.nodes.upper.joined.index self.new.nodes.upper.joined.index
+            (T.number ticks.old) (T.number ticks.new)) }
     {
         match key {
             ItemKey::Endpoint { .. } => self.delete_endpoint(key, namer, ticks),
@@ -91,6 +120,8 @@ impl GraphState {
         ensures follows { OnOk result (Follows R.digest_of (update.Put (keys.Item key.now) (items.NetSet net_set.now))
             self.old self.new) }
         ensures sent { OnOk result ((sides_of self.new).sent ≡ (sides_of self.old).sent) }
+        ensures tests { OnOk result (IsTested self.old.nodes.upper.joined.index self.new.nodes.upper.joined.index
+            (T.number ticks.old) (T.number ticks.new)) }
     {
         let nodes = &mut self.nodes;
         nodes.put_net_set(key, item, net_set, namer, ticks)?;
@@ -107,6 +138,8 @@ impl GraphState {
         requires resources { CanFollow R.digest_of (update.Delete (keys.Item key.now)) self.old }
         ensures follows { OnOk result (Follows R.digest_of (update.Delete (keys.Item key.now)) self.old self.new) }
         ensures sent { OnOk result ((sides_of self.new).sent ≡ (sides_of self.old).sent) }
+        ensures tests { OnOk result (IsTested self.old.nodes.upper.joined.index self.new.nodes.upper.joined.index
+            (T.number ticks.old) (T.number ticks.new)) }
     {
         let nodes = &mut self.nodes;
         nodes.remove_net_set(key, namer, ticks)?;
@@ -124,6 +157,8 @@ impl GraphState {
         ensures follows { OnOk result (Follows R.digest_of (update.Put (keys.Profile name.now) (items.Profile profile.now))
             self.old self.new) }
         ensures sent { OnOk result ((sides_of self.new).sent ≡ (sides_of self.old).sent) }
+        ensures tests { OnOk result (IsTested self.old.nodes.upper.joined.index self.new.nodes.upper.joined.index
+            (T.number ticks.old) (T.number ticks.new)) }
     {
         let nodes = &mut self.nodes;
         nodes.put_profile::<Brand, R, F, T>(name, profile, namer, ticks)?;
@@ -139,6 +174,8 @@ impl GraphState {
         requires { CanFollow R.digest_of (update.Delete (keys.Profile name.now)) self.old }
         ensures follows { OnOk result (Follows R.digest_of (update.Delete (keys.Profile name.now)) self.old self.new) }
         ensures sent { OnOk result ((sides_of self.new).sent ≡ (sides_of self.old).sent) }
+        ensures tests { OnOk result (IsTested self.old.nodes.upper.joined.index self.new.nodes.upper.joined.index
+            (T.number ticks.old) (T.number ticks.new)) }
     {
         let nodes = &mut self.nodes;
         nodes.remove_profile::<Brand, R, F, T>(name, namer, ticks)?;
@@ -156,6 +193,8 @@ impl GraphState {
         ensures follows { OnOk result (Follows R.digest_of (update.Put (keys.Policy id.now) (items.Policy policy.now))
             self.old self.new) }
         ensures sent { OnOk result ((sides_of self.new).sent ≡ (sides_of self.old).sent) }
+        ensures tests { OnOk result (IsTested self.old.nodes.upper.joined.index self.new.nodes.upper.joined.index
+            (T.number ticks.old) (T.number ticks.new)) }
     {
         let nodes = &mut self.nodes;
         nodes.put_policy::<Brand, R, F, T>(id, policy, namer, ticks)?;
@@ -171,6 +210,8 @@ impl GraphState {
         requires { CanFollow R.digest_of (update.Delete (keys.Policy id.now)) self.old }
         ensures follows { OnOk result (Follows R.digest_of (update.Delete (keys.Policy id.now)) self.old self.new) }
         ensures sent { OnOk result ((sides_of self.new).sent ≡ (sides_of self.old).sent) }
+        ensures tests { OnOk result (IsTested self.old.nodes.upper.joined.index self.new.nodes.upper.joined.index
+            (T.number ticks.old) (T.number ticks.new)) }
     {
         let nodes = &mut self.nodes;
         nodes.remove_policy::<Brand, R, F, T>(id, namer, ticks)?;
@@ -182,6 +223,8 @@ impl GraphState {
         ensures follows { OnOk result (Follows R.digest_of (update.Put (keys.Tier name.now) (items.Tier tier.now))
             self.old self.new) }
         ensures sent { OnOk result ((sides_of self.new).sent ≡ (sides_of self.old).sent) }
+        ensures tests { OnOk result ((n : ℕ)
+            → IsTested self.old.nodes.upper.joined.index self.new.nodes.upper.joined.index n n) }
     {
         let nodes = &mut self.nodes;
         nodes.order_tier::<R>(name, tier)?;
@@ -192,6 +235,8 @@ impl GraphState {
         requires { CanFollow R.digest_of (update.Delete (keys.Tier name.now)) self.old }
         ensures follows { OnOk result (Follows R.digest_of (update.Delete (keys.Tier name.now)) self.old self.new) }
         ensures sent { OnOk result ((sides_of self.new).sent ≡ (sides_of self.old).sent) }
+        ensures tests { OnOk result ((n : ℕ)
+            → IsTested self.old.nodes.upper.joined.index self.new.nodes.upper.joined.index n n) }
     {
         let nodes = &mut self.nodes;
         nodes.drop_tier::<R>(name)?;
@@ -199,7 +244,7 @@ impl GraphState {
     }
 
     /// The datastore is in sync: the endpoints of this node that wait come into service. A second time it finds none.
-    pub(crate) fn begin<R: DigestRule, F: DigestFunction<R> + Drop, T: Ticker>(
+    fn begin<R: DigestRule, F: DigestFunction<R> + Drop, T: Ticker>(
         &mut self,
         namer: &Namer<R, F>,
         ticks: &mut T,
@@ -207,6 +252,8 @@ impl GraphState {
         requires { CanFollow R.digest_of update.InSync self.old }
         ensures follows { OnOk result (Follows R.digest_of update.InSync self.old self.new) }
         ensures sent { OnOk result ((sides_of self.new).sent ≡ (sides_of self.old).sent) }
+        ensures tests { OnOk result (IsTested self.old.nodes.upper.joined.index self.new.nodes.upper.joined.index
+            (T.number ticks.old) (T.number ticks.new)) }
     {
         let nodes = &mut self.nodes;
         nodes.begin(namer, ticks)?;

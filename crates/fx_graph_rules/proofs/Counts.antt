@@ -1,10 +1,10 @@
 -- What the index counts, as selectors and policies come and go.
-use Rattle.std.proofs.Common.{◌≡◌, ℕ, ◌+◌, ◌-◌, ◌<◌, nat_lt, true, false, cond, List, [], ◌∷◌, Option, Some, None, refl, sym, ap, ◌∙◌, subst, arith}
+use Rattle.std.proofs.Common.{◌≡◌, ℕ, ◌+◌, ◌-◌, ◌<◌, nat_lt, true, false, cond, List, [], ◌∷◌, Option, Some, None, is_some, refl, sym, ap, ◌∙◌, subst, arith}
 use Rattle.std.specs.declared.cmp.Ordering.TheVariants.{Less, Equal, Greater}
 use Rattle.std.specs.Ordering.{nat_cmp, is_eq, eq_by_cmp}
 use Rattle.std.specs.Cmp.{tied_itself}
 use Rattle.std.specs.Cmp.Lexicographic.{slice_cmp, nat_list_cmp_total}
-use Rattle.std.specs.FinMap.{find, put, entries, get, insert, remove, get-insert, get-remove, get-entries, entries-insert}
+use Rattle.std.specs.FinMap.{find, put, entries, get, insert, remove, contains_key, get-insert, get-remove, get-entries, entries-insert}
 use Rattle.std.specs.FinMap.Entries.{by_order}
 use Rattle.std.proofs.lemmas.Bool.Decides.{nat_tests}
 use Rattle.fx_base.specs.Extended.{put_or_removed}
@@ -22,9 +22,9 @@ use Rattle.fx_label_index.specs.Counts.{uses_in, raised, lowered_in, lowered}
 use Rattle.fx_label_index.specs.Matched.{text_eq, tests, holds_on}
 use Rattle.fx_label_index.specs.declared.counted.Counted.{Counted}
 use Rattle.fx_label_index.proofs.Canonicals.{one_canonical, canonical_more, canonical_less, raised_canonical}
-use Rattle.fx_active.specs.Active.{text_of}
+use Rattle.fx_active.specs.Active.{text_of, selector_text}
 use Rattle.fx_active.proofs.MapLemmas.{insert_back}
-use Rattle.fx_graph_rules.specs.Counting.{weight, weight_of, times_among, times, total, with_one, IsCounted}
+use Rattle.fx_graph_rules.specs.Counting.{weight, weight_of, times_among, times, total, with_one, IsCounted, StillCounted, IsCountedText}
 use Rattle.fx_base.proofs.AtKey.{insert_removed}
 use Rattle.fx_base.proofs.Cases.{same_some, moved, none_more}
 use Rattle.fx_base.proofs.Keyed.{remove_absent, get_removed}
@@ -162,3 +162,34 @@ pub policy_counted : (m : Policies) (used : List ℕ → ℕ) (id : PolicyId) (p
 policy_counted m used id p e =
     let t = text_of p in
     positive (times m t) (times (remove m id) t) (used t) (times_apart m id t ∙ ap (λ o. weight_of t o + times (remove m id) t) e ∙ ap (λ b. cond b 1 0 + times (remove m id) t) (own_text t))
+
+-- ---- what is counted is there
+-- one more leaves the others
+pub raised_still : (s : Selectors) (text : List ℕ) (tree : Tree) → StillCounted s (raised s text tree)
+raised_still s text tree = λ t h.
+    let more : Counted = record { selector = tree; uses = uses_in (get s text) + 1 } in
+    ap is_some (get-insert nat_list_cmp_total s text more t)
+    ∙ elim (eq_by_cmp (slice_cmp nat_cmp) t text) as (λ b. is_some (cond b (Some more) (get s t)) ≡ true) [ true ↦ refl | false ↦ h ]
+
+no_uses : {A : Type 0} → 0 < 0 → A
+no_uses h = absurd (omega (arith, h))
+
+not_there : {A : Type 0} → false ≡ true → A
+not_there h = cc
+
+module _ (s : Selectors) (uses : List ℕ → ℕ) (h : IsCounted s uses) (t : List ℕ) where
+  pub counted_there : 0 < uses t → contains_key s t ≡ true
+  counted_there p = elim (get s t) as (λ o. 0 < uses_in o → is_some o ≡ true) [ None ↦ λ q. no_uses q | Some c ↦ λ q. refl ] (subst (λ n. 0 < n) (sym (h.count t)) p)
+
+  pub there_counted : contains_key s t ≡ true → 0 < uses t
+  there_counted p = elim (get s t) as (λ o. get s t ≡ o → is_some o ≡ true → 0 < uses t) [
+    | None ↦ λ e q. not_there q
+    | Some c ↦ λ e q. subst (λ n. 0 < n) (ap uses_in (sym e) ∙ h.count t) (h.some t c e)
+  ] refl p
+
+-- a policy's text is counted
+pub policy_text_counted : (s : Selectors) (m : Policies) (used : List ℕ → ℕ) → IsCounted s (total m used) → (id : PolicyId) → IsCountedText s (selector_text (get m id))
+policy_text_counted s m used h id = elim (get m id) as (λ o. get m id ≡ o → IsCountedText s (selector_text o)) [
+  | None ↦ λ e. tt
+  | Some p ↦ λ e. counted_there s (total m used) h (text_of p) (policy_counted m used id p e)
+] refl

@@ -1,5 +1,5 @@
 -- How often the index counts a selector: once for each policy that has it, and as often as it is used besides.
-use Rattle.std.specs.Prelude.{◌≡◌, ℕ, ◌+◌, ◌<◌, cond, List, [], ◌∷◌, Option, Some, None}
+use Rattle.std.specs.Prelude.{◌≡◌, ℕ, ◌+◌, ◌<◌, cond, true, List, [], ◌∷◌, Option, Some, None, ⊤}
 use Rattle.std.specs.FinMap as map
 use Rattle.fx_model.specs.Sinks.{Policies}
 use Rattle.fx_model.specs.declared.ids.PolicyId.{PolicyId}
@@ -49,3 +49,12 @@ pub record IsCounted (s : Selectors) (uses : List ℕ → ℕ) : Type 0 where
   pub trees : AreCanonical s
   pub some : (t : List ℕ) (c : Counted) → map.get s t ≡ Some c → 0 < c.uses
   pub count : (t : List ℕ) → uses_in (map.get s t) ≡ uses t
+
+-- what was counted at first still is
+abbrev pub StillCounted : Selectors → Selectors → Type 0
+StillCounted first s = (t : List ℕ) → map.contains_key first t ≡ true → map.contains_key s t ≡ true
+
+-- the text, if there is one, is counted
+abbrev pub IsCountedText : Selectors → Option (List ℕ) → Type 0
+IsCountedText s None = ⊤
+IsCountedText s (Some t) = map.contains_key s t ≡ true

@@ -5,6 +5,7 @@ ghost use Rattle.fx_base.specs.Set as set;
 ghost use Rattle.fx_selector.specs.Tree.{IsSelector};
 ghost use Rattle.fx_selector.specs.Canonical.{canonical_text};
 ghost use Rattle.fx_label_index.specs.Counts.{raised, lowered};
+ghost use Rattle.fx_label_index.specs.Tested.{IsTested};
 ghost use Rattle.fx_graph_rules.specs.Joining.{IsJoined};
 ghost use Rattle.fx_graph_rules.specs.Run.{IsRun};
 
@@ -67,6 +68,7 @@ impl Joined {
         ensures changes { IfOk result (λ changes. IsRun changes self.old.pairs self.new.pairs) }
         ensures active { OnOk result (self.new.active ≡ record self.old.active { matched = self.new.pairs }) }
         ensures joined { OnOk result (IsJoined self.new (S.policies sink.new) (S.profiles sink.new) (S.pairs sink.new)) }
+        ensures tests { OnOk result (IsTested self.old.index self.new.index (T.number ticks.old) (T.number ticks.new)) }
     {
         let mut log: PairLog<K> = PairLog::new(self.alloc, self.take_pairs());
         self.index.put_item(key, labels, parents, &mut log, ticks)?;
@@ -90,6 +92,7 @@ impl Joined {
         ensures changes { IfOk result (λ changes. IsRun changes self.old.pairs self.new.pairs) }
         ensures active { OnOk result (self.new.active ≡ record self.old.active { matched = self.new.pairs }) }
         ensures joined { OnOk result (IsJoined self.new (S.policies sink.new) (S.profiles sink.new) (S.pairs sink.new)) }
+        ensures tests { OnOk result (IsTested self.old.index self.new.index (T.number ticks.old) (T.number ticks.new)) }
     {
         let mut log: PairLog<K> = PairLog::new(self.alloc, self.take_pairs());
         self.index.remove_item(key, &mut log, ticks)?;
@@ -114,6 +117,7 @@ impl Joined {
         ensures changes { IfOk result (λ changes. IsRun changes self.old.pairs self.new.pairs) }
         ensures active { OnOk result (self.new.active ≡ record self.old.active { matched = self.new.pairs }) }
         ensures joined { OnOk result (IsJoined self.new (S.policies sink.new) (S.profiles sink.new) (S.pairs sink.new)) }
+        ensures tests { OnOk result (IsTested self.old.index self.new.index (T.number ticks.old) (T.number ticks.new)) }
     {
         let mut log: PairLog<K> = PairLog::new(self.alloc, self.take_pairs());
         self.index.put_parent(name, labels, &mut log, ticks)?;
@@ -137,6 +141,7 @@ impl Joined {
         ensures changes { IfOk result (λ changes. IsRun changes self.old.pairs self.new.pairs) }
         ensures active { OnOk result (self.new.active ≡ record self.old.active { matched = self.new.pairs }) }
         ensures joined { OnOk result (IsJoined self.new (S.policies sink.new) (S.profiles sink.new) (S.pairs sink.new)) }
+        ensures tests { OnOk result (IsTested self.old.index self.new.index (T.number ticks.old) (T.number ticks.new)) }
     {
         let mut log: PairLog<K> = PairLog::new(self.alloc, self.take_pairs());
         self.index.remove_parent(name, &mut log, ticks)?;
@@ -163,6 +168,7 @@ impl Joined {
         ensures changes { IfOk result (λ changes. IsRun changes self.old.pairs self.new.pairs) }
         ensures active { OnOk result (self.new.active ≡ record self.old.active { matched = self.new.pairs }) }
         ensures joined { OnOk result (IsJoined self.new (S.policies sink.new) (S.profiles sink.new) (S.pairs sink.new)) }
+        ensures tests { OnOk result (IsTested self.old.index self.new.index (T.number ticks.old) (T.number ticks.new)) }
     {
         let mut log: PairLog<K> = PairLog::new(self.alloc, self.take_pairs());
         self.index.put_selector(text, selector, &mut log, ticks)?;
@@ -186,6 +192,8 @@ impl Joined {
         ensures changes { IfOk result (λ changes. IsRun changes self.old.pairs self.new.pairs) }
         ensures active { OnOk result (self.new.active ≡ record self.old.active { matched = self.new.pairs }) }
         ensures joined { OnOk result (IsJoined self.new (S.policies sink.new) (S.profiles sink.new) (S.pairs sink.new)) }
+        ensures tests { OnOk result (IsTested self.old.index self.new.index (T.number ticks.old) (T.number ticks.new)) }
+        ensures quiet { OnOk result (T.number ticks.new ≡ T.number ticks.old) }
     {
         let mut log: PairLog<K> = PairLog::new(self.alloc, self.take_pairs());
         self.index.remove_selector(text, &mut log, ticks)?;

@@ -1,11 +1,13 @@
 //! Policies, profiles and items, each put into both nodes.
-ghost use Rattle.std.specs.Prelude.{◌≡◌, ℕ, List, OnOk, IfOk};
+ghost use Rattle.std.specs.Prelude.{◌≡◌, ℕ, List, true, OnOk, IfOk};
 ghost use Rattle.std.specs.Option.{option_copied};
 ghost use Rattle.std.specs.FinMap as map;
 ghost use Rattle.fx_base.specs.Set as set;
 ghost use Rattle.fx_active.specs.Active.{selector_text};
+ghost use Rattle.fx_label_index.specs.Tested.{IsTested};
+ghost use Rattle.fx_label_index.specs.declared.held.Inputs.{Inputs};
 ghost use Rattle.fx_graph_rules.specs.Composed.{IsComposed};
-ghost use Rattle.fx_graph_rules.specs.Counting.{none_used, with_one, with_some};
+ghost use Rattle.fx_graph_rules.specs.Counting.{none_used, with_one, with_some, StillCounted, IsCountedText};
 ghost use Rattle.fx_graph_rules.specs.Run.{IsRun};
 ghost use Rattle.fx_graph_rules.specs.Uppers.{AreInStep, AreInStepForSome};
 
@@ -76,6 +78,9 @@ impl Upper {
             → AreInStep self.new.joined (with_some replaced.before used) (S.policies sink.new) (S.profiles sink.new) (S.pairs sink.new)) }
         ensures composed { OnOk result (IsComposed self.new.joined.index self.new.joined.active
             (S.policies sink.new) (S.profiles sink.new) (S.pairs sink.new)) }
+        ensures counted { OnOk result (StillCounted self.old.joined.index.selectors self.new.joined.index.selectors) }
+        ensures tests { OnOk result (IsTested self.old.joined.index self.new.joined.index
+            (T.number ticks.old) (T.number ticks.new)) }
     {
         let before = copied(self.joined.active.selector_text(id))?;
         let text = policy.selector.canonical(self.alloc)?;
@@ -132,6 +137,9 @@ impl Upper {
         ensures policies { OnOk result (S.policies sink.new ≡ S.policies sink.old) }
         ensures profiles { OnOk result (S.profiles sink.new ≡ S.profiles sink.old) }
         ensures pairs { OnOk result (S.pairs sink.new ≡ S.pairs sink.old) }
+        ensures tests { OnOk result ((first : Inputs) (m : ℕ) → map.contains_key first.selectors text.now ≡ true
+            → IsTested first self.old.joined.index m (T.number ticks.old)
+            → IsTested first self.new.joined.index m (T.number ticks.new)) }
     {
         let changes = self
             .joined
@@ -161,6 +169,9 @@ impl Upper {
         ensures policies { OnOk result (S.policies sink.new ≡ S.policies sink.old) }
         ensures profiles { OnOk result (S.profiles sink.new ≡ S.profiles sink.old) }
         ensures pairs { OnOk result (S.pairs sink.new ≡ S.pairs sink.old) }
+        ensures tests { OnOk result ((first : Inputs) (m : ℕ) → IsCountedText first.selectors text
+            → IsTested first self.old.joined.index m (T.number ticks.old)
+            → IsTested first self.new.joined.index m (T.number ticks.new)) }
     {
         let Some(text) = text else {
             return Ok(Seq::new(self.alloc));
@@ -188,6 +199,8 @@ impl Upper {
             → AreInStep self.new.joined used (S.policies sink.new) (S.profiles sink.new) (S.pairs sink.new)) }
         ensures composed { OnOk result (IsComposed self.new.joined.index self.new.joined.active
             (S.policies sink.new) (S.profiles sink.new) (S.pairs sink.new)) }
+        ensures tests { OnOk result (IsTested self.old.joined.index self.new.joined.index
+            (T.number ticks.old) (T.number ticks.new)) }
     {
         let changes = self
             .joined
@@ -214,6 +227,8 @@ impl Upper {
             → AreInStep self.new.joined used (S.policies sink.new) (S.profiles sink.new) (S.pairs sink.new)) }
         ensures composed { OnOk result (IsComposed self.new.joined.index self.new.joined.active
             (S.policies sink.new) (S.profiles sink.new) (S.pairs sink.new)) }
+        ensures tests { OnOk result (IsTested self.old.joined.index self.new.joined.index
+            (T.number ticks.old) (T.number ticks.new)) }
     {
         let changes = self.joined.remove_parent::<Brand, S, T>(name, sink, ticks)?;
         self.joined.active.remove_profile(name, sink)?;
@@ -240,6 +255,8 @@ impl Upper {
             → AreInStep self.new.joined used (S.policies sink.new) (S.profiles sink.new) (S.pairs sink.new)) }
         ensures composed { OnOk result (IsComposed self.new.joined.index self.new.joined.active
             (S.policies sink.new) (S.profiles sink.new) (S.pairs sink.new)) }
+        ensures tests { OnOk result (IsTested self.old.joined.index self.new.joined.index
+            (T.number ticks.old) (T.number ticks.new)) }
     {
         let changes = self
             .joined
@@ -291,6 +308,8 @@ impl Upper {
             → AreInStep self.new.joined used (S.policies sink.new) (S.profiles sink.new) (S.pairs sink.new)) }
         ensures composed { OnOk result (IsComposed self.new.joined.index self.new.joined.active
             (S.policies sink.new) (S.profiles sink.new) (S.pairs sink.new)) }
+        ensures tests { OnOk result (IsTested self.old.joined.index self.new.joined.index
+            (T.number ticks.old) (T.number ticks.new)) }
     {
         self.joined.active.remove_endpoint(key, sink)?;
         let changes = self
@@ -317,6 +336,8 @@ impl Upper {
             → AreInStep self.new.joined used (S.policies sink.new) (S.profiles sink.new) (S.pairs sink.new)) }
         ensures composed { OnOk result (IsComposed self.new.joined.index self.new.joined.active
             (S.policies sink.new) (S.profiles sink.new) (S.pairs sink.new)) }
+        ensures tests { OnOk result (IsTested self.old.joined.index self.new.joined.index
+            (T.number ticks.old) (T.number ticks.new)) }
     {
         self.joined.active.remove_endpoint(key, sink)?;
         let changes = self.joined.remove_item::<Brand, S, T>(key, sink, ticks)?;

@@ -1,6 +1,6 @@
 -- The entries of a map that has at each key what a function makes of another map's value there.
-use Rattle.std.proofs.Common.{◌≡◌, Bool, true, false, cond, ◌&&◌, List, [], ◌∷◌, map, Option, Some, None, T, refl, sym, ap, ◌∙◌}
-use Rattle.std.specs.Prelude.{filter}
+use Rattle.std.proofs.Common.{◌≡◌, Bool, true, false, cond, List, [], ◌∷◌, map, Option, Some, None, is_some, T, refl, sym, ap, ◌∙◌}
+use Rattle.std.specs.Prelude.{filter, option_map}
 use Rattle.std.specs.declared.cmp.Ordering.{Ordering}
 use Rattle.std.specs.declared.cmp.Ordering.TheVariants.{Less, Equal, Greater}
 use Rattle.std.specs.Ordering.{is_lt, is_eq}
@@ -85,6 +85,16 @@ mapped-kept p g (e ∷ es) =
       | true ↦ ap (λ ys. (e.0, g e.0 e.1) ∷ ys) (mapped-kept p g es)
       | false ↦ mapped-kept p g es
     ]
+
+-- each value is made into another one
+pub mapped-each : {K X Y : Type 0} (g : K → X → Y) (es : List (K × X)) → mapped (λ k x. Some (g k x)) es ≡ map (λ e. (e.0, g e.0 e.1)) es
+mapped-each g [] = refl
+mapped-each g (e ∷ es) = ap (λ ys. (e.0, g e.0 e.1) ∷ ys) (mapped-each g es)
+
+-- what is made of a value is there where the value is
+pub is_mapped : {A B : Type 0} (f : A → B) (o : Option A) → is_some (option_map f o) ≡ is_some o
+is_mapped f None = refl
+is_mapped f (Some x) = refl
 
 -- all values are kept as they are
 pub same_each : {A : Type 0} (xs : List A) → map (λ x. x) xs ≡ xs

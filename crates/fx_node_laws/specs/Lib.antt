@@ -4,3 +4,4 @@ pub mod Defined
 pub mod Empty
 pub mod Changes
 pub mod Waits
+pub mod Counted

@@ -1,7 +1,7 @@
 //! Laws on the relations of the nodes: from inputs that are those of the resources they make the view of the resources; an update
 //! keeps their inputs those of the resources; and what waits for the datastore as the resources change. Each law is a contract; no
 //! function does anything.
-ghost use Rattle.std.specs.Prelude.{◌≡◌, ℕ, List, true, Option, false, option_map};
+ghost use Rattle.std.specs.Prelude.{◌≡◌, ◌≤◌, ℕ, List, true, Option, false, option_map};
 ghost use Rattle.std.specs.FinMap as map;
 ghost use Rattle.fx_base.specs.Set as set;
 ghost use Rattle.fx_names.specs.Digests.{Digest};
@@ -41,6 +41,10 @@ ghost use Rattle.fx_model.specs.declared.resources.Update.TheVariants as update;
 ghost use Rattle.fx_node_laws.specs.Changes.{taken, with_served_endpoint, with_other_endpoint, without_endpoint, with_net_set, without_net_set, with_profile, without_profile, with_tier, without_tier, with_policy, without_policy, with_endpoints, KeepsTies, is_of_kind};
 ghost use Rattle.fx_model.specs.declared.waiting.Waiting.{Waiting};
 ghost use Rattle.fx_node_laws.specs.Waits.{waiting_of, waits, known_waiting, Queue, AreWaiting, with_waiting};
+ghost use Rattle.fx_node_laws.specs.Counted.{CountsUsed};
+ghost use Rattle.fx_label_index.specs.Tested.{most_between, least_between};
+ghost use Rattle.fx_model.specs.Tests.{most_tests, least_tests};
+ghost use Rattle.fx_model.specs.declared.resources.Update.{Update};
 
 /// Nodes without inputs, which told nothing, are those of no resources.
 pub fn empty_nodes_are_those_of_no_resources()
@@ -196,4 +200,18 @@ pub fn nothing_is_served_before_in_sync()
         → IsTied dg R n a r m → R.in_sync ≡ false → a.endpoints ≡ map.empty }
     ensures locals { (dg : Digest) (R : Resources) (n : index.Inputs) (a : active.Inputs) (r : resolver.Inputs) (m : members.Inputs)
         → IsTied dg R n a r m → R.in_sync ≡ false → r.endpoints ≡ map.empty }
+{}
+
+/// Between the index's inputs before an update and those after it lie no more tests than the update calls for at most, and no fewer
+/// than it calls for at least.
+pub fn tests_are_those_of_the_update()
+    ensures { (dg : Digest) (R : Resources) (u : Update) (n : index.Inputs) (a : active.Inputs) (r : resolver.Inputs) (m : members.Inputs)
+        (policies : Policies) (profiles : Profiles) (pairs : PolicyPairs) (s : scanner.Inputs) (v : View) (uses : Uses)
+        (n_now : index.Inputs) (a_now : active.Inputs) (r_now : resolver.Inputs) (m_now : members.Inputs)
+        (policies_now : Policies) (profiles_now : Profiles) (pairs_now : PolicyPairs) (s_now : scanner.Inputs) (v_now : View) (uses_now : Uses)
+        → IsTied dg R n a r m → IsTold dg n a policies profiles pairs s r m v uses → CountsUsed n.selectors a.policies uses
+        → IsTied dg (after R u) n_now a_now r_now m_now
+        → IsTold dg n_now a_now policies_now profiles_now pairs_now s_now r_now m_now v_now uses_now
+        → CountsUsed n_now.selectors a_now.policies uses_now
+        → (most_between n n_now ≤ most_tests R u) × (least_tests R u ≤ least_between n n_now) }
 {}

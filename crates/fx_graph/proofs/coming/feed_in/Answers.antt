@@ -16,6 +16,7 @@ loop-name-init g c = record {
   inputs = ap (λ m. record c.args.members.now { matched = m }) c.requires.matched;
   members = c.requires.members;
   beside = beside_none c.args.sequencer.now;
+  tests = λ first m it. it;
 }
 
 pub feed_one_in-requires-clause-matched : goal.feed_one_in-requires-clause-matched
@@ -34,6 +35,7 @@ loop-name-preserved g c =
       inputs = members_after c.args.members.now c.loop-name.members c.feed_one_in.new.members _ _ c.loop-name.invariant.inputs f.inputs;
       members = f.members;
       beside = beside_after _ _ _ c.loop-name.invariant.beside f.beside;
+      tests = λ first m it. f.tests first m (c.loop-name.invariant.tests first m it);
     }
 
 pub returns-clause-index : goal.returns-clause-index

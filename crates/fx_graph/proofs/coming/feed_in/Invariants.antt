@@ -1,9 +1,11 @@
-use Rattle.std.proofs.Common.{◌≡◌}
+use Rattle.std.proofs.Common.{◌≡◌, ℕ}
 use Rattle.std.specs.FinMap as map
+use Rattle.fx_label_index.specs.declared.held.Inputs.{Inputs}
 use Rattle.fx_graph_rules.specs.Joining.{IsJoined}
 use Rattle.fx_members.specs.Members.{AreMembers}
 use Rattle.fx_graph_view.specs.Kept.{SameButSets}
 use Rattle.fx_graph.specs.Fed.{raised_by}
+use Rattle.fx_graph.specs.Testing.{IsRaisedFrom}
 use Rattle.fx_graph.proofs.Walked.{IsRising}
 use Rattle.fx_graph.proofs.coming.feed_in.Given as goal
 
@@ -16,4 +18,5 @@ invariant-loop-name g l = record {
   inputs : l.members ≡ record l.fn.members { matched = l.joined.pairs };
   members : AreMembers l.members l.sequencer.wanted.sets;
   beside : SameButSets l.fn.sequencer l.sequencer;
+  tests : (first : Inputs) (m : ℕ) → IsRaisedFrom first m l.fn.joined.index (g.T.Ticker.number l.fn.ticks) → IsRaisedFrom first m l.joined.index (g.T.Ticker.number l.ticks);
 }

@@ -1,10 +1,13 @@
-use Rattle.std.proofs.Common.{ap, ◌∙◌}
+use Rattle.std.proofs.Common.{ap, ◌∙◌, sym, subst}
 use Rattle.std.specs.FinMap as map
+use Rattle.fx_label_index.specs.Tested.{IsTested}
 use Rattle.fx_graph_rules.proofs.Composing.{composed}
 use Rattle.fx_graph_rules.proofs.SameTold.{same_told}
 use Rattle.fx_graph.specs.Fed.{lowered_by}
 use Rattle.fx_graph.proofs.Changed.{index_after, index_own, active_after, members_after, beside_after}
 use Rattle.fx_graph.proofs.Uppers.{fed_upper}
+use Rattle.fx_graph.specs.Testing.{IsRaisedFrom}
+use Rattle.fx_graph.proofs.Testing.{noted_lowered}
 use Rattle.fx_graph.proofs.feeding.feed.Goals as goal
 
 pub feed_in-requires-clause-joined : goal.feed_in-requires-clause-joined
@@ -42,3 +45,12 @@ returns-clause-inputs g c = members_after c.args.members.now c.feed_in.new.membe
 
 pub returns-clause-beside : goal.returns-clause-beside
 returns-clause-beside g c = beside_after _ _ _ c.in_ok-feed_in.ensures.beside c.in_ok-feed_out.ensures.beside
+
+pub returns-clause-tests : goal.returns-clause-tests
+returns-clause-tests g c = λ was first m noted sets still it.
+    let o = c.in_ok-feed_out.ensures in
+    let k = g.T.Ticker.number c.feed_in.new.ticks in
+    let came : IsRaisedFrom first m c.feed_in.new.joined.index k =
+    c.in_ok-feed_in.ensures.tests first m (record { trees = c.requires.since.1.upper.counted.trees; still = still; tests = it }) in
+    subst (λ n. IsTested first c.feed_out.new.joined.index m n) (sym o.quiet)
+    (subst (λ b. IsTested first b m k) (sym o.index) (noted_lowered first m k c.args.notes.now was c.args.uses.now noted sets c.feed_in.new.joined.index came.tests))

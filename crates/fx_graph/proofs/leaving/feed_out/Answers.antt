@@ -16,6 +16,7 @@ loop-was-init g c = record {
   inputs = ap (λ m. record c.args.members.now { matched = m }) c.requires.matched;
   members = c.requires.members;
   beside = beside_none c.args.sequencer.now;
+  quiet = refl;
 }
 
 pub feed_one_out-requires-clause-matched : goal.feed_one_out-requires-clause-matched
@@ -34,6 +35,7 @@ loop-was-preserved g c =
       inputs = members_after c.args.members.now c.loop-was.members c.feed_one_out.new.members _ _ c.loop-was.invariant.inputs f.inputs;
       members = f.members;
       beside = beside_after _ _ _ c.loop-was.invariant.beside f.beside;
+      quiet = f.quiet ∙ c.loop-was.invariant.quiet;
     }
 
 pub returns-clause-index : goal.returns-clause-index

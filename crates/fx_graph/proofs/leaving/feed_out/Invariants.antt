@@ -16,4 +16,5 @@ invariant-loop-was g l = record {
   inputs : l.members ≡ record l.fn.members { matched = l.joined.pairs };
   members : AreMembers l.members l.sequencer.wanted.sets;
   beside : SameButSets l.fn.sequencer l.sequencer;
+  quiet : g.T.Ticker.number l.ticks ≡ g.T.Ticker.number l.fn.ticks;
 }

@@ -1,13 +1,7 @@
-use Rattle.std.proofs.Common.{◌≡◌, true, subst}
-use Rattle.fx_model.specs.declared.resources.Update.{Update}
-use Rattle.fx_graph.specs.Graphs.{CanFollow}
+use Rattle.fx_graph.proofs.Bounded.{tests_of_update}
 use Rattle.fx_graph.proofs.graph.Graph.apply.Goals as goal
 
-pub put-requires-clause-resources : goal.put-requires-clause-resources
-put-requires-clause-resources g c = subst (λ (u : Update). CanFollow g.R.DigestRule.digest_of u c.args.self.now.state) c.in-Put.is c.requires.resources
-
-pub delete-requires : goal.delete-requires
-delete-requires g c = subst (λ (u : Update). CanFollow g.R.DigestRule.digest_of u c.args.self.now.state) c.in-Delete.is c.requires.resources
-
-pub begin-requires : goal.begin-requires
-begin-requires g c = subst (λ (u : Update). CanFollow g.R.DigestRule.digest_of u c.args.self.now.state) c.in-InSync.is c.requires.resources
+pub returns-clause-tests : goal.returns-clause-tests
+returns-clause-tests g c = λ R is.
+    let it = c.in_ok-apply.ensures in
+    tests_of_update g.R.DigestRule.digest_of R c.args.update.now c.args.self.now.state c.apply.new.self is (it.follows R is) _ _ it.tests

@@ -3,6 +3,7 @@ use Rattle.fx_node_laws.specs.Changes.{Taken}
 use Rattle.fx_node_laws.specs.Waits.{Queue, with_waiting}
 use Rattle.fx_graph.specs.Taking.{AreApart, AreOwnTogether, AreShort, serving, taken_of}
 use Rattle.fx_graph.proofs.Kept.{settled_waiting}
+use Rattle.fx_label_index.specs.Tested.{IsTested}
 use Rattle.fx_graph.proofs.nodes.Nodes.begin.Goals as goal
 
 pub put_locals-requires-clause-short : goal.put_locals-requires-clause-short
@@ -28,3 +29,8 @@ returns-clause-taken g c =
     c.in_ok-serve_all.ensures.taken
     ∙ ap (λ (s : Taken). serving c.replace-waiting.result s) c.in_ok-put_locals.ensures.taken
     ∙ ap (λ (w : Queue). with_waiting g.R.DigestRule.digest_of w t) c.replace-waiting.ensures.value
+
+pub returns-clause-tests : goal.returns-clause-tests
+returns-clause-tests g c =
+    subst (λ n. IsTested n c.serve_all.new.self.upper.joined.index (g.T.Ticker.number c.args.ticks.now) (g.T.Ticker.number c.serve_all.new.ticks))
+    (c.in_ok-put_locals.ensures.index) c.in_ok-serve_all.ensures.tests

@@ -44,3 +44,6 @@ returns-clause-settled g c =
       members = m.members;
       formed = h.formed;
     }
+
+pub returns-clause-tests : goal.returns-clause-tests
+returns-clause-tests g c = λ first m there it. c.in_ok-changes.ensures.tests first m there it

@@ -24,6 +24,7 @@ loop-key-init g c =
       others = refl;
       beside = record { waiting = refl; sent = refl };
       settled = c.requires.settled;
+      index = refl;
     }
 
 pub put_local-requires-clause-short : goal.put_local-requires-clause-short
@@ -68,6 +69,7 @@ loop-key-preserved g c =
       others = others_next (taken_of c.args.self.now) (taken_of c.loop-key.self) (taken_of c.put_local.new.self) k (known_waiting dg x) i.others taken;
       beside = record { waiting = p.beside.waiting ∙ i.beside.waiting; sent = p.beside.sent ∙ i.beside.sent };
       settled = p.settled;
+      index = p.index ∙ i.index;
     }
 
 pub returns-clause-taken : goal.returns-clause-taken

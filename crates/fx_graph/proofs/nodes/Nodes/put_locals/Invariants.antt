@@ -16,4 +16,5 @@ invariant-loop-key g l = record {
   others : taken_of l.self ≡ record (taken_of l.fn.self) { locals = l.self.resolver.endpoints };
   beside : IsBeside l.fn.self l.self;
   settled : IsInStep g.R.DigestRule.digest_of None l.self;
+  index : l.self.upper.joined.index ≡ l.fn.self.upper.joined.index;
 }

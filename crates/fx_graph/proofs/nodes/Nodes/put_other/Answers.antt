@@ -1,5 +1,6 @@
 use Rattle.std.proofs.Common.{◌≡◌, sym, ◌∙◌, subst}
 use Rattle.fx_graph.specs.Taking.{AreApart, labelled_other, without_local, contributing, taken_of}
+use Rattle.fx_label_index.specs.Tested.{IsTested}
 use Rattle.fx_graph.proofs.nodes.Nodes.put_other.Goals as goal
 
 pub label_other-requires-clause-apart : goal.label_other-requires-clause-apart
@@ -18,3 +19,8 @@ returns-clause-taken g c =
 
 pub returns-clause-beside : goal.returns-clause-beside
 returns-clause-beside g c = record { waiting = c.in_ok-label_other.ensures.beside.waiting ∙ c.in_ok-remove_local.ensures.beside.waiting ∙ c.in_ok-contribute.ensures.beside.waiting; sent = c.in_ok-label_other.ensures.beside.sent ∙ c.in_ok-remove_local.ensures.beside.sent ∙ c.in_ok-contribute.ensures.beside.sent }
+
+pub returns-clause-tests : goal.returns-clause-tests
+returns-clause-tests g c =
+    subst (λ n. IsTested n c.label_other.new.self.upper.joined.index (g.T.Ticker.number c.args.ticks.now) (g.T.Ticker.number c.label_other.new.ticks))
+    (c.in_ok-remove_local.ensures.index ∙ c.in_ok-contribute.ensures.index) c.in_ok-label_other.ensures.tests

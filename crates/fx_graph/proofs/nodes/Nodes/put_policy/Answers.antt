@@ -1,11 +1,13 @@
 use Rattle.std.proofs.Common.{◌≡◌, None, refl, sym, ◌∙◌, subst}
 use Rattle.fx_graph_rules.specs.Composed.{IsComposed}
-use Rattle.fx_graph_rules.specs.Counting.{with_some}
+use Rattle.fx_graph_rules.specs.Counting.{with_some, IsCountedText}
+use Rattle.fx_graph_rules.proofs.Counts.{policy_text_counted}
 use Rattle.fx_graph_rules.specs.Uppers.{AreInStep}
 use Rattle.fx_graph.specs.Used.{used_in}
 use Rattle.fx_graph.specs.Taking.{taken_of}
 use Rattle.fx_graph.specs.BehindBy.{IsBehindBy}
 use Rattle.fx_graph.proofs.Kept.{ahead}
+use Rattle.fx_graph.proofs.Testing.{sets_counted}
 use Rattle.fx_graph.proofs.nodes.Nodes.put_policy.Goals as goal
 
 pub put_policy-requires : goal.put_policy-requires
@@ -42,3 +44,12 @@ forget-requires g c =
     (ahead g.R.DigestRule.digest_of c.args.self.now c.requires.settled g.K.ActiveStart.told_then c.into_logged.result c.requires.start c.into_logged.ensures.since c.in_ok-replaced.replaced.before _ _ _
     (subst (λ l. AreInStep c.put_policy.new.self.joined (with_some c.in_ok-replaced.replaced.before (used_in c.args.self.now.uses)) l.told.policies l.told.profiles l.told.pairs) (sym c.into_logged.ensures.logged) (c.in_ok-replaced.ensures.upper (used_in c.args.self.now.uses) first))
     c.in_ok-replaced.ensures.changes)
+
+pub returns-clause-tests : goal.returns-clause-tests
+returns-clause-tests g c =
+    let first = c.args.self.now.upper.joined in
+    let counted = c.requires.settled.upper.counted in
+    let e = c.in_ok-replaced.ensures in
+    c.in_ok-forget.ensures.tests first.index _
+    (subst (IsCountedText first.index.selectors) (sym e.before) (policy_text_counted first.index.selectors first.active.policies (used_in c.args.self.now.uses) counted c.args.id.now))
+    (c.in_ok-settle.ensures.tests first.index _ (sets_counted first.index.selectors first.active.policies c.args.self.now.uses counted) e.counted e.tests)

@@ -4,6 +4,7 @@ use Rattle.std.specs.FinMap as map
 use Rattle.fx_model.specs.Views.{profile_key}
 use Rattle.fx_resolver.specs.Resolved.{HaveOwnInterfaces}
 use Rattle.fx_graph.specs.Taking.{AreApart, labelled_served, with_local, contributing, taken_of}
+use Rattle.fx_label_index.specs.Tested.{IsTested}
 use Rattle.fx_graph.proofs.nodes.Nodes.put_served.Goals as goal
 
 pub put_local-requires-clause-apart : goal.put_local-requires-clause-apart
@@ -28,3 +29,8 @@ returns-clause-taken g c =
 
 pub returns-clause-beside : goal.returns-clause-beside
 returns-clause-beside g c = record { waiting = c.in_ok-label_served.ensures.beside.waiting ∙ c.in_ok-put_local.ensures.beside.waiting ∙ c.in_ok-contribute.ensures.beside.waiting; sent = c.in_ok-label_served.ensures.beside.sent ∙ c.in_ok-put_local.ensures.beside.sent ∙ c.in_ok-contribute.ensures.beside.sent }
+
+pub returns-clause-tests : goal.returns-clause-tests
+returns-clause-tests g c =
+    subst (λ n. IsTested n c.label_served.new.self.upper.joined.index (g.T.Ticker.number c.args.ticks.now) (g.T.Ticker.number c.label_served.new.ticks))
+    (c.in_ok-put_local.ensures.index ∙ c.in_ok-contribute.ensures.index) c.in_ok-label_served.ensures.tests

@@ -1,10 +1,14 @@
-use Rattle.std.proofs.Common.{◌≡◌, None, refl, sym, ◌∙◌, subst}
+use Rattle.std.proofs.Common.{◌≡◌, None, refl, sym, ◌∙◌, subst, ap}
+use Rattle.std.specs.FinMap as map
+use Rattle.fx_label_index.specs.Tested.{IsTested}
+use Rattle.fx_label_index.proofs.Sums.{self_tested}
 use Rattle.fx_graph_rules.specs.Composed.{IsComposed}
 use Rattle.fx_graph_rules.specs.Counting.{with_some}
 use Rattle.fx_graph_rules.specs.Uppers.{AreInStep}
 use Rattle.fx_graph.specs.Used.{used_in}
 use Rattle.fx_graph.specs.Taking.{taken_of}
 use Rattle.fx_graph.proofs.Kept.{ahead, no_changes}
+use Rattle.fx_graph.proofs.Testing.{sets_counted}
 use Rattle.fx_graph.proofs.nodes.Nodes.serve_all.Goals as goal
 
 pub serve_each-requires : goal.serve_each-requires
@@ -41,3 +45,11 @@ returns-clause-settled g c =
     (ahead g.R.DigestRule.digest_of c.args.self.now c.requires.settled g.K.ActiveStart.told_then c.into_logged.result c.requires.start c.into_logged.ensures.since None _ _ _
     (subst (λ l. AreInStep c.serve_each.new.upper.joined (with_some None (used_in c.args.self.now.uses)) l.told.policies l.told.profiles l.told.pairs) (sym c.into_logged.ensures.logged) (c.in_ok-serve_each.ensures.upper (used_in c.args.self.now.uses) first))
     (no_changes _ c.new-changes.ensures _ _ (sym c.in_ok-serve_each.ensures.pairs)))
+
+pub returns-clause-tests : goal.returns-clause-tests
+returns-clause-tests g c =
+    let first = c.args.self.now.upper.joined in
+    let m = g.T.Ticker.number c.args.ticks.now in
+    let same = c.in_ok-serve_each.ensures.index in
+    c.in_ok-settle.ensures.tests first.index m (sets_counted first.index.selectors first.active.policies c.args.self.now.uses c.requires.settled.upper.counted)
+    (λ t there. ap (λ n. map.contains_key n.selectors t) same ∙ there) (subst (λ n. IsTested first.index n m m) (sym same) (self_tested first.index m))

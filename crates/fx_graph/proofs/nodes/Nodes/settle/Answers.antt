@@ -81,3 +81,6 @@ returns-clause-settled g c = λ before h.
       members = f.members;
       formed = s.formed;
     }
+
+pub returns-clause-tests : goal.returns-clause-tests
+returns-clause-tests g c = λ first m sets still it. c.in_ok-feed.ensures.tests c.args.self.now.uses first m c.in_ok-noted.ensures.noted sets still it

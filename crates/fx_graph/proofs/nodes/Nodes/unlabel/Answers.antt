@@ -1,4 +1,5 @@
-use Rattle.std.proofs.Common.{◌≡◌, None, refl, sym, ◌∙◌, subst}
+use Rattle.std.proofs.Common.{◌≡◌, None, refl, sym, ◌∙◌, subst, ap}
+use Rattle.std.specs.FinMap as map
 use Rattle.fx_graph_rules.specs.Composed.{IsComposed}
 use Rattle.fx_graph_rules.specs.Counting.{with_some}
 use Rattle.fx_graph_rules.specs.Uppers.{AreInStep}
@@ -6,6 +7,7 @@ use Rattle.fx_graph.specs.Used.{used_in}
 use Rattle.fx_graph.specs.Taking.{taken_of}
 use Rattle.fx_graph.specs.BehindBy.{IsBehindBy}
 use Rattle.fx_graph.proofs.Kept.{ahead}
+use Rattle.fx_graph.proofs.Testing.{sets_counted}
 use Rattle.fx_graph.proofs.nodes.Nodes.unlabel.Goals as goal
 
 pub remove_item-requires : goal.remove_item-requires
@@ -42,3 +44,10 @@ returns-clause-settled g c =
     (ahead g.R.DigestRule.digest_of c.args.self.now c.requires.settled g.K.ActiveStart.told_then c.into_logged.result c.requires.start c.into_logged.ensures.since None _ _ _
     (subst (λ l. AreInStep c.remove_item.new.self.joined (with_some None (used_in c.args.self.now.uses)) l.told.policies l.told.profiles l.told.pairs) (sym c.into_logged.ensures.logged) (c.in_ok-changes.ensures.upper (used_in c.args.self.now.uses) first))
     c.in_ok-changes.ensures.changes)
+
+pub returns-clause-tests : goal.returns-clause-tests
+returns-clause-tests g c =
+    let first = c.args.self.now.upper.joined in
+    let e = c.in_ok-changes.ensures in
+    c.in_ok-settle.ensures.tests first.index _ (sets_counted first.index.selectors first.active.policies c.args.self.now.uses c.requires.settled.upper.counted)
+    (λ t there. ap (λ n. map.contains_key n.selectors t) e.index ∙ there) e.tests

@@ -1,7 +1,8 @@
-use Rattle.std.proofs.Common.{◌∙◌}
+use Rattle.std.proofs.Common.{ap, ◌∙◌}
 use Rattle.std.specs.FinMap as map
 use Rattle.fx_graph_rules.proofs.Uppers.{upper_put}
 use Rattle.fx_graph_rules.proofs.Composing.{composed}
+use Rattle.fx_graph_rules.proofs.Counts.{raised_still}
 use Rattle.fx_graph_rules.proofs.nodes.Upper.put_policy.Goals as goal
 
 pub returns-clause-upper : goal.returns-clause-upper
@@ -17,3 +18,8 @@ returns-clause-upper g c = λ used u.
 
 pub returns-clause-composed : goal.returns-clause-composed
 returns-clause-composed g c = composed _ _ _ _ _ (returns-clause-upper g c c.requires.0 c.requires.1)
+
+pub returns-clause-counted : goal.returns-clause-counted
+returns-clause-counted g c = λ t h.
+    let old = c.args.self.now.joined.index.selectors in
+    ap (λ n. map.contains_key n.selectors t) c.in_ok-changes.ensures.index ∙ raised_still old c.in_ok-text.text c.args.policy.now.selector t h

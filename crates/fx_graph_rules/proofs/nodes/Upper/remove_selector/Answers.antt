@@ -1,3 +1,6 @@
+use Rattle.std.proofs.Common.{sym, subst}
+use Rattle.fx_label_index.specs.Tested.{IsTested}
+use Rattle.fx_label_index.proofs.Tested.{then_lower}
 use Rattle.fx_graph_rules.proofs.Uppers.{upper_less}
 use Rattle.fx_graph_rules.proofs.Composing.{composed}
 use Rattle.fx_graph_rules.proofs.SameTold.{same_told}
@@ -26,3 +29,10 @@ pub returns-clause-pairs : goal.returns-clause-pairs
 returns-clause-pairs g c =
     let s = c.in_ok-changes.ensures in
     (same_told _ _ _ _ _ (composed _ _ _ _ _ c.requires.1) _ _ _ _ _ (returns-clause-composed g c) _ s.index _ s.active).pairs
+
+pub returns-clause-tests : goal.returns-clause-tests
+returns-clause-tests g c = λ first m there it.
+    let s = c.in_ok-changes.ensures in
+    let k = g.T.Ticker.number c.args.ticks.now in
+    subst (λ n. IsTested first c.remove_selector.new.self.index m n) (sym s.quiet)
+    (subst (λ b. IsTested first b m k) (sym s.index) (then_lower first c.args.self.now.joined.index c.args.text.now m k it there))
