@@ -1,13 +1,18 @@
 -- A soak run, line by line.
-use Rattle.std.proofs.Common.{◌≡◌, ◌+◌, ◌-◌, ◌^◌, ℕ, suc, min, List, [], ◌∷◌, ◌++◌, length, Option, Some, None, sym, ◌∙◌, ap, arith}
+use Rattle.std.proofs.Common.{◌≡◌, ◌+◌, ◌-◌, ◌^◌, ℕ, suc, min, List, [], ◌∷◌, ◌++◌, length, Option, Some, None, sym, ◌∙◌, ap, subst, arith}
+use Rattle.fx_base.specs.Ticks.{IsTicked}
+use Rattle.fx_base.proofs.TickLemmas.{IsTicked-sum}
 use Rattle.fx_gen.specs.Generator.{line_of}
 use Rattle.fx_model.specs.Messages.{Flush}
+use Rattle.fx_model.specs.declared.resources.Resources.{Resources}
+use Rattle.fx_model.specs.declared.resources.Update.{Update}
 use Rattle.fx_names.specs.Digests.{Digest}
 use Rattle.fx_replay.specs.declared.tally.Tally.{Tally}
 use Rattle.fx_replay.specs.Output.{State, start, next, flushed_by}
 use Rattle.fx_run.specs.Run.{state_after}
-use Rattle.felix_replay.specs.Soak.{drawn_lines, flushes_in, messages_in, flushes_along, messages_along, tally_of, tally_along}
+use Rattle.felix_replay.specs.Soak.{drawn_lines, flushes_in, messages_in, flushes_along, messages_along, tests_along, tally_of, tally_along}
 use Rattle.fx_replay.specs.Tallies.{told_number, tally_after, one_flush_more}
+use Rattle.fx_replay.specs.Tests.{tests_by}
 use Rattle.fx_run.proofs.Runs.{state_after-push}
 
 pub drawn-more : (seed : ℕ) (node : List ℕ) (n : ℕ) → drawn_lines seed node (n + 1) ≡ drawn_lines seed node n ++ line_of seed n node ∷ []
@@ -34,6 +39,14 @@ messages-push s (x ∷ xs) line =
     let t = state_after next (next s x) xs in
     ap (λ (n : ℕ). messages_in (flushed_by s x) + n) (messages-push (next s x) xs line)
     ∙ regroup (messages_in (flushed_by s x)) (messages_along (next s x) xs) (messages_in (flushed_by t line))
+
+tests-push : (f : Resources → Update → ℕ) (s : State) (lines : List (List ℕ)) (line : List ℕ) → tests_along f s (lines ++ line ∷ []) ≡ tests_along f s lines + tests_by f (state_after next s lines) line
+unfolding tests_along state_after
+tests-push f s [] line = plus_none (tests_by f s line)
+tests-push f s (x ∷ xs) line =
+    let t = state_after next (next s x) xs in
+    ap (λ (n : ℕ). tests_by f s x + n) (tests-push f (next s x) xs line)
+    ∙ regroup (tests_by f s x) (tests_along f (next s x) xs) (tests_by f t line)
 
 same_tally : (a b c d : ℕ) → a ≡ c → b ≡ d → tally_of a b ≡ tally_of c d
 same_tally a b c d e f = λ j. tally_of (e j) (f j)
@@ -69,6 +82,9 @@ module _ (dg : Digest) (node : List ℕ) (seed n : ℕ) where
       ∙ same_tally _ _ _ _ (sym (flushes-push (start dg node) lines drawn)) (sym (messages-push (start dg node) lines drawn))
       ∙ ap (λ (l : List (List ℕ)). tally_along (start dg node) l) (sym (drawn-more seed node n))
 
+  tests-more : (f : Resources → Update → ℕ) → tests_along f (start dg node) lines + tests_by f behind drawn ≡ tests_along f (start dg node) (drawn_lines seed node (n + 1))
+  tests-more f = sym (tests-push f (start dg node) lines drawn) ∙ ap (λ (l : List (List ℕ)). tests_along f (start dg node) l) (sym (drawn-more seed node n))
+
   module _ (s : State) (line : List ℕ) (is : s ≡ behind) (same : line ≡ drawn) where
     -- one drawn line more
     pub state-drawn : (now : State) → now ≡ next s line → now ≡ state_after next (start dg node) (drawn_lines seed node (n + 1))
@@ -81,6 +97,21 @@ module _ (dg : Digest) (node : List ℕ) (seed n : ℕ) where
         ∙ ap (λ (l : List ℕ). tally_after (tally_along (start dg node) lines) (flushed_by s l)) same
         ∙ ap (λ (t : State). tally_after (tally_along (start dg node) lines) (flushed_by t drawn)) is
         ∙ tally-push
+
+    tests-of : (f : Resources → Update → ℕ) → tests_along f (start dg node) lines + tests_by f s line ≡ tests_along f (start dg node) (drawn_lines seed node (n + 1))
+    tests-of f =
+        ap (λ (l : List ℕ). tests_along f (start dg node) lines + tests_by f s l) same
+        ∙ ap (λ (t : State). tests_along f (start dg node) lines + tests_by f t drawn) is
+        ∙ tests-more f
+
+    pub tests-drawn : (least most : Resources → Update → ℕ) (old mid new : ℕ) → IsTicked (tests_along least (start dg node) lines) (tests_along most (start dg node) lines) old mid → IsTicked (tests_by least s line) (tests_by most s line) mid new
+        → IsTicked (tests_along least (start dg node) (drawn_lines seed node (n + 1))) (tests_along most (start dg node) (drawn_lines seed node (n + 1))) old new
+    tests-drawn least most old mid new before here =
+        let few = tests_along least (start dg node) lines in
+        let many = tests_along most (start dg node) lines in
+        subst (λ (k : ℕ). IsTicked k (tests_along most (start dg node) (drawn_lines seed node (n + 1))) old new) (tests-of least)
+        (subst (λ (k : ℕ). IsTicked (few + tests_by least s line) k old new) (tests-of most)
+        (IsTicked-sum few many (tests_by least s line) (tests_by most s line) old mid new before here))
 
 -- the last flush
 pub tally-end : (f m sent : ℕ) (was now : Tally) → was ≡ tally_of f m → now ≡ one_flush_more was (min sent (2 ^ 64 - 1)) → now ≡ tally_of (f + 1) (m + sent)

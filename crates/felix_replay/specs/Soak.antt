@@ -2,6 +2,9 @@
 use Rattle.std.specs.Prelude.{ℕ, zero, suc, ◌+◌, ◌-◌, List, [], ◌∷◌, ◌++◌, length, Bool, Option, Some, None}
 use Rattle.fx_names.specs.Digests.{Digest}
 use Rattle.fx_model.specs.Messages.{Flush}
+use Rattle.fx_model.specs.Tests.{least_tests, most_tests}
+use Rattle.fx_model.specs.declared.resources.Resources.{Resources}
+use Rattle.fx_model.specs.declared.resources.Update.{Update}
 use Rattle.fx_gen.specs.Generator.{line_of}
 use Rattle.fx_print.specs.Texts.{soak_line}
 use Rattle.fx_words.specs.declared.words.Soak.{Soak}
@@ -9,6 +12,7 @@ use Rattle.fx_replay.specs.declared.tally.Tally.{Tally}
 use Rattle.fx_run.specs.Run.{state_after}
 use Rattle.fx_replay.specs.Output.{State, start, next, flush_of, flushed_by}
 use Rattle.fx_replay.specs.Tallies.{told_number}
+use Rattle.fx_replay.specs.Tests.{tests_by}
 
 -- the lines below an index
 unfoldable pub drawn_lines : ℕ → List ℕ → ℕ → List (List ℕ)
@@ -32,6 +36,11 @@ unfoldable pub messages_along : State → List (List ℕ) → ℕ
 messages_along s [] = 0
 messages_along s (line ∷ lines) = messages_in (flushed_by s line) + messages_along (next s line) lines
 
+-- how many tests of selectors the accepted updates of a run call for, where each calls for as many as f says
+unfoldable pub tests_along : (f : Resources → Update → ℕ) → State → List (List ℕ) → ℕ
+tests_along f s [] = 0
+tests_along f s (line ∷ lines) = tests_by f s line + tests_along f (next s line) lines
+
 -- behind the last line
 abbrev pub soak_end : Digest → List ℕ → Soak → State
 soak_end dg node soak = state_after next (start dg node) (drawn_lines soak.seed node soak.count)
@@ -43,6 +52,13 @@ soak_flushes dg node soak = flushes_along (start dg node) (drawn_lines soak.seed
 abbrev pub soak_messages : Digest → List ℕ → Soak → ℕ
 soak_messages dg node soak =
     messages_along (start dg node) (drawn_lines soak.seed node soak.count) + length (flush_of (soak_end dg node soak)).messages
+
+-- those of a soak run, at least and at most; the last flush calls for none
+abbrev pub soak_least : Digest → List ℕ → Soak → ℕ
+soak_least dg node soak = tests_along least_tests (start dg node) (drawn_lines soak.seed node soak.count)
+
+abbrev pub soak_most : Digest → List ℕ → Soak → ℕ
+soak_most dg node soak = tests_along most_tests (start dg node) (drawn_lines soak.seed node soak.count)
 
 -- what is written, with the number of ticks
 abbrev pub soak_output : Digest → List ℕ → Soak → ℕ → List ℕ

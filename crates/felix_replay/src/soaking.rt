@@ -1,9 +1,11 @@
 //! The soak run: the lines of a seed in the place of an input.
 ghost use Rattle.std.specs.Prelude.{◌≡◌, OnOk, OnErr, IfOk, IsErrOf, false};
+ghost use Rattle.fx_base.specs.Ticks.{IsTicked};
 ghost use Rattle.fx_replay.specs.Standing.{state_of};
 ghost use Rattle.fx_replay.specs.Output.{start};
-ghost use Rattle.felix_replay.specs.Soak.{soak_end, tally_along, drawn_lines};
+ghost use Rattle.felix_replay.specs.Soak.{soak_end, soak_least, soak_most, tally_along, drawn_lines};
 ghost use Rattle.fx_replay.specs.Tallies.{no_flushes};
+ghost use Rattle.fx_replay.specs.Tests.{ticks_of};
 ghost use Rattle.felix_replay.specs.SoakRuns.{SumsUp, SoakRan, SoakStopped};
 ghost use Rattle.fx_run.specs.Ran.{SinkFailed};
 
@@ -68,6 +70,7 @@ fn sum_up_over<R: DigestRule, F: DigestFunction<R> + Drop>(
     requires state { state_of R.digest_of replay.old.agent replay.old.lines replay.old.refused
         ≡ start R.digest_of node.now }
     requires tally { replay.old.tally ≡ no_flushes }
+    requires ticks { ticks_of replay.old.ticks ≡ 0 }
     ensures { IfOk result (λ summary. SumsUp R.digest_of node.now run summary.line summary.refused) }
 {
     answer_drawn(alloc, node, run, replay)?;
@@ -97,11 +100,14 @@ fn answer_drawn<R: DigestRule, F: DigestFunction<R> + Drop>(
     requires state { state_of R.digest_of replay.old.agent replay.old.lines replay.old.refused
         ≡ start R.digest_of node.now }
     requires tally { replay.old.tally ≡ no_flushes }
+    requires ticks { ticks_of replay.old.ticks ≡ 0 }
     ensures ready { OnOk result (replay.new.agent.failed ≡ false) }
     ensures state { OnOk result (state_of R.digest_of replay.new.agent replay.new.lines replay.new.refused
         ≡ soak_end R.digest_of node.now run) }
     ensures tally { OnOk result (replay.new.tally
         ≡ tally_along (start R.digest_of node.now) (drawn_lines run.seed node.now run.count)) }
+    ensures tests { OnOk result (IsTicked (soak_least R.digest_of node.now run) (soak_most R.digest_of node.now run)
+        0 (ticks_of replay.new.ticks)) }
 {
     for index in 0..run.count {
         let line = make_line(alloc, run.seed, index, node)?;

@@ -35,6 +35,12 @@ UpdateLeaves same failed (update.Taken name holder) = same
 UpdateLeaves same failed update.Memory = failed ≡ true
 UpdateLeaves same failed update.NeedsResync = same
 
+-- it stays where the update is refused; where memory ran out, nothing is said of it
+abbrev pub StaysIfRefused : (same : Type 0) → UpdateFault → Type 0
+StaysIfRefused same (update.Taken name holder) = same
+StaysIfRefused same update.Memory = ⊤
+StaysIfRefused same update.NeedsResync = same
+
 -- all stays, unless there was no memory
 abbrev pub StaysIfTaken : (same : Type 0) → CheckFault → Type 0
 StaysIfTaken same (check.Taken name holder) = same

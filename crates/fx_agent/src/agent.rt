@@ -7,11 +7,13 @@
 //! Once memory has run out in a call, each later update and pull answers that the agent has to begin anew, and changes nothing.
 ghost use Rattle.std.specs.Prelude.{◌≡◌, ◌↔◌, true, false, None, IfOk, OnOk, IfErr};
 ghost use Rattle.std.specs.Option.{option_copied};
+ghost use Rattle.fx_base.specs.Ticks.{IsTicked};
 ghost use Rattle.fx_model.specs.Claims.{clash};
 ghost use Rattle.fx_model.specs.Formed.{is_formed, puts_workload_interface};
 ghost use Rattle.fx_model.specs.Machine.{Decides};
 ghost use Rattle.fx_model.specs.Policy.{packet_verdict};
 ghost use Rattle.fx_model.specs.Resources.{after, empty_resources};
+ghost use Rattle.fx_model.specs.Tests.{least_tests, most_tests};
 ghost use Rattle.fx_model.specs.ViewPolicy.{IsServable};
 ghost use Rattle.fx_model.specs.ViewTables.{tables_of};
 ghost use Rattle.fx_model.specs.Views.{empty_view, view_of};
@@ -21,7 +23,7 @@ ghost use Rattle.fx_store.specs.Keeping.{KeepsClaims};
 ghost use Rattle.fx_driver.specs.Driven.{HasFirst};
 ghost use Rattle.fx_driver.specs.Stepping.{IsDrivable};
 ghost use Rattle.fx_graph.specs.Graphs.{Follows, IsGraphOf, sides_of};
-ghost use Rattle.fx_agent.specs.Answers.{IsAnswer, IsKubernetesVerdict, IsUpdateCause, StaysIfTaken, UpdateLeaves};
+ghost use Rattle.fx_agent.specs.Answers.{IsAnswer, IsKubernetesVerdict, IsUpdateCause, StaysIfRefused, StaysIfTaken, UpdateLeaves};
 
 use crate::faults::UpdateFault;
 use fx_base::{Memory, Text, Ticker};
@@ -86,7 +88,7 @@ impl<R: DigestRule, F: DigestFunction<R> + Drop> Agent<R, F> {
         })
     }
 
-    /// Takes an update, unless a name that it claims is another holder's.
+    /// Takes an update, unless a name that it claims is another holder's. It ticks for each test of a selector.
     pub fn update<T: Ticker>(&mut self, update: Update, ticks: &mut T) -> Result<(), UpdateFault>
         requires formed { is_formed update ≡ true }
         requires interface { puts_workload_interface self.old.resources.node update ≡ true }
@@ -97,6 +99,12 @@ impl<R: DigestRule, F: DigestFunction<R> + Drop> Agent<R, F> {
         ensures stays { OnOk result (self.new.failed ≡ false) }
         ensures cause { IfErr result (IsUpdateCause self.old.failed (clash R.digest_of self.old.resources update)) }
         ensures left { IfErr result (UpdateLeaves (self.new ≡ self.old) self.new.failed) }
+
+        // It tests selectors as often as the update calls for, and not at all where the update is refused.
+        ensures tests { OnOk result (IsTicked
+            (least_tests self.old.resources update) (most_tests self.old.resources update)
+            (T.number ticks.old) (T.number ticks.new)) }
+        ensures quiet { IfErr result (StaysIfRefused (T.number ticks.new ≡ T.number ticks.old)) }
     {
         if self.failed {
             return Err(UpdateFault::NeedsResync);
@@ -177,6 +185,10 @@ fn make<T: Ticker, R: DigestRule, F: DigestFunction<R> + Drop>(
     ensures sent { OnOk result ((sides_of graph.new.state).sent ≡ (sides_of graph.old.state).sent) }
     ensures store { IfErr result (StaysIfTaken (store.new ≡ store.old)) }
     ensures graph { IfErr result (StaysIfTaken (graph.new ≡ graph.old)) }
+    ensures tests { OnOk result (IsTicked
+        (least_tests store.old.resources update) (most_tests store.old.resources update)
+        (T.number ticks.old) (T.number ticks.new)) }
+    ensures quiet { IfErr result (StaysIfTaken (T.number ticks.new ≡ T.number ticks.old)) }
 {
     store.check(&update, graph.namer())?;
     graph.apply(&update, ticks)?;

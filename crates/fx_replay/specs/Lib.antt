@@ -3,3 +3,4 @@ pub mod Output
 pub mod Standing
 pub mod Stepping
 pub mod Tallies
+pub mod Tests

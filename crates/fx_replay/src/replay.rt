@@ -8,8 +8,9 @@ ghost use Rattle.fx_model.specs.Views.{view_of};
 ghost use Rattle.fx_lines.specs.Commands.{command_of};
 ghost use Rattle.fx_lines.specs.Formed.{IsReadCommand};
 ghost use Rattle.fx_print.specs.Texts.{refusal_line, flushed_line};
-ghost use Rattle.fx_replay.specs.Output.{State, was_refused, start, next, text, checked, update_answer, accepted, settled, settled_text, flush_text, flushed_in, flushed_by, message_count};
+ghost use Rattle.fx_replay.specs.Output.{State, was_refused, start, next, text, answer_of, checked, update_answer, accepted, settled, settled_text, flush_text, flushed_in, flushed_by, message_count};
 ghost use Rattle.fx_replay.specs.Tallies.{no_flushes, one_flush_more, tally_after};
+ghost use Rattle.fx_replay.specs.Tests.{HasTested, ticks_of};
 ghost use Rattle.fx_replay.specs.PacketRuns.{packet_text};
 ghost use Rattle.fx_replay.specs.Standing.{state_of};
 ghost use Rattle.fx_replay.specs.Stepping.{next-lines, next-clip};
@@ -47,6 +48,7 @@ impl<R: DigestRule, F: DigestFunction<R> + Drop> Replay<R, F> {
             state_of R.digest_of r.agent r.lines r.refused ≡ start R.digest_of node.now) }
         ensures ready { IfOk result (λ r. r.agent.failed ≡ false) }
         ensures tally { IfOk result (λ r. r.tally ≡ no_flushes) }
+        ensures ticks { IfOk result (λ r. ticks_of r.ticks ≡ 0) }
     {
         let own_node = node.clone()?;
         let agent = Agent::new(alloc, own_node, namer)?;
@@ -69,6 +71,9 @@ impl<R: DigestRule, F: DigestFunction<R> + Drop> Replay<R, F> {
             ≡ next (state_of R.digest_of self.old.agent self.old.lines self.old.refused) line.now) }
         ensures tally { OnOk result (self.new.tally ≡ tally_after self.old.tally
             (flushed_by (state_of R.digest_of self.old.agent self.old.lines self.old.refused) line.now)) }
+        ensures tests { OnOk result (HasTested self.old.agent.resources
+            (answer_of (state_of R.digest_of self.old.agent self.old.lines self.old.refused) line.now)
+            self.old.ticks self.new.ticks) }
     {
         // A sink that counts never fails, so that only memory can be wanting.
         match self.answer(line, &mut CountSink::new()) {
@@ -92,6 +97,8 @@ impl<R: DigestRule, F: DigestFunction<R> + Drop> Replay<R, F> {
         ensures tally { OnOk result (self.new.tally ≡ tally_after self.old.tally
             (flushed_in (state_of R.digest_of self.old.agent self.old.lines self.old.refused)
             (checked R.digest_of self.old.agent.resources said))) }
+        ensures tests { OnOk result (HasTested self.old.agent.resources
+            (checked R.digest_of self.old.agent.resources said) self.old.ticks self.new.ticks) }
         ensures writes { Writes (K.state sink.old) (K.state sink.new)
             (settled_text (state_of R.digest_of self.old.agent self.old.lines self.old.refused)
             (checked R.digest_of self.old.agent.resources said)) result }
@@ -115,6 +122,8 @@ impl<R: DigestRule, F: DigestFunction<R> + Drop> Replay<R, F> {
             ≡ settled (state_of R.digest_of self.old.agent self.old.lines self.old.refused)
             (update_answer R.digest_of self.old.agent.resources update)) }
         ensures tally { OnOk result (self.new.tally ≡ self.old.tally) }
+        ensures tests { OnOk result (HasTested self.old.agent.resources
+            (update_answer R.digest_of self.old.agent.resources update) self.old.ticks self.new.ticks) }
         ensures writes { Writes (K.state sink.old) (K.state sink.new)
             (settled_text (state_of R.digest_of self.old.agent self.old.lines self.old.refused)
             (update_answer R.digest_of self.old.agent.resources update)) result }
@@ -193,6 +202,7 @@ impl<R: DigestRule, F: DigestFunction<R> + Drop> Replay<R, F> {
             ≡ accepted (state_of R.digest_of self.old.agent self.old.lines self.old.refused) Command.Flush) }
         ensures tally { OnOk result (self.new.tally ≡ one_flush_more self.old.tally
             (message_count self.old.agent.sent (view_of R.digest_of self.old.agent.resources))) }
+        ensures ticks { self.new.ticks ≡ self.old.ticks }
         ensures writes { Writes (K.state sink.old) (K.state sink.new)
             (flush_text self.old.agent.sent (view_of R.digest_of self.old.agent.resources)) result }
     {
@@ -206,6 +216,7 @@ impl<R: DigestRule, F: DigestFunction<R> + Drop> Replay<R, F> {
         requires ready { self.old.agent.failed ≡ false }
         ensures tally { OnOk result (self.new.tally ≡ one_flush_more self.old.tally
             (message_count self.old.agent.sent (view_of R.digest_of self.old.agent.resources))) }
+        ensures ticks { self.new.ticks ≡ self.old.ticks }
         ensures refused { OnOk result (self.new.refused ≡ self.old.refused) }
     {
         match self.flush(&mut CountSink::new()) {
@@ -242,6 +253,9 @@ impl<R: DigestRule, F: DigestFunction<R> + Drop> Machine for Replay<R, F> {
             ≡ next (state_of R.digest_of self.old.agent self.old.lines self.old.refused) line.now) }
         ensures tally { OnOk result (self.new.tally ≡ tally_after self.old.tally
             (flushed_by (state_of R.digest_of self.old.agent self.old.lines self.old.refused) line.now)) }
+        ensures tests { OnOk result (HasTested self.old.agent.resources
+            (answer_of (state_of R.digest_of self.old.agent self.old.lines self.old.refused) line.now)
+            self.old.ticks self.new.ticks) }
         ensures writes { Writes (K.state sink.old) (K.state sink.new)
             (text (state_of R.digest_of self.old.agent self.old.lines self.old.refused) line.now) result }
     {

@@ -27,5 +27,6 @@ returns-clause-ran g c =
     record {
       ticks = s.ticks;
       output = subst (λ (line : List ℕ). Appends before now line) s.output c.in_ok-put_one.ensures.writes.whole;
+      bounded = s.bounded;
       status = s.status;
     }

@@ -1,5 +1,7 @@
-use Rattle.std.proofs.Common.{◌≡◌, true, ap, ◌∙◌}
+use Rattle.std.proofs.Common.{◌≡◌, true, ap, subst, ◌∙◌}
+use Rattle.fx_base.specs.Ticks.{IsTicked}
 use Rattle.fx_model.specs.Formed.{puts_workload_interface}
+use Rattle.fx_model.specs.Tests.{least_tests, most_tests}
 use Rattle.fx_agent.specs.States.{AgentState}
 use Rattle.fx_agent.proofs.Serving.{agent-sound, sound-after}
 use Rattle.fx_agent.proofs.agent.Agent.update.Goals as goal
@@ -15,3 +17,11 @@ invariant_of-self g c =
     agent-sound dg new.store new.graph.state was.driver
     (sound-after dg was.store new.store was.graph.state new.graph.state was.driver (c.self.invariant.sound c.if-self.false) c.args.update
     c.requires.formed interface made.tells made.follows made.sent made.resources made.claims)
+
+pub returns-in-Ok-clause-tests : goal.returns-in-Ok-clause-tests
+returns-in-Ok-clause-tests g c =
+    let update = c.args.update in
+    let before = g.T.Ticker.number c.args.ticks.now in
+    let now = g.T.Ticker.number c.make.new.ticks in
+    let Tested : AgentState → Type 0 = λ a. IsTicked (least_tests a.resources update) (most_tests a.resources update) before now in
+    subst Tested c.self.view_is c.in-Ok.ensures.tests

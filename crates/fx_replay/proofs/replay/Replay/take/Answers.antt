@@ -1,10 +1,11 @@
 use Rattle.std.proofs.Common.{◌≡◌, List, ℕ, true, false, refl, sym, ◌∙◌, ap, subst}
 use Rattle.fx_replay.specs.Output.{State, settled, update_answer}
 use Rattle.fx_replay.specs.Standing.{state_of}
+use Rattle.fx_replay.specs.Tests.{HasTested}
 use Rattle.fx_run.specs.Writing.{Writes}
 use Rattle.fx_replay.proofs.Pulling.{no_resync}
 use Rattle.fx_replay.proofs.SendingLemmas.{on_ok_subst}
-use Rattle.fx_replay.proofs.Taking.{free-settled, free-text, taken-settled, taken-text}
+use Rattle.fx_replay.proofs.Taking.{free-settled, free-tested, free-text, taken-settled, taken-tested, taken-text}
 use Rattle.fx_run.proofs.Writings.{Writes-none, Writes-nothing}
 use Rattle.fx_replay.proofs.replay.Replay.take.Goals as goal
 
@@ -19,6 +20,11 @@ returns-in-Ok-clause-state g c =
     let was = c.args.self.now in
     let s : State = state_of g.R.DigestRule.digest_of was.agent was.lines was.refused in
     (λ j. record s { resources = c.in-Ok.ensures.resources j; sent = c.in-Ok.ensures.sent j }) ∙ sym (free-settled s c.args.update c.in-Ok.ensures.free)
+
+pub returns-in-Ok-clause-tests : goal.returns-in-Ok-clause-tests
+returns-in-Ok-clause-tests g c =
+    let was = c.args.self.now in
+    free-tested g.R.DigestRule.digest_of was.agent.resources c.args.update was.ticks c.update.new.ticks c.in-Ok.ensures.free c.in-Ok.ensures.tests
 
 pub returns-in-Ok-clause-writes : goal.returns-in-Ok-clause-writes
 returns-in-Ok-clause-writes g c =
@@ -45,6 +51,16 @@ returns-in-Err-Taken-clause-state g c =
 
 pub returns-in-Err-Taken-clause-tally : goal.returns-in-Err-Taken-clause-tally
 returns-in-Err-Taken-clause-tally g c = on_ok_subst (λ v. v.tally ≡ c.args.self.now.tally) _ c.refuse.new.self c.refuse.result c.refuse.ensures.same refl
+
+pub returns-in-Err-Taken-clause-tests : goal.returns-in-Err-Taken-clause-tests
+returns-in-Err-Taken-clause-tests g c =
+    let dg = g.R.DigestRule.digest_of in
+    let was = c.args.self.now in
+    let R = was.agent.resources in
+    let quiet = rw c.in-Err-Taken.field-0-is at c.in-Err-Taken.ensures.quiet in
+    let cause = rw c.in-Err-Taken.field-0-is at c.in-Err-Taken.ensures.cause in
+    on_ok_subst (λ v. HasTested R (update_answer dg R c.args.update) was.ticks v.ticks) _ c.refuse.new.self c.refuse.result c.refuse.ensures.same
+    (taken-tested dg R c.args.update was.ticks c.update.new.ticks _ cause.1 quiet)
 
 pub returns-in-Err-Taken-clause-writes : goal.returns-in-Err-Taken-clause-writes
 returns-in-Err-Taken-clause-writes g c =
