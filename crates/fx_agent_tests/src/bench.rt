@@ -82,11 +82,11 @@ pub fn new_agent(alloc: Global) -> Result<PlainAgent, Memory> {
 }
 
 /// The update that a line asks for.
-pub fn update_in(alloc: Global, line: &str) -> Result<Update, Fail>
+pub fn update_in(alloc: Global, line: &[u8]) -> Result<Update, Fail>
     ensures formed { IfOk result (λ update. is_formed update ≡ true) }
     ensures interface { IfOk result (λ update. (node : List ℕ) → puts_workload_interface node update ≡ true) }
 {
-    match read_command(alloc, line.as_bytes())? {
+    match read_command(alloc, line)? {
         Command::Update(update) => Ok(update),
         _ => Err(Fail::new("no update")),
     }
@@ -103,7 +103,7 @@ pub fn packet_in(alloc: Global, line: &str) -> Result<Packet, Fail> {
 /// Gives the agent the updates of these lines, none of which clashes.
 pub fn give(alloc: Global, lines: &[&str], agent: &mut PlainAgent) -> Result<(), Fail> {
     for line in lines {
-        agent.update(update_in(alloc, line)?, &mut Counter::new())?;
+        agent.update(update_in(alloc, line.as_bytes())?, &mut Counter::new())?;
     }
     Ok(())
 }

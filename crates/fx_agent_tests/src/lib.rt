@@ -1,4 +1,5 @@
-//! The tests of `fx_agent`: each public call, with writes that fail, a name that is taken and memory that runs out.
+//! The tests of `fx_agent`: each public call, with writes that fail, a name that is taken and memory that runs out; and
+//! how many tests of selectors updates make.
 #![tactic(auto)]
 
 #[cfg(test)]
@@ -6,4 +7,10 @@ mod bench;
 #[cfg(test)]
 mod lines;
 #[cfg(test)]
+mod runs;
+#[cfg(test)]
 mod tests;
+#[cfg(test)]
+mod ticks;
+#[cfg(test)]
+mod whole;

@@ -94,7 +94,7 @@ fn keeps_its_name(
     agent: &mut PlainAgent,
     out: &mut TextOut,
 ) -> Result<(), Fail> {
-    let taking = update_in(alloc, TAKING)?;
+    let taking = update_in(alloc, TAKING.as_bytes())?;
     let Err(UpdateFault::Taken { holder, .. }) = agent.update(taking, &mut Counter::new()) else {
         return Err(Fail::new("a taken name was given away"));
     };
@@ -114,7 +114,7 @@ fn begins_anew(
     assert!(rt; !agent.pending());
     out.full = false;
     assert_eq!(rt; agent.pull(out), Err(PullFault::NeedsResync));
-    let gone = update_in(alloc, SECOND_GONE)?;
+    let gone = update_in(alloc, SECOND_GONE.as_bytes())?;
     let refused = agent.update(gone, &mut Counter::new());
     assert!(rt; matches!(&refused, Err(UpdateFault::NeedsResync)));
     is_answered(rt, alloc, agent, Verdict::Deny)

@@ -11,6 +11,17 @@ use std::alloc::Global;
 use std::process::Abort;
 use std::test::Fail;
 
+/// What is tried on a new index and its sink.
+#[derive(Clone, Copy)]
+enum Trial {
+    /// A thousand selectors of one label, and one that needs nothing.
+    Thousand,
+    /// Two selectors of a parent's label, as the parent changes.
+    Parent,
+    /// A selector of each kind of need, an item of this label, and how many selectors need nothing that it lacks.
+    Needs(&'static str, &'static str, u64),
+}
+
 fn put(
     alloc: Global,
     index: &mut LabelIndex,
@@ -32,9 +43,9 @@ fn item(alloc: Global) -> Result<ItemKey, Memory> {
     Ok(ItemKey::NetSet { ns: None, name })
 }
 
-fn label(alloc: Global, key: &[u8], value: &[u8]) -> Result<Labels, Memory> {
+fn label(alloc: Global, key: &str, value: &str) -> Result<Labels, Memory> {
     let mut labels = Labels::new(alloc);
-    labels.put(key, value)?;
+    labels.put(key.as_bytes(), value.as_bytes())?;
     Ok(labels)
 }
 
@@ -53,10 +64,28 @@ fn put_item(
     Ok(())
 }
 
+/// Puts the item with this label alone.
+fn put_labelled(
+    alloc: Global,
+    index: &mut LabelIndex,
+    key: &str,
+    value: &str,
+    sink: &mut RecordMatches,
+    ticks: &mut Counter,
+) -> Result<(), Fail>
+    requires { IsMatched index.old sink.old.pairs }
+    ensures { OnOk result (IsMatched index.new sink.new.pairs) }
+{
+    let labels = label(alloc, key, value)?;
+    put_item(alloc, index, &labels, sink, ticks)?;
+    Ok(())
+}
+
+/// Puts the item's parent with this zone.
 fn put_parent(
     alloc: Global,
     index: &mut LabelIndex,
-    labels: &Labels,
+    zone: &str,
     sink: &mut RecordMatches,
     ticks: &mut Counter,
 ) -> Result<(), Fail>
@@ -64,7 +93,8 @@ fn put_parent(
     ensures { OnOk result (IsMatched index.new sink.new.pairs) }
 {
     let name = Text::new(alloc, b"kns.shop")?;
-    index.put_parent(&name, labels, sink, ticks)?;
+    let labels = label(alloc, "zone", zone)?;
+    index.put_parent(&name, &labels, sink, ticks)?;
     Ok(())
 }
 
@@ -87,6 +117,21 @@ fn role(alloc: Global, number: u32) -> Result<Vec<u8>, Memory> {
     Ok(text)
 }
 
+fn put_role(
+    alloc: Global,
+    index: &mut LabelIndex,
+    number: u32,
+    sink: &mut RecordMatches,
+    ticks: &mut Counter,
+) -> Result<(), Fail>
+    requires { IsMatched index.old sink.old.pairs }
+    ensures { OnOk result (IsMatched index.new sink.new.pairs) }
+{
+    let text = role(alloc, number)?;
+    put(alloc, index, text.as_slice(), sink, ticks)?;
+    Ok(())
+}
+
 fn put_roles(
     alloc: Global,
     index: &mut LabelIndex,
@@ -97,8 +142,7 @@ fn put_roles(
     ensures { OnOk result (IsMatched index.new sink.new.pairs) }
 {
     for number in 0..1000 {
-        let text = role(alloc, number)?;
-        put(alloc, index, text.as_slice(), sink, ticks)?;
+        put_role(alloc, index, number, sink, ticks)?;
     }
     Ok(())
 }
@@ -116,8 +160,7 @@ fn two_of_a_thousand(
     put(alloc, index, b"!has(x)", sink, &mut before)?;
     assert!(rt; before.count() == 0);
     let mut ticks = Counter::new();
-    let labels = label(alloc, b"role", b"r5")?;
-    put_item(alloc, index, &labels, sink, &mut ticks)?;
+    put_labelled(alloc, index, "role", "r5", sink, &mut ticks)?;
     assert!(rt; ticks.count() == 2);
     assert!(rt; sink.pairs.iter().count() == 2);
     assert!(rt; stands(alloc, sink, b"role == \"r5\"")?);
@@ -125,7 +168,21 @@ fn two_of_a_thousand(
     Ok(())
 }
 
-/// Two selectors of a parent's label, as the parent changes.
+fn put_zones(
+    alloc: Global,
+    index: &mut LabelIndex,
+    sink: &mut RecordMatches,
+    ticks: &mut Counter,
+) -> Result<(), Fail>
+    requires { IsMatched index.old sink.old.pairs }
+    ensures { OnOk result (IsMatched index.new sink.new.pairs) }
+{
+    put(alloc, index, b"zone == \"a\"", sink, ticks)?;
+    put(alloc, index, b"zone == \"b\"", sink, ticks)?;
+    put_item(alloc, index, &Labels::new(alloc), sink, ticks)?;
+    Ok(())
+}
+
 fn one_for_a_move(
     rt: &impl Abort,
     alloc: Global,
@@ -135,35 +192,15 @@ fn one_for_a_move(
     requires { IsMatched index.old sink.old.pairs }
 {
     let mut ticks = Counter::new();
-    put(alloc, index, b"zone == \"a\"", sink, &mut ticks)?;
-    put(alloc, index, b"zone == \"b\"", sink, &mut ticks)?;
-    put_item(alloc, index, &Labels::new(alloc), sink, &mut ticks)?;
+    put_zones(alloc, index, sink, &mut ticks)?;
     assert!(rt; ticks.count() == 0);
-    put_parent(
-        alloc,
-        index,
-        &label(alloc, b"zone", b"a")?,
-        sink,
-        &mut ticks,
-    )?;
+    put_parent(alloc, index, "a", sink, &mut ticks)?;
     assert!(rt; ticks.count() == 1);
-    put_parent(
-        alloc,
-        index,
-        &label(alloc, b"zone", b"b")?,
-        sink,
-        &mut ticks,
-    )?;
+    put_parent(alloc, index, "b", sink, &mut ticks)?;
     assert!(rt; ticks.count() == 2);
     assert!(rt; !stands(alloc, sink, b"zone == \"a\"")?);
     assert!(rt; stands(alloc, sink, b"zone == \"b\"")?);
-    put_parent(
-        alloc,
-        index,
-        &label(alloc, b"zone", b"b")?,
-        sink,
-        &mut ticks,
-    )?;
+    put_parent(alloc, index, "b", sink, &mut ticks)?;
     assert!(rt; ticks.count() == 2);
     Ok(())
 }
@@ -201,48 +238,68 @@ fn put_each(
     Ok(())
 }
 
-fn ticks_of(
+fn as_many_as_are_met(
+    rt: &impl Abort,
     alloc: Global,
     index: &mut LabelIndex,
-    labels: &Labels,
+    key: &str,
+    value: &str,
+    wanted: u64,
     sink: &mut RecordMatches,
-) -> Result<u64, Fail>
+) -> Result<(), Fail>
     requires { IsMatched index.old sink.old.pairs }
 {
     let mut ticks = Counter::new();
     put_each(alloc, index, sink, &mut ticks)?;
-    put_item(alloc, index, labels, sink, &mut ticks)?;
-    Ok(ticks.count())
+    put_labelled(alloc, index, key, value, sink, &mut ticks)?;
+    assert!(rt; ticks.count() == wanted, "{key} {value}");
+    put_labelled(alloc, index, key, value, sink, &mut ticks)?;
+    assert!(rt; ticks.count() == wanted, "{key} {value} again");
+    Ok(())
 }
 
-fn row(alloc: Global, key: &str, value: &str) -> Result<u64, Fail> {
-    let labels = label(alloc, key.as_bytes(), value.as_bytes())?;
+fn run(
+    rt: &impl Abort,
+    alloc: Global,
+    trial: Trial,
+    index: &mut LabelIndex,
+    sink: &mut RecordMatches,
+) -> Result<(), Fail>
+    requires { IsMatched index.old sink.old.pairs }
+{
+    match trial {
+        Trial::Thousand => two_of_a_thousand(rt, alloc, index, sink),
+        Trial::Parent => one_for_a_move(rt, alloc, index, sink),
+        Trial::Needs(key, value, wanted) => {
+            as_many_as_are_met(rt, alloc, index, key, value, wanted, sink)
+        }
+    }
+}
+
+// The index and its sink stand here and are lent to the trial, so that one place lets go of them.
+fn try_out(rt: &impl Abort, alloc: Global, trial: Trial) -> Result<(), Fail> {
     let mut index = LabelIndex::new(alloc);
     let mut sink = RecordMatches::new(alloc);
-    ticks_of(alloc, &mut index, &labels, &mut sink)
+    let tried = run(rt, alloc, trial, &mut index, &mut sink);
+    drop(index);
+    drop(sink);
+    tried
 }
 
 #[test]
 fn a_thousand_selectors_of_one_label(rt: HostRuntime) -> Result<(), Fail> {
-    let alloc = rt.alloc();
-    let mut index = LabelIndex::new(alloc);
-    let mut sink = RecordMatches::new(alloc);
-    two_of_a_thousand(&rt, alloc, &mut index, &mut sink)
+    try_out(&rt, rt.alloc(), Trial::Thousand)
 }
 
 #[test]
 fn a_parent_whose_label_changes(rt: HostRuntime) -> Result<(), Fail> {
-    let alloc = rt.alloc();
-    let mut index = LabelIndex::new(alloc);
-    let mut sink = RecordMatches::new(alloc);
-    one_for_a_move(&rt, alloc, &mut index, &mut sink)
+    try_out(&rt, rt.alloc(), Trial::Parent)
 }
 
 #[test]
 fn as_many_as_the_labels_meet(rt: HostRuntime) -> Result<(), Fail> {
-    let alloc = rt.alloc();
     for (key, value, ticks) in ROWS {
-        assert!(rt; row(alloc, key, value)? == ticks, "{key} {value}");
+        try_out(&rt, rt.alloc(), Trial::Needs(key, value, ticks))?;
     }
     Ok(())
 }

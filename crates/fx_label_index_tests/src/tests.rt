@@ -111,7 +111,10 @@ fn an_item_matches_while_its_parent_has_the_label(rt: HostRuntime) -> Result<(),
     let example = given(alloc)?;
     let mut index = LabelIndex::new(alloc);
     let mut sink = RecordMatches::new(alloc);
-    inherit_and_lose(&rt, alloc, &mut index, &example, &mut sink)
+    let tried = inherit_and_lose(&rt, alloc, &mut index, &example, &mut sink);
+    drop(index);
+    drop(sink);
+    tried
 }
 
 #[test]
@@ -120,5 +123,8 @@ fn what_was_put_is_removed(rt: HostRuntime) -> Result<(), Fail> {
     let example = given(alloc)?;
     let mut index = LabelIndex::new(alloc);
     let mut sink = RecordMatches::new(alloc);
-    put_and_remove(alloc, &mut index, &example, &mut sink)
+    let tried = put_and_remove(alloc, &mut index, &example, &mut sink);
+    drop(index);
+    drop(sink);
+    tried
 }
