@@ -1,6 +1,6 @@
 -- The lines of answers that aren't about packets, messages or tables, each with its newline. docs/OUTPUT.md of this
 -- repository is their public source.
-use Rattle.std.specs.Prelude.{ℕ, List, [], ◌++◌, Option, Some, None, codes, decimal}
+use Rattle.std.specs.Prelude.{ℕ, List, [], ◌++◌, Bool, true, false, Option, Some, None, codes, decimal}
 use Rattle.fx_base.specs.KernelName.{kernel_bytes}
 use Rattle.fx_fields.specs.declared.refusal.Refusal.{Refusal}
 use Rattle.fx_fields.specs.declared.refusal.Refusal.TheVariants.{Read, LineTooLong, BadJson, BadLine, Taken}
@@ -34,9 +34,14 @@ abbrev pub refusal_line : ℕ → Refusal → List ℕ
 refusal_line line r =
     codes "refused " ++ (decimal line ++ (codes " " ++ (decimal (refusal_number r) ++ (codes " " ++ (refusal_name r ++ (detail_of r ++ codes "\n"))))))
 
+-- a word where messages are left
+abbrev pub more_text : Bool → List ℕ
+more_text true = codes " more"
+more_text false = []
+
 -- the end of a flush that told so many messages
-abbrev pub flushed_line : ℕ → List ℕ
-flushed_line n = codes "flushed " ++ (decimal n ++ codes "\n")
+abbrev pub flushed_line : ℕ → Bool → List ℕ
+flushed_line n more = codes "flushed " ++ (decimal n ++ (more_text more ++ codes "\n"))
 
 -- a word and a number
 abbrev pub numbered : List ℕ → ℕ → List ℕ

@@ -1,7 +1,7 @@
 //! Numbers and plain answers as text.
 ghost use Rattle.std.specs.Prelude.{◌≡◌, ◌++◌, ◌∷◌, OnOk, IfOk, decimal};
 ghost use Rattle.fx_fields.specs.Faults.{path_of};
-ghost use Rattle.fx_print.specs.Texts.{path_text, place_text, fault_text, detail_of, refusal_line, flushed_line, numbered, soak_line};
+ghost use Rattle.fx_print.specs.Texts.{path_text, place_text, fault_text, detail_of, refusal_line, more_text, flushed_line, numbered, soak_line};
 
 use fx_base::{Memory, Text};
 use fx_fields::{ReadFault, Refusal};
@@ -91,14 +91,24 @@ pub fn push_word(line: &mut Vec<u8>, word: &[u8]) -> Result<(), Memory>
     Ok(())
 }
 
-/// The line at a flush's end.
-pub fn flushed_text(alloc: Global, count: u64) -> Result<Text, Memory>
-    ensures { IfOk result (λ text. text ≡ flushed_line count) }
+/// The line at a flush's end: how many messages there were, and whether more are left.
+pub fn flushed_text(alloc: Global, count: u64, more: bool) -> Result<Text, Memory>
+    ensures { IfOk result (λ text. text ≡ flushed_line count more) }
 {
     let mut bytes = Vec::from_slice(alloc, b"flushed ")?;
     push_decimal(&mut bytes, count)?;
+    push_more(&mut bytes, more)?;
     bytes.extend_from_slice(b"\n")?;
     Ok(Text::from_vec(bytes))
+}
+
+fn push_more(line: &mut Vec<u8>, more: bool) -> Result<(), Memory>
+    ensures { OnOk result (line.new.items ≡ line.old.items ++ more_text more) }
+{
+    if more {
+        line.extend_from_slice(b" more")?;
+    }
+    Ok(())
 }
 
 /// The line at a soak run's end.

@@ -109,7 +109,8 @@ fn refusals(rt: HostRuntime) -> Result<(), Fail> {
 #[test]
 fn flushes(rt: HostRuntime) -> Result<(), Fail> {
     let alloc = rt.alloc();
-    reads(&rt, &flushed_text(alloc, 120)?, b"flushed 120\n");
+    reads(&rt, &flushed_text(alloc, 120, false)?, b"flushed 120\n");
+    reads(&rt, &flushed_text(alloc, 2, true)?, b"flushed 2 more\n");
     Ok(())
 }
 
