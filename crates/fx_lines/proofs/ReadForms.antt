@@ -1,5 +1,5 @@
 -- Each update that is read keeps its forms.
-use Rattle.std.proofs.Common.{◌≡◌, List, ℕ, Bool, true, false, Option, Some, None, Result, Ok, Err, IfOk, refl}
+use Rattle.std.proofs.Common.{◌≡◌, List, ℕ, Bool, true, false, cond, Option, Some, None, Result, Ok, Err, IfOk, refl}
 use Rattle.std.specs.Prelude.{codes, IfSome}
 use Rattle.serde_json.specs.Data.{Data}
 use Rattle.fx_model.specs.declared.packet.Packet.{Packet}
@@ -18,11 +18,15 @@ use Rattle.fx_k8s.proofs.FormedPuts.{put_with-formed, put_with-workload}
 use Rattle.fx_lines.specs.declared.commands.Command.{Command}
 use Rattle.fx_lines.specs.declared.commands.Command.TheVariants as command
 use Rattle.fx_lines.specs.Formed.{is_formed_command, puts_on_workloads, IsReadUpdate, IsReadCommand}
-use Rattle.fx_lines.specs.Commands.{value_in, is_true, shaped, at_member, read_answer, update_in, request_in, update_or, of_value, command_of}
+use Rattle.fx_lines.specs.Commands.{value_in, is_true, shaped, at_member, read_answer, limit_of, limit_answer, limited_answer, flush_answer, update_in, request_in, update_or, of_value, command_of}
 
 shaped-if : {A : Type 0} (P : A → Type 0) (b : Bool) (answer : Result A Refusal) → IfOk answer P → IfOk (shaped b answer) P
 shaped-if P true answer holds = holds
 shaped-if P false answer holds = tt
+
+cond-if : {A : Type 0} (P : A → Type 0) (b : Bool) (answer others : Result A Refusal) → IfOk answer P → IfOk others P → IfOk (cond b answer others) P
+cond-if P true answer others here there = here
+cond-if P false answer others here there = there
 
 at_member-if : {A : Type 0} (P : A → Type 0) (o : Option Data) (answer : Data → Result A Refusal) (others : Result A Refusal) → ((d : Data) → IfOk (answer d) P) → IfOk others P → IfOk (at_member o answer others) P
 at_member-if P None answer others here there = there
@@ -44,15 +48,26 @@ module _ (Q : Update → Type 0) (put : (d : Data) → IfOk (put_of d) Q) (delet
       (at_member-if Found (field (codes "delete") d) _ _ (λ v. shaped-if Found (is_object v) _ (read_answer-if Q Found Some (λ u holds. holds) (delete_of v) (delete v)))
       (at_member-if Found (field (codes "inSync") d) _ _ (λ v. shaped-if Found (is_true v) _ mark) tt))
 
-  module _ (P : Command → Type 0) (of_update : (u : Update) → Q u → P (command.Update u)) (of_packet : (a : Packet) → P (command.Packet a)) (of_blank : P command.Blank) (of_flush : P command.Flush) (of_tables : P command.Tables) where
+  module _ (P : Command → Type 0) (of_update : (u : Update) → Q u → P (command.Update u)) (of_packet : (a : Packet) → P (command.Packet a)) (of_blank : P command.Blank) (of_flush : (limit : Option ℕ) → P (command.Flush limit)) (of_tables : P command.Tables) where
     packet_answer-if : (answer : Result Packet ReadFault) → IfOk (read_answer command.Packet answer) P
     packet_answer-if (Ok a) = of_packet a
     packet_answer-if (Err fault) = tt
 
+    limit_answer-if : (limit : Option ℕ) → IfOk (limit_answer limit) P
+    limit_answer-if None = tt
+    limit_answer-if (Some n) = of_flush (Some n)
+
+    limited_answer-if : (v : Data) → IfOk (limited_answer v) P
+    limited_answer-if v =
+        shaped-if P (has_members 1 v) _ (at_member-if P (field (codes "limit") v) (λ n. limit_answer (limit_of n)) _ (λ n. limit_answer-if (limit_of n)) tt)
+
+    flush_answer-if : (v : Data) → IfOk (flush_answer v) P
+    flush_answer-if v = cond-if P (has_members 0 v) (Ok (command.Flush None)) (limited_answer v) (of_flush None) (limited_answer-if v)
+
     request_in-if : (d : Data) → IfOk (request_in d) P
     unfolding request_in
     request_in-if d =
-        at_member-if P (field (codes "flush") d) _ _ (λ v. shaped-if P (has_members 0 v) _ of_flush)
+        at_member-if P (field (codes "flush") d) flush_answer _ flush_answer-if
         (at_member-if P (field (codes "packet") d) _ _ (λ v. shaped-if P (is_object v) _ (packet_answer-if (packet_of v)))
         (at_member-if P (field (codes "tables") d) _ _ (λ v. shaped-if P (is_true v) _ of_tables) tt))
 
@@ -102,5 +117,5 @@ both-read (Err r) formed standing = tt
 pub command_of-read : (line : List ℕ) → IfOk (command_of line) IsReadCommand
 command_of-read line =
     both-read (command_of line)
-    (command_of-if IsFormed (put_with-formed Refused) delete_of-formed refl FormedCommand (λ u formed. formed) (λ a. refl) refl refl refl line)
-    (λ node. command_of-if (IsOnWorkloads node) (put_with-workload Refused node) (delete_of-workload node) refl (OnWorkloads node) (λ u standing. standing) (λ a. refl) refl refl refl line)
+    (command_of-if IsFormed (put_with-formed Refused) delete_of-formed refl FormedCommand (λ u formed. formed) (λ a. refl) refl (λ limit. refl) refl line)
+    (λ node. command_of-if (IsOnWorkloads node) (put_with-workload Refused node) (delete_of-workload node) refl (OnWorkloads node) (λ u standing. standing) (λ a. refl) refl (λ limit. refl) refl line)

@@ -16,6 +16,7 @@ use Rattle.fx_fields.specs.declared.fault.ReadFault.{ReadFault}
 use Rattle.fx_fields.specs.declared.refusal.Refusal.{Refusal}
 use Rattle.fx_fields.specs.declared.refusal.Refusal.TheVariants.{Read, LineTooLong, BadJson, BadLine}
 use Rattle.fx_fields.specs.Fields.{field, is_object, has_members}
+use Rattle.fx_fields.specs.Values.{whole_in}
 use Rattle.fx_json.specs.Packets.{packet_of}
 use Rattle.fx_json.specs.Resources.{delete_of}
 use Rattle.fx_k8s.specs.Puts.{put_of}
@@ -82,6 +83,20 @@ delete_answer v = shaped (is_object v) (read_answer Some (delete_of v))
 abbrev pub packet_answer : Data → Result Command Refusal
 packet_answer v = shaped (is_object v) (read_answer command.Packet (packet_of v))
 
+-- what a flush asks for: its value is empty, or has a limit alone, a whole number from 1 on that 32 bits hold
+abbrev pub limit_of : Data → Option ℕ
+limit_of v = whole_in 1 4294967295 v
+
+abbrev pub limit_answer : Option ℕ → Result Command Refusal
+limit_answer None = Err BadLine
+limit_answer (Some n) = Ok (command.Flush (Some n))
+
+abbrev pub limited_answer : Data → Result Command Refusal
+limited_answer v = shaped (has_members 1 v) (at_member (field (codes "limit") v) (λ n. limit_answer (limit_of n)) (Err BadLine))
+
+abbrev pub flush_answer : Data → Result Command Refusal
+flush_answer v = if has_members 0 v then Ok (command.Flush None) else limited_answer v
+
 -- the update that a member asks for, none where it isn't one for updates
 unfoldable pub update_in : Data → Result (Option Update) Refusal
 update_in d =
@@ -93,7 +108,7 @@ update_in d =
 -- what the other members ask for
 unfoldable pub request_in : Data → Result Command Refusal
 request_in d =
-    at_member (field (codes "flush") d) (λ v. shaped (has_members 0 v) (Ok command.Flush))
+    at_member (field (codes "flush") d) flush_answer
     (at_member (field (codes "packet") d) packet_answer
     (at_member (field (codes "tables") d) (λ v. shaped (is_true v) (Ok command.Tables))
     (Err BadLine)))

@@ -9,14 +9,14 @@ use Rattle.fx_lines.specs.declared.commands.Command.TheVariants as command
 abbrev pub is_formed_command : Command → Bool
 is_formed_command command.Blank = true
 is_formed_command command.Tables = true
-is_formed_command command.Flush = true
+is_formed_command (command.Flush limit) = true
 is_formed_command (command.Update u) = is_formed u
 is_formed_command (command.Packet p) = true
 
 abbrev pub puts_on_workloads : List ℕ → Command → Bool
 puts_on_workloads node command.Blank = true
 puts_on_workloads node command.Tables = true
-puts_on_workloads node command.Flush = true
+puts_on_workloads node (command.Flush limit) = true
 puts_on_workloads node (command.Update u) = puts_workload_interface node u
 puts_on_workloads node (command.Packet p) = true
 

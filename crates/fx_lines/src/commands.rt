@@ -1,9 +1,10 @@
 //! What a line says.
-ghost use Rattle.std.specs.Prelude.{◌≡◌, IfOk, IfSome, Some, Ok};
+ghost use Rattle.std.specs.Prelude.{◌≡◌, ◌≤◌, IfOk, IfSome, Some, Ok};
 ghost use Rattle.std.specs.List.{list_all};
 ghost use Rattle.serde_json.specs.View.{view};
 ghost use Rattle.fx_fields.specs.Refusals.{Refuses};
-ghost use Rattle.fx_lines.specs.Commands.{is_blank_byte, viewed, one_member, value_in, is_true, shaped, put_answer, delete_answer, packet_answer, update_in, request_in, by_name, command_of};
+ghost use Rattle.fx_fields.specs.Values.{whole_in};
+ghost use Rattle.fx_lines.specs.Commands.{is_blank_byte, viewed, one_member, value_in, is_true, shaped, put_answer, delete_answer, limit_of, limit_answer, limited_answer, flush_answer, packet_answer, update_in, request_in, by_name, command_of};
 ghost use Rattle.fx_lines.specs.Formed.{IsReadUpdate, IsReadCommand};
 
 use crate::lines::is_too_long;
@@ -19,7 +20,8 @@ use std::alloc::Global;
 pub enum Command {
     Blank,
     Tables,
-    Flush,
+    /// Sends the messages that are left, or so many of them at most.
+    Flush { limit: Option<u32> },
     Update(Update),
     Packet(Packet),
 }
@@ -144,7 +146,7 @@ fn request_in(alloc: Global, value: &Value) -> Result<Command, Refusal>
     ensures { Refuses (request_in (view value.now)) result }
 {
     if let Some(limits) = field(value, "flush") {
-        return shaped(has_members(limits, 0), Command::Flush);
+        return flush_command(limits);
     }
     if let Some(packet) = field(value, "packet") {
         return packet_command(alloc, packet);
@@ -153,6 +155,56 @@ fn request_in(alloc: Global, value: &Value) -> Result<Command, Refusal>
         return shaped(is_true(mark), Command::Tables);
     }
     Err(Refusal::BadLine)
+}
+
+// A flush has no limit where its value is empty.
+fn flush_command(limits: &Value) -> Result<Command, Refusal>
+    ensures { Refuses (flush_answer (view limits.now)) result }
+{
+    if has_members(limits, 0) {
+        return Ok(Command::Flush { limit: None });
+    }
+    limited_command(limits)
+}
+
+fn limited_command(limits: &Value) -> Result<Command, Refusal>
+    ensures { Refuses (limited_answer (view limits.now)) result }
+{
+    if !has_members(limits, 1) {
+        return Err(Refusal::BadLine);
+    }
+    match field(limits, "limit") {
+        Some(limit) => limit_command(limit),
+        None => Err(Refusal::BadLine),
+    }
+}
+
+fn limit_command(limit: &Value) -> Result<Command, Refusal>
+    ensures { Refuses (limit_answer (limit_of (view limit.now))) result }
+{
+    match limit_of(limit) {
+        Some(most) => Ok(Command::Flush { limit: Some(most) }),
+        None => Err(Refusal::BadLine),
+    }
+}
+
+fn limit_of(limit: &Value) -> Option<u32>
+    ensures { result ≡ limit_of (view limit.now) }
+{
+    Some(whole(limit, 1, 4_294_967_295)? as u32)
+}
+
+// The whole number from `low` to `high` that it is.
+fn whole(value: &Value, low: u64, high: u64) -> Option<u64>
+    ensures number { result ≡ whole_in low high (view value.now) }
+    ensures within { IfSome result (λ n. n ≤ high) }
+{
+    let number = value.as_u64()?;
+    if low <= number && number <= high {
+        Some(number)
+    } else {
+        None
+    }
 }
 
 fn packet_command(alloc: Global, packet: &Value) -> Result<Command, Refusal>

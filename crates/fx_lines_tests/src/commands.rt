@@ -11,10 +11,20 @@ fn answered(answer: &Result<Command, Refusal>) -> &'static str {
     match answer {
         Ok(Command::Blank) => "blank",
         Ok(Command::Tables) => "tables",
-        Ok(Command::Flush) => "flush",
+        Ok(Command::Flush { limit }) => answered_limit(*limit),
         Ok(Command::Packet(_)) => "a packet",
         Ok(Command::Update(update)) => answered_update(update),
         Err(refusal) => answered_refusal(refusal),
+    }
+}
+
+fn answered_limit(limit: Option<u32>) -> &'static str {
+    match limit {
+        None => "flush",
+        Some(1) => "flush of 1",
+        Some(100) => "flush of 100",
+        Some(4_294_967_295) => "flush of 4294967295",
+        Some(_) => "another flush",
     }
 }
 
@@ -69,6 +79,10 @@ const LINES: &str = r#"{"tables":true} => tables
 {"inSync":true} => in sync
 {"flush":{}} => flush
  { "flush" : { "limit" : null } , "x" : null }  => flush
+{"flush":{"limit":1}} => flush of 1
+{"flush":{"limit":100,"x":null},"y":null} => flush of 100
+{"flush":{"limit":0,"limit":4294967295}} => flush of 4294967295
+{"flush":{"limit":1,"limit":null}} => flush
 {"inSync":false,"inSync":true} => in sync
 {"tables":true,"inSync":true,"inSync":null} => tables
 { => bad json
@@ -87,7 +101,16 @@ null => bad line
 {"inSync":true,"inSync":false} => bad line
 {"InSync":true} => bad line
 {"flush":true} => bad line
-{"flush":{"limit":1}} => bad line
+{"flush":[]} => bad line
+{"flush":{"limit":0}} => bad line
+{"flush":{"limit":4294967296}} => bad line
+{"flush":{"limit":-1}} => bad line
+{"flush":{"limit":1.0}} => bad line
+{"flush":{"limit":"1"}} => bad line
+{"flush":{"limit":{}}} => bad line
+{"flush":{"limit":1,"x":1}} => bad line
+{"flush":{"Limit":1}} => bad line
+{"flush":{"limit":1},"tables":true} => bad line
 {"put":[]} => bad line
 {"delete":true} => bad line
 {"packet":""} => bad line
