@@ -1,4 +1,5 @@
 pub mod SendingLemmas
+pub mod PortionLemmas
 pub mod PacketLines
 pub mod Asked
 pub mod Taking

@@ -10,18 +10,18 @@ use Rattle.fx_model.specs.MessageTexts.{message_line}
 use Rattle.fx_replay.specs.Output.{first_text, messages_text}
 
 -- the first message's line and those of the rest
-messages-first : (s w : View) (o : Option Change) → next_message s w ≡ o → messages_text s w ≡ first_text o ++ messages_text (step_by o s w) w
+messages-first : (s w : View) (o : Option Change) → next_message s w ≡ o → messages_text None s w ≡ first_text o ++ messages_text None (step_by o s w) w
 messages-first s w None is = refl
 messages-first s w (Some c) is = ap (λ cs. concat (map message_line cs)) (flush-some s w c is)
 
-pub messages_step : (s w : View) → messages_text s w ≡ first_text (next_message s w) ++ messages_text (step s w) w
+pub messages_step : (s w : View) → messages_text None s w ≡ first_text (next_message s w) ++ messages_text None (step s w) w
 messages_step s w = messages-first s w (next_message s w) refl
 
 -- nothing is left where there is no message
-pub messages_end : (s w : View) → is_some (next_message s w) ≡ false → messages_text s w ≡ []
+pub messages_end : (s w : View) → is_some (next_message s w) ≡ false → messages_text None s w ≡ []
 messages_end s w none = ended (next_message s w) refl none
   where
-    ended : (o : Option Change) → next_message s w ≡ o → is_some o ≡ false → messages_text s w ≡ []
+    ended : (o : Option Change) → next_message s w ≡ o → is_some o ≡ false → messages_text None s w ≡ []
     ended None is e = ap (λ cs. concat (map message_line cs)) (flush-none s w is)
     ended (Some c) is e = cc
 

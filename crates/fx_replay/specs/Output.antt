@@ -1,6 +1,6 @@
 -- The output of a replay: what each line writes, and what stands between two lines. The rules that it follows stand in
 -- docs/INPUT.md and docs/OUTPUT.md of this repository.
-use Rattle.std.specs.Prelude.{ℕ, ◌+◌, ◌-◌, ◌^◌, min, List, [], ◌++◌, map, length, Bool, true, false, Option, Some, None, Result, Ok, Err}
+use Rattle.std.specs.Prelude.{ℕ, ◌+◌, ◌-◌, ◌^◌, min, List, [], ◌++◌, map, length, Bool, true, false, Option, Some, None, is_some, Result, Ok, Err}
 use Rattle.std.specs.List.{concat}
 use Rattle.fx_model.specs.declared.resources.Update.{Update}
 use Rattle.fx_model.specs.declared.resources.Resources.{Resources}
@@ -11,7 +11,7 @@ use Rattle.fx_names.specs.Claims.{Clash}
 use Rattle.fx_model.specs.Claims.{clash}
 use Rattle.fx_model.specs.Views.{view_of, empty_view}
 use Rattle.fx_model.specs.ViewTables.{tables_of}
-use Rattle.fx_model.specs.Messages.{Change, Flush, flush}
+use Rattle.fx_model.specs.Messages.{Change, Flush, flush, next_message}
 use Rattle.fx_fields.specs.declared.refusal.Refusal.{Refusal}
 use Rattle.fx_fields.specs.declared.refusal.Refusal.TheVariants.{Taken}
 use Rattle.fx_lines.specs.declared.commands.Command.{Command}
@@ -55,7 +55,7 @@ update_answer dg R u = unless_taken (clash dg R u) u
 abbrev pub checked : Digest → Resources → Result Command Refusal → Result Command Refusal
 checked dg R (Ok command.Blank) = Ok command.Blank
 checked dg R (Ok command.Tables) = Ok command.Tables
-checked dg R (Ok command.Flush) = Ok command.Flush
+checked dg R (Ok (command.Flush limit)) = Ok (command.Flush limit)
 checked dg R (Ok (command.Update u)) = update_answer dg R u
 checked dg R (Ok (command.Packet a)) = Ok (command.Packet a)
 checked dg R (Err r) = Err r
@@ -66,15 +66,15 @@ answer_of s line = checked s.digest s.resources (command_of line)
 
 -- ---- what a line flushes
 
--- a flush sends the messages from the view that was sent to that of the resources
-abbrev pub flush_of : State → Flush
-flush_of s = flush None s.sent (view_of s.digest s.resources)
+-- a flush sends the messages from the view that was sent towards that of the resources, so many at most where it has a limit
+abbrev pub flush_of : Option ℕ → State → Flush
+flush_of limit s = flush limit s.sent (view_of s.digest s.resources)
 
 -- no other line sends anything
 abbrev pub flushed_in : State → Result Command Refusal → Option Flush
 flushed_in s (Ok command.Blank) = None
 flushed_in s (Ok command.Tables) = None
-flushed_in s (Ok command.Flush) = Some (flush_of s)
+flushed_in s (Ok (command.Flush limit)) = Some (flush_of limit s)
 flushed_in s (Ok (command.Update u)) = None
 flushed_in s (Ok (command.Packet a)) = None
 flushed_in s (Err r) = None
@@ -87,7 +87,7 @@ flushed_by s line = flushed_in s (answer_of s line)
 abbrev pub accepted : State → Command → State
 accepted s command.Blank = s
 accepted s command.Tables = s
-accepted s command.Flush = record s { sent = (flush_of s).ends }
+accepted s (command.Flush limit) = record s { sent = (flush_of limit s).ends }
 accepted s (command.Update u) = record s { resources = after s.resources u }
 accepted s (command.Packet a) = s
 
@@ -112,24 +112,29 @@ abbrev pub first_text : Option Change → List ℕ
 first_text None = []
 first_text (Some c) = message_line c
 
--- the messages from one view to another
-abbrev pub messages_text : View → View → List ℕ
-messages_text sent wanted = concat (map message_line (flush None sent wanted).messages)
+-- the messages from one view towards another
+abbrev pub messages_text : Option ℕ → View → View → List ℕ
+messages_text limit sent wanted = concat (map message_line (flush limit sent wanted).messages)
 
 -- how many there are, as far as 64 bits tell
 abbrev pub count_of : Flush → ℕ
 count_of f = min (length f.messages) (2 ^ 64 - 1)
 
-abbrev pub message_count : View → View → ℕ
-message_count sent wanted = count_of (flush None sent wanted)
+abbrev pub message_count : Option ℕ → View → View → ℕ
+message_count limit sent wanted = count_of (flush limit sent wanted)
 
-abbrev pub flush_text : View → View → List ℕ
-flush_text sent wanted = messages_text sent wanted ++ flushed_line (message_count sent wanted)
+-- whether messages are left behind them
+abbrev pub leaves_more : Option ℕ → View → View → Bool
+leaves_more limit sent wanted = is_some (next_message (flush limit sent wanted).ends wanted)
+
+abbrev pub flush_text : Option ℕ → View → View → List ℕ
+flush_text limit sent wanted =
+    messages_text limit sent wanted ++ flushed_line (message_count limit sent wanted) (leaves_more limit sent wanted)
 
 abbrev pub command_text : State → Command → List ℕ
 command_text s command.Blank = []
 command_text s command.Tables = concat (table_lines (tables_of s.sent))
-command_text s command.Flush = flush_text s.sent (view_of s.digest s.resources)
+command_text s (command.Flush limit) = flush_text limit s.sent (view_of s.digest s.resources)
 command_text s (command.Update u) = []
 command_text s (command.Packet a) = packet_text (tables_of s.sent) a
 

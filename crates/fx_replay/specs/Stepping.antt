@@ -12,7 +12,7 @@ use Rattle.fx_replay.specs.Output.{State, next, checked, after_answer, answer_of
 pub step-lines : (s : State) (a : Result Command Refusal) → (after_answer s a).lines ≡ s.lines + 1
 step-lines s (Ok command.Blank) = refl
 step-lines s (Ok command.Tables) = refl
-step-lines s (Ok command.Flush) = refl
+step-lines s (Ok (command.Flush limit)) = refl
 step-lines s (Ok (command.Update u)) = refl
 step-lines s (Ok (command.Packet a)) = refl
 step-lines s (Err r) = refl

@@ -15,7 +15,7 @@ use Rattle.fx_replay.specs.Output.{State, answer_of}
 abbrev pub tests_in : (f : Resources → Update → ℕ) → Resources → Result Command Refusal → ℕ
 tests_in f R (Ok command.Blank) = 0
 tests_in f R (Ok command.Tables) = 0
-tests_in f R (Ok command.Flush) = 0
+tests_in f R (Ok (command.Flush limit)) = 0
 tests_in f R (Ok (command.Update u)) = f R u
 tests_in f R (Ok (command.Packet a)) = 0
 tests_in f R (Err r) = 0

@@ -1,5 +1,5 @@
 //! Answers one line after another.
-ghost use Rattle.std.specs.Prelude.{◌≡◌, ◌-◌, ◌^◌, ◌<◌, OnOk, IfOk, false, true};
+ghost use Rattle.std.specs.Prelude.{◌≡◌, ◌-◌, ◌^◌, ◌<◌, OnOk, IfOk, None, false, true};
 ghost use Rattle.std.specs.List.{concat};
 ghost use Rattle.fx_model.specs.Closed.{IsClosedView};
 ghost use Rattle.fx_model.specs.TableTexts.{table_lines};
@@ -16,7 +16,7 @@ ghost use Rattle.fx_replay.specs.Standing.{state_of};
 ghost use Rattle.fx_replay.specs.Stepping.{next-lines, next-clip};
 ghost use Rattle.fx_run.specs.Writing.{Writes};
 
-use crate::sending::send;
+use crate::sending::send_up_to;
 use crate::tally::Tally;
 use fx_agent::{Agent, UpdateFault};
 use fx_base::{CountSink, Counter, Memory, Sink, Text};
@@ -106,7 +106,7 @@ impl<R: DigestRule, F: DigestFunction<R> + Drop> Replay<R, F> {
         match said {
             Ok(Command::Blank) => Ok(()),
             Ok(Command::Tables) => self.put_tables(sink),
-            Ok(Command::Flush) => self.flush(sink),
+            Ok(Command::Flush { limit }) => self.flush(limit, sink),
             Ok(Command::Update(update)) => self.take(update, sink),
             Ok(Command::Packet(packet)) => self.put_packet(&packet, sink),
             Err(refusal) => self.refuse(&refusal, sink),
@@ -194,32 +194,33 @@ impl<R: DigestRule, F: DigestFunction<R> + Drop> Replay<R, F> {
         put_one(&line, sink)
     }
 
-    // Pulls until nothing is left, and tells how many messages there were.
-    fn flush<K: Sink>(&mut self, sink: &mut K) -> Result<(), RunFault>
+    // Pulls until nothing is left or the limit is met. Tells how many messages there were, and whether there are more.
+    fn flush<K: Sink>(&mut self, limit: Option<u32>, sink: &mut K) -> Result<(), RunFault>
         requires ready { self.old.agent.failed ≡ false }
         ensures ready { OnOk result (self.new.agent.failed ≡ false) }
         ensures state { OnOk result (state_of R.digest_of self.new.agent self.new.lines self.new.refused
-            ≡ accepted (state_of R.digest_of self.old.agent self.old.lines self.old.refused) Command.Flush) }
+            ≡ accepted (state_of R.digest_of self.old.agent self.old.lines self.old.refused) (Command.Flush limit)) }
         ensures tally { OnOk result (self.new.tally ≡ one_flush_more self.old.tally
-            (message_count self.old.agent.sent (view_of R.digest_of self.old.agent.resources))) }
+            (message_count limit self.old.agent.sent (view_of R.digest_of self.old.agent.resources))) }
         ensures ticks { self.new.ticks ≡ self.old.ticks }
         ensures writes { Writes (K.state sink.old) (K.state sink.new)
-            (flush_text self.old.agent.sent (view_of R.digest_of self.old.agent.resources)) result }
+            (flush_text limit self.old.agent.sent (view_of R.digest_of self.old.agent.resources)) result }
     {
-        let count = send(self.alloc, &mut self.agent, sink)?;
+        let count = send_up_to(self.alloc, limit, &mut self.agent, sink)?;
         self.tally.add(count);
-        put_count(self.alloc, count, sink)
+        let more = self.agent.pending();
+        put_count(self.alloc, count, more, sink)
     }
 
-    /// Flushes, and writes nothing.
+    /// Flushes without a limit, and writes nothing.
     pub fn flush_quietly(&mut self) -> Result<(), Memory>
         requires ready { self.old.agent.failed ≡ false }
         ensures tally { OnOk result (self.new.tally ≡ one_flush_more self.old.tally
-            (message_count self.old.agent.sent (view_of R.digest_of self.old.agent.resources))) }
+            (message_count None self.old.agent.sent (view_of R.digest_of self.old.agent.resources))) }
         ensures ticks { self.new.ticks ≡ self.old.ticks }
         ensures refused { OnOk result (self.new.refused ≡ self.old.refused) }
     {
-        match self.flush(&mut CountSink::new()) {
+        match self.flush(None, &mut CountSink::new()) {
             Ok(()) => Ok(()),
             Err(fault) => Err(fault.want_of_memory()),
         }
@@ -269,10 +270,10 @@ impl<R: DigestRule, F: DigestFunction<R> + Drop> Machine for Replay<R, F> {
     ghost counts = { next-lines };
 }
 
-fn put_count<K: Sink>(alloc: Global, count: u64, sink: &mut K) -> Result<(), RunFault>
-    ensures writes { Writes (K.state sink.old) (K.state sink.new) (flushed_line count) result }
+fn put_count<K: Sink>(alloc: Global, count: u64, more: bool, sink: &mut K) -> Result<(), RunFault>
+    ensures writes { Writes (K.state sink.old) (K.state sink.new) (flushed_line count more) result }
 {
-    let line = flushed_text(alloc, count)?;
+    let line = flushed_text(alloc, count, more)?;
     put_one(&line, sink)
 }
 

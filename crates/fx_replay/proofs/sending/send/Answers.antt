@@ -34,7 +34,7 @@ loop-count-preserved g c =
         i.output.0 ++ first,
         Appends-more _ _ _ i.output.0 first i.output.1 s.writes.whole,
         append_assoc i.output.0 first _
-            ∙ (λ j. i.output.0 ++ (first ++ messages_text (s.step j) (view_of dg (s.resources j))))
+            ∙ (λ j. i.output.0 ++ (first ++ messages_text None (s.step j) (view_of dg (s.resources j))))
             ∙ ap (λ (l : List ℕ). i.output.0 ++ l) (sym (messages_step sent w))
             ∙ i.output.2,
       );
@@ -55,9 +55,9 @@ returns-in_err-send_next-clause-writes g c =
     let w = view_of dg c.loop-count.agent.resources in
     let all = c.args.agent.now in
     let first = first_text (next_message sent w) in
-    let whole : i.output.0 ++ (first ++ messages_text (step sent w) w) ≡ messages_text all.sent (view_of dg all.resources) =
+    let whole : i.output.0 ++ (first ++ messages_text None (step sent w) w) ≡ messages_text None all.sent (view_of dg all.resources) =
     ap (λ (l : List ℕ). i.output.0 ++ l) (sym (messages_step sent w)) ∙ i.output.2 in
-    rw (p.1, p.2, ← whole) (Writes-stopped (g.K.Sink.state c.args.sink.now) (g.K.Sink.state c.loop-count.sink) _ i.output.0 first (messages_text (step sent w) w) _ i.output.1 i.later s.prefix s.later s.cause)
+    rw (p.1, p.2, ← whole) (Writes-stopped (g.K.Sink.state c.args.sink.now) (g.K.Sink.state c.loop-count.sink) _ i.output.0 first (messages_text None (step sent w) w) _ i.output.1 i.later s.prefix s.later s.cause)
 
 pub returns-clause-count : goal.returns-clause-count
 returns-clause-count g c =
@@ -88,7 +88,7 @@ returns-clause-writes g c =
     let w = view_of dg c.loop-count.agent.resources in
     let all = c.args.agent.now in
     let none : is_some (next_message sent w) ≡ false = sym s.found ∙ c.if-branch.false in
-    let whole : i.output.0 ++ first_text (next_message sent w) ≡ messages_text all.sent (view_of dg all.resources) =
+    let whole : i.output.0 ++ first_text (next_message sent w) ≡ messages_text None all.sent (view_of dg all.resources) =
     ap (λ (l : List ℕ). i.output.0 ++ l) (nothing_told sent w none ∙ sym (messages_end sent w none)) ∙ i.output.2 in
     record {
       whole = rw (← whole) (Appends-more _ _ _ i.output.0 (first_text (next_message sent w)) i.output.1 s.writes.whole);
