@@ -1,10 +1,11 @@
 -- Every view that is sent along a run is closed, and so are its tables.
-use Rattle.std.proofs.Common.{ℕ, List, [], ◌∷◌, None, Result, Ok, Err, sym, subst}
+use Rattle.std.proofs.Common.{ℕ, List, [], ◌∷◌, Result, Ok, Err}
 use Rattle.std.specs.List.{AllByRecursion}
 use Rattle.fx_model.specs.declared.view.View.{View}
 use Rattle.fx_model.specs.Closed.{IsClosedView}
+use Rattle.fx_model.specs.Messages.{Change, flush, sent_after, sent_views, step_at}
 use Rattle.fx_model.specs.Views.{view_of}
-use Rattle.fx_laws.proofs.Flushes.{flush-closed, flush-ends}
+use Rattle.fx_laws.proofs.Flushes.{flush-closed}
 use Rattle.fx_laws.proofs.Leading.{closed-tables}
 use Rattle.fx_laws.proofs.ViewClosed.{view_of-closed}
 use Rattle.fx_fields.specs.declared.refusal.Refusal.{Refusal}
@@ -24,15 +25,23 @@ wholes (v ∷ vs) all = (record { view = all.0; tables = closed-tables v all.0 }
 in_line : (s : State) (a : Result Command Refusal) → IsClosedView s.sent → AllByRecursion IsWhole (views_in s (flushed_in s a))
 in_line s (Ok command.Blank) closed = tt
 in_line s (Ok command.Tables) closed = tt
-in_line s (Ok command.Flush) closed = wholes _ (flush-closed None s.sent _ closed (view_of-closed s.digest s.resources))
+in_line s (Ok (command.Flush limit)) closed = wholes _ (flush-closed limit s.sent _ closed (view_of-closed s.digest s.resources))
 in_line s (Ok (command.Update u)) closed = tt
 in_line s (Ok (command.Packet a)) closed = tt
 in_line s (Err r) closed = tt
 
+-- what holds of each view on the way of a flush, and of the one before it, holds of the one that it ends at
+last_sent : (w : View) (P : View → Type 0) (cs : List Change) (s : View) → P s → AllByRecursion P (sent_views cs s w) → P (sent_after cs s w)
+unfolding sent_views sent_after
+last_sent w P [] s holds all = holds
+last_sent w P (c ∷ cs) s holds all = last_sent w P cs (step_at c s w) all.0 all.1
+
 after_line : (s : State) (a : Result Command Refusal) → IsClosedView s.sent → IsClosedView (after_answer s a).sent
 after_line s (Ok command.Blank) closed = closed
 after_line s (Ok command.Tables) closed = closed
-after_line s (Ok command.Flush) closed = subst IsClosedView (sym (flush-ends s.sent (view_of s.digest s.resources))) (view_of-closed s.digest s.resources)
+after_line s (Ok (command.Flush limit)) closed =
+    let w = view_of s.digest s.resources in
+    last_sent w IsClosedView (flush limit s.sent w).messages s.sent closed (flush-closed limit s.sent w closed (view_of-closed s.digest s.resources))
 after_line s (Ok (command.Update u)) closed = closed
 after_line s (Ok (command.Packet a)) closed = closed
 after_line s (Err r) closed = closed

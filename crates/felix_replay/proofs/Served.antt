@@ -33,7 +33,7 @@ untaken s was u read None is = record {
 answered : (s : State) → IsServable s.digest s.resources → (said : Result Command Refusal) → IfOk said IsReadCommand → IsServable s.digest (after_answer s (checked s.digest s.resources said)).resources
 answered s was (Ok command.Blank) read = was
 answered s was (Ok command.Tables) read = was
-answered s was (Ok command.Flush) read = was
+answered s was (Ok (command.Flush limit)) read = was
 answered s was (Ok (command.Update u)) read = untaken s was u read (clash s.digest s.resources u) refl
 answered s was (Ok (command.Packet a)) read = was
 answered s was (Err r) read = was
@@ -42,7 +42,7 @@ answered s was (Err r) read = was
 accepted-digest : (s : State) (c : Command) → (accepted s c).digest ≡ s.digest
 accepted-digest s command.Blank = refl
 accepted-digest s command.Tables = refl
-accepted-digest s command.Flush = refl
+accepted-digest s (command.Flush limit) = refl
 accepted-digest s (command.Update u) = refl
 accepted-digest s (command.Packet a) = refl
 

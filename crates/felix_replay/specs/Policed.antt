@@ -45,8 +45,8 @@ pub record TellsPolicy (s : State) (line : List ℕ) (a : Packet) : Type 0 where
   pub run : let answer = packet_verdict s.resources a in Traces (tables_of s.sent) a [] path answer.verdict answer.egress answer.ingress
   pub output : text s line ≡ concat (policy_lines path s.resources a)
 
--- after any lines, a line with a first packet is answered so, where the sent view is that of the resources: a flush leads there, and all
--- lines behind it but accepted updates leave it so (`FlushesSendAll`)
+-- after any lines, a line with a first packet is answered so, where the sent view is that of the resources: a flush that leaves no
+-- message leads there, and all lines behind it but accepted updates leave it so (`FlushesSendAll`)
 abbrev pub KeepsPolicy : Digest → List ℕ → Type 0
 KeepsPolicy dg node =
     (lines : List (List ℕ)) (line : List ℕ) (a : Packet) → let s = state_after next (start dg node) lines in

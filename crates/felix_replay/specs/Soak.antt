@@ -51,7 +51,7 @@ soak_flushes dg node soak = flushes_along (start dg node) (drawn_lines soak.seed
 
 abbrev pub soak_messages : Digest → List ℕ → Soak → ℕ
 soak_messages dg node soak =
-    messages_along (start dg node) (drawn_lines soak.seed node soak.count) + length (flush_of (soak_end dg node soak)).messages
+    messages_along (start dg node) (drawn_lines soak.seed node soak.count) + length (flush_of None (soak_end dg node soak)).messages
 
 -- those of a soak run, at least and at most; the last flush calls for none
 abbrev pub soak_least : Digest → List ℕ → Soak → ℕ

@@ -1,4 +1,4 @@
-use Rattle.std.proofs.Common.{◌-◌, ◌^◌, ap, subst, sym, ◌∙◌, min, ℕ, length}
+use Rattle.std.proofs.Common.{◌-◌, ◌^◌, ap, subst, sym, ◌∙◌, min, ℕ, length, None}
 use Rattle.fx_base.specs.Ticks.{IsTicked}
 use Rattle.fx_base.specs.declared.counts.Counter.{Counter}
 use Rattle.fx_print.specs.Texts.{soak_line}
@@ -19,8 +19,8 @@ returns g c =
     let replay = c.flush_quietly.new.self in
     let end = soak_end dg node run in
     let lines = drawn_lines run.seed node run.count in
-    let sent = ap (λ (s : State). length (flush_of s).messages) drawn.state in
-    let tally = tally-end (flushes_along (start dg node) lines) (messages_along (start dg node) lines) (length (flush_of end).messages) c.answer_drawn.new.replay.tally replay.tally drawn.tally (last.tally ∙ ap (λ (n : ℕ). one_flush_more c.answer_drawn.new.replay.tally (min n (2 ^ 64 - 1))) sent) in
+    let sent = ap (λ (s : State). length (flush_of None s).messages) drawn.state in
+    let tally = tally-end (flushes_along (start dg node) lines) (messages_along (start dg node) lines) (length (flush_of None end).messages) c.answer_drawn.new.replay.tally replay.tally drawn.tally (last.tally ∙ ap (λ (n : ℕ). one_flush_more c.answer_drawn.new.replay.tally (min n (2 ^ 64 - 1))) sent) in
     let counted = c.count.ensures ∙ ap (λ (t : Counter). t.ticks) last.ticks in
     record {
       ticks = c.count.result;
