@@ -15,7 +15,7 @@ use std::{fs, io};
 const NODE: &str = "--node n1";
 
 // The name and the words of each.
-const EXAMPLES: [(&str, &str); 12] = [
+const EXAMPLES: [(&str, &str); 13] = [
     ("first", NODE),
     ("packets", NODE),
     ("rules", NODE),
@@ -27,6 +27,7 @@ const EXAMPLES: [(&str, &str); 12] = [
     ("kubectl", NODE),
     ("refusals", NODE),
     ("delete", NODE),
+    ("portions", NODE),
     ("soak", "--node n1 --soak 7 --count 2000"),
 ];
 

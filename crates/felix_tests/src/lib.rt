@@ -4,6 +4,8 @@
 #[cfg(test)]
 mod endpoint_rows;
 #[cfg(test)]
+mod flush_rows;
+#[cfg(test)]
 mod kube_rows;
 #[cfg(test)]
 mod kube_tests;

@@ -1,5 +1,5 @@
 //! Whole runs, from the bytes of a source to the bytes of a sink.
-use crate::{endpoint_rows, run_rows};
+use crate::{endpoint_rows, flush_rows, run_rows};
 use felix_replay::{Status, felix_replay};
 use fx_base::{MemSink, MemSource, SureSource, Text};
 use fx_names::{Namer, PlainRule};
@@ -54,6 +54,14 @@ fn runs_write_what_is_stored(rt: HostRuntime) -> Result<(), Fail> {
 #[test]
 fn endpoints_are_told_apart(rt: HostRuntime) -> Result<(), Fail> {
     for run in endpoint_rows::RUNS.split("\n= ") {
+        assert!(rt; is_stored(rt.alloc(), run)?, "{run}");
+    }
+    Ok(())
+}
+
+#[test]
+fn flushes_go_in_portions(rt: HostRuntime) -> Result<(), Fail> {
+    for run in flush_rows::RUNS.split("\n= ") {
         assert!(rt; is_stored(rt.alloc(), run)?, "{run}");
     }
     Ok(())
