@@ -1,75 +1,80 @@
--- Where the sent view is not as it is wanted, in the order of the messages that tell of it.
-use Rattle.std.specs.Prelude.{ℕ, List, ◌++◌, Bool, Option, Some, None, map}
-use Rattle.std.specs.List.{filter}
+-- Keys are pending where what was sent is not what is wanted, for each kind of message that tells of it.
+use Rattle.std.specs.Prelude.{◌≡◌, ℕ, List, Bool, true, false, not, ◌&&◌, ◌||◌, Option, Some, None, is_some}
+use Rattle.std.specs.Option.{option_eq}
+use Rattle.std.specs.Ordering.{nat_cmp}
+use Rattle.std.specs.Cmp.Lexicographic.{slice_cmp}
 use Rattle.std.specs.FinMap as maps
+use Rattle.fx_base.specs.Extended.{taken_from}
 use Rattle.fx_base.specs.Set as set
-use Rattle.fx_wanted.specs.declared.pending_key.PendingKey.{PendingKey}
-use Rattle.fx_wanted.specs.declared.pending_key.PendingKey.TheVariants as pending_key
-use Rattle.fx_model.specs.declared.view.View.{View}
-use Rattle.fx_model.specs.contracts.view.ViewPolicyPartialEq.TheImpl as policy_eq
-use Rattle.fx_model.specs.contracts.view.ViewProfilePartialEq.TheImpl as profile_eq
-use Rattle.fx_model.specs.contracts.view.ViewEndpointPartialEq.TheImpl as endpoint_eq
+use Rattle.fx_model.specs.Messages.{Named, Members}
 use Rattle.fx_model.specs.contracts.member.MemberSetPartialEq.TheImpl as members_eq
-use Rattle.fx_model.specs.Messages.{Named, Members, is_absent, is_changed, is_other, Change, SetAdd, SetDelta, PolicyPut, ProfilePut, EndpointPut, EndpointGone, ProfileGone, PolicyGone, SetGone}
-use Rattle.fx_sequencer.specs.declared.pending.Kind.{Kind}
-use Rattle.fx_sequencer.specs.declared.pending.Kind.TheVariants as kind
+use Rattle.fx_sequencer.specs.TwoSides.{TwoSides, side_at}
+use Rattle.fx_sequencer.specs.Entry.{sent_of, wanted_of, is_exact}
+use Rattle.fx_sequencer.specs.declared.entry.Entry.{Entry}
 
--- the pending keys of a map's entries that pass a test
-abbrev pub keys_where : {X : Type 0} → (List ℕ → PendingKey) → (List ℕ × X → Bool) → Named X → List PendingKey
-keys_where at test n = map (λ e. at e.0) (filter test (maps.entries n))
+-- keys, in the order of their bytes
+abbrev pub Keys : Type 0
+Keys = set.Set (slice_cmp nat_cmp)
 
--- the pending keys of n that m has not
-abbrev pub absent_keys : {X : Type 0} → (List ℕ → PendingKey) → Named X → Named X → List PendingKey
-absent_keys at m n = keys_where at (is_absent m) n
+-- without this key, if there is one
+abbrev pub without : Option (List ℕ) → Keys → Keys
+without None keys = keys
+without (Some k) keys = set.remove keys k
 
--- the pending keys of n at which m has not the same value
-abbrev pub changed_keys : {X : Type 0} → (X → X → Bool) → (List ℕ → PendingKey) → Named X → Named X → List PendingKey
-changed_keys eq at m n = keys_where at (is_changed eq m) n
+-- the map m, but at the key of this entry as n is there
+abbrev pub taken_first : {X : Type 0} → Option (List ℕ × X) → Named X → Named X → Named X
+taken_first None m n = m
+taken_first (Some e) m n = taken_from m n e.0
 
--- the pending keys of n at which m has another value
-abbrev pub other_keys : {X : Type 0} → (X → X → Bool) → (List ℕ → PendingKey) → Named X → Named X → List PendingKey
-other_keys eq at m n = keys_where at (is_other eq m) n
+-- ---- what a message tells of a key, by its two sides
 
-abbrev pub key_of_kind : Kind → List ℕ → PendingKey
-key_of_kind kind.Policy k = pending_key.Policy k
-key_of_kind kind.Profile k = pending_key.Profile k
+-- it is wanted, and was not sent; with the sides exchanged, it was sent and is wanted no more
+abbrev pub comes : {X : Type 0} → Option X → Option X → Bool
+comes sent None = false
+comes sent (Some x) = not (is_some sent)
 
--- sets that are new and sets with other members; policies, profiles and endpoints that are new or other
-abbrev pub put_keys : View → View → List PendingKey
-put_keys sent wanted =
-    absent_keys pending_key.Set sent.sets wanted.sets
-    ++ (other_keys members_eq.eq-value.it pending_key.Set sent.sets wanted.sets
-    ++ (changed_keys policy_eq.eq-value.it pending_key.Policy sent.policies wanted.policies
-    ++ (changed_keys profile_eq.eq-value.it pending_key.Profile sent.profiles wanted.profiles
-    ++ changed_keys endpoint_eq.eq-value.it pending_key.Endpoint sent.endpoints wanted.endpoints)))
+-- it is wanted, and was not sent, or as another value
+abbrev pub changes : {X : Type 0} → (X → X → Bool) → Option X → Option X → Bool
+changes eq sent None = false
+changes eq sent (Some x) = not (option_eq eq sent (Some x))
 
--- then endpoints, profiles, policies and sets that are gone
-abbrev pub gone_keys : View → View → List PendingKey
-gone_keys sent wanted =
-    absent_keys pending_key.Endpoint wanted.endpoints sent.endpoints
-    ++ (absent_keys pending_key.Profile wanted.profiles sent.profiles
-    ++ (absent_keys pending_key.Policy wanted.policies sent.policies
-    ++ absent_keys pending_key.Set wanted.sets sent.sets))
+-- it is wanted, and was sent as another value
+abbrev pub alters : {X : Type 0} → (X → X → Bool) → Option X → Option X → Bool
+alters eq sent None = false
+alters eq sent (Some x) = is_some sent && not (option_eq eq sent (Some x))
 
-unfoldable pub pending_keys : View → View → List PendingKey
-pending_keys sent wanted = put_keys sent wanted ++ gone_keys sent wanted
+-- ---- the keys of a map with values
 
--- ---- what is told of a key
+-- a key is pending exactly where its sides differ so, and it is kept only where it has a side
+pub record ArePending {X : Type 0} (eq : X → X → Bool) (held : Named (Entry X)) (to_put to_take : Keys) : Type 0 where
+  pub exact : (k : List ℕ) → is_exact eq (maps.get held k) ≡ true
+  pub puts : (k : List ℕ) → set.contains to_put k ≡ changes eq (side_at sent_of held k) (side_at wanted_of held k)
+  pub takes : (k : List ℕ) → set.contains to_take k ≡ comes (side_at wanted_of held k) (side_at sent_of held k)
 
--- of a set by the members that it had, if it was there
-abbrev pub set_put : List ℕ → Option Members → Members → Change
-set_put k None members = SetAdd k (set.items members)
-set_put k (Some before) members = SetDelta k (set.items_minus members before) (set.items_minus before members)
+-- ---- the names of sets
 
-abbrev pub put_or_gone : {X : Type 0} → (X → Change) → Change → Option X → Change
-put_or_gone put gone None = gone
-put_or_gone put gone (Some x) = put x
+-- a set by both sides
+abbrev pub SetSides : Type 0
+SetSides = TwoSides (Option Members)
 
-abbrev pub set_change : List ℕ → Option Members → Option Members → Change
-set_change k before wanted = put_or_gone (set_put k before) (SetGone k) wanted
+abbrev pub sent_set : SetSides → Option Members
+sent_set s = s.sent
 
-abbrev pub change_at : PendingKey → View → View → Change
-change_at (pending_key.Set k) sent wanted = set_change k (maps.get sent.sets k) (maps.get wanted.sets k)
-change_at (pending_key.Policy k) sent wanted = put_or_gone (PolicyPut k) (PolicyGone k) (maps.get wanted.policies k)
-change_at (pending_key.Profile k) sent wanted = put_or_gone (ProfilePut k) (ProfileGone k) (maps.get wanted.profiles k)
-change_at (pending_key.Endpoint k) sent wanted = put_or_gone (EndpointPut k) (EndpointGone k) (maps.get wanted.endpoints k)
+abbrev pub wanted_set : SetSides → Option Members
+wanted_set s = s.wanted
+
+-- it has a side, if it is kept
+abbrev pub has_side : Option SetSides → Bool
+has_side None = true
+has_side (Some s) = is_some s.sent || is_some s.wanted
+
+-- sets as a whole are compared as Rust's `==` does
+abbrev pub same_sets : Members → Members → Bool
+same_sets = members_eq.eq-value.it
+
+-- a name is pending exactly where its sides differ so, and it is kept only where it has a side
+pub record ArePendingSets (held : Named SetSides) (to_add to_change to_take : Keys) : Type 0 where
+  pub there : (k : List ℕ) → has_side (maps.get held k) ≡ true
+  pub adds : (k : List ℕ) → set.contains to_add k ≡ comes (side_at sent_set held k) (side_at wanted_set held k)
+  pub changed : (k : List ℕ) → set.contains to_change k ≡ alters same_sets (side_at sent_set held k) (side_at wanted_set held k)
+  pub takes : (k : List ℕ) → set.contains to_take k ≡ comes (side_at wanted_set held k) (side_at sent_set held k)

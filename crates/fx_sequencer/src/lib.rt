@@ -4,8 +4,15 @@
 pub use sequencer::Sequencer;
 pub use sides::Sides;
 
-mod at_key;
+mod entries;
+mod entry;
 mod held_sets;
-mod pending;
+mod members;
+mod name_entries;
+mod names;
 mod sequencer;
+mod set_entries;
+mod set_entry;
 mod sides;
+mod text_entries;
+mod texts;

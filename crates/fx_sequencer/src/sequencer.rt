@@ -4,9 +4,10 @@
 //!   `SetSink`. These calls change the view that is wanted now, and no other.
 //! - **Gives** the next message from the view that was sent towards that one, by `next_message`. `sent` marks it as sent. So of
 //!   what comes and goes between two messages only the difference is told.
-//! - **Holds** both views whole, and once a message was sent the keys that still differ, so that the messages after it need no
-//!   walk of the views. A change of the wanted view forgets them.
-ghost use Rattle.std.specs.Prelude.{◌≡◌, ◌↔◌, IsOk, OnOk, OnErr, IsSome, IsNone, Some, true, false, option_map};
+//! - **Holds** of each key one entry with both sides, which is one value where they are equal, and the keys that are pending, in
+//!   order for each kind of message. So the next message is the first key of the first kind that has one, and `sent` costs what
+//!   that message tells.
+ghost use Rattle.std.specs.Prelude.{◌≡◌, ◌↔◌, OnOk, OnErr, IsSome, IsNone, Some, true, false, option_map};
 ghost use Rattle.std.specs.FinMap as map;
 ghost use Rattle.fx_base.specs.Set as set;
 ghost use Rattle.fx_model.specs.Lent.{change_of};
@@ -14,42 +15,28 @@ ghost use Rattle.fx_model.specs.Messages.{members_of, next_message, step};
 ghost use Rattle.fx_model.specs.Views.{empty_view};
 ghost use Rattle.fx_sequencer.specs.Sides.{SameSentAndSets};
 
-use crate::at_key::{first_message, listed, take_first};
-use crate::held_sets::{put_member, remove_member};
-use crate::sides::Sides;
+use crate::entries::Entries;
 use fx_base::{Memory, NameKey, SetName, Text};
-use fx_model::{
-    Member, MemberSet, Message, SetSink, View, ViewEndpoint, ViewPolicy, ViewProfile, ViewSink,
-};
-use fx_wanted::{PendingKey, next_message};
+use fx_model::{Member, Message, SetSink, ViewEndpoint, ViewPolicy, ViewProfile, ViewSink};
 use std::alloc::Global;
-use std::collections::VecDeque;
 use std::marker::Model;
 
 /// The sent view and the one that is wanted now. Want of memory leaves both as they were.
 #[derive(Drop)]
 pub struct Sequencer {
-    alloc: Global,
-    sides: Sides,
-    /// The pending keys, at which the sent view is not as it is wanted, in the order of their messages, if they were listed since the last change.
-    ahead: Option<VecDeque<PendingKey>>,
+    entries: Entries,
 }
 
 impl Model for Sequencer {
     ghost use Rattle.fx_sequencer.specs.declared.sides.Sides.{Sides};
     ghost use Rattle.fx_sequencer.specs.contracts.sides.Sides as both;
+    ghost use Rattle.fx_sequencer.specs.Sent.{views_of};
 
     ghost Value = { Sides };
 
     ghost coded = { both.the_row.coded };
 
-    ghost view = { λ a. a.sides };
-
-    ghost use Rattle.std.specs.Prelude.{◌≡◌};
-    ghost use Rattle.std.specs.Option.{ForSome};
-    ghost use Rattle.fx_sequencer.specs.Pending.{pending_keys};
-
-    ghost invariant = { λ a. ForSome a.ahead (λ pending. pending.items ≡ pending_keys a.sides.sent a.sides.wanted) };
+    ghost view = { λ a. views_of a.entries };
 }
 
 impl Sequencer {
@@ -57,9 +44,7 @@ impl Sequencer {
         ensures { result ≡ record { sent = empty_view; wanted = empty_view } }
     {
         Sequencer {
-            alloc,
-            sides: Sides::new(alloc),
-            ahead: None,
+            entries: Entries::new(alloc),
         }
     }
 
@@ -69,36 +54,21 @@ impl Sequencer {
         ensures message { option_map change_of result ≡ next_message self.now.sent self.now.wanted }
         ensures none { IsNone result ↔ (self.now.sent ≡ self.now.wanted) }
     {
-        match &self.ahead {
-            Some(pending) => first_message(pending, &self.sides.sent, &self.sides.wanted),
-            None => next_message(&self.sides.sent, &self.sides.wanted),
+        match self.entries.next_put() {
+            Some(message) => Some(message),
+            None => self.entries.next_gone(),
         }
     }
 
     /// Marks the next message as sent.
-    pub fn sent(&mut self) -> Result<(), Memory>
+    pub fn sent(&mut self)
         requires { IsSome (next_message self.old.sent self.old.wanted) }
-        ensures ok { OnOk result (self.new ≡ record self.old { sent = step self.old.sent self.old.wanted }) }
-        ensures err { OnErr result (self.new ≡ self.old) }
+        ensures { self.new ≡ record self.old { sent = step self.old.sent self.old.wanted } }
     {
-        let ahead = self.ahead.take();
-        let pending = listed(self.alloc, ahead, &self.sides.sent, &self.sides.wanted)?;
-        self.ahead = Some(take_first(&mut self.sides, pending)?);
-        Ok(())
-    }
-
-    /// The view that the messages so far have made.
-    pub fn sent_view(&self) -> &View
-        ensures { result.now ≡ self.now.sent }
-    {
-        &self.sides.sent
-    }
-
-    /// The view that is wanted now.
-    pub fn wanted(&self) -> &View
-        ensures { result.now ≡ self.now.wanted }
-    {
-        &self.sides.wanted
+        if self.entries.send_put() {
+            return;
+        }
+        self.entries.send_gone();
     }
 }
 
@@ -117,20 +87,18 @@ impl ViewSink for Sequencer {
         }) }
         ensures err { OnErr result (self.new ≡ self.old) }
     {
-        self.ahead = None;
-        self.sides.wanted.policies.insert(&key, policy)?;
+        self.entries.policies.put(&key, policy)?;
         Ok(())
     }
 
     fn policy_gone(&mut self, key: NameKey) -> Result<(), Memory>
         requires { IsSome (map.get self.old.wanted.policies key) }
-        ensures ok { IsOk result }
-        ensures gone { self.new ≡ record self.old {
+        ensures ok { OnOk result (self.new ≡ record self.old {
           wanted = record self.old.wanted { policies = map.remove self.old.wanted.policies key };
-        } }
+        }) }
+        ensures err { OnErr result (self.new ≡ self.old) }
     {
-        self.ahead = None;
-        self.sides.wanted.policies.remove(&key);
+        self.entries.policies.take(&key)?;
         Ok(())
     }
 
@@ -140,20 +108,18 @@ impl ViewSink for Sequencer {
         }) }
         ensures err { OnErr result (self.new ≡ self.old) }
     {
-        self.ahead = None;
-        self.sides.wanted.profiles.insert(&key, profile)?;
+        self.entries.profiles.put(&key, profile)?;
         Ok(())
     }
 
     fn profile_gone(&mut self, key: NameKey) -> Result<(), Memory>
         requires { IsSome (map.get self.old.wanted.profiles key) }
-        ensures ok { IsOk result }
-        ensures gone { self.new ≡ record self.old {
+        ensures ok { OnOk result (self.new ≡ record self.old {
           wanted = record self.old.wanted { profiles = map.remove self.old.wanted.profiles key };
-        } }
+        }) }
+        ensures err { OnErr result (self.new ≡ self.old) }
     {
-        self.ahead = None;
-        self.sides.wanted.profiles.remove(&key);
+        self.entries.profiles.take(&key)?;
         Ok(())
     }
 
@@ -163,23 +129,18 @@ impl ViewSink for Sequencer {
         }) }
         ensures err { OnErr result (self.new ≡ self.old) }
     {
-        self.ahead = None;
-        self.sides
-            .wanted
-            .endpoints
-            .insert(iface.clone()?, endpoint)?;
+        self.entries.endpoints.put(iface, endpoint)?;
         Ok(())
     }
 
     fn endpoint_gone(&mut self, iface: &Text) -> Result<(), Memory>
         requires { IsSome (map.get self.old.wanted.endpoints iface.now) }
-        ensures ok { IsOk result }
-        ensures gone { self.new ≡ record self.old {
+        ensures ok { OnOk result (self.new ≡ record self.old {
           wanted = record self.old.wanted { endpoints = map.remove self.old.wanted.endpoints iface.now };
-        } }
+        }) }
+        ensures err { OnErr result (self.new ≡ self.old) }
     {
-        self.ahead = None;
-        self.sides.wanted.endpoints.remove(iface);
+        self.entries.endpoints.take(iface)?;
         Ok(())
     }
 }
@@ -194,21 +155,18 @@ impl SetSink for Sequencer {
         }) }
         ensures err { OnErr result (self.new ≡ self.old) }
     {
-        self.ahead = None;
-        let members = MemberSet::new(self.alloc);
-        self.sides.wanted.sets.insert(&name, members)?;
+        self.entries.sets.put(&name)?;
         Ok(())
     }
 
     fn set_off(&mut self, name: SetName) -> Result<(), Memory>
         requires { map.get self.old.wanted.sets name ≡ Some set.empty }
-        ensures ok { IsOk result }
-        ensures gone { self.new ≡ record self.old {
+        ensures ok { OnOk result (self.new ≡ record self.old {
           wanted = record self.old.wanted { sets = map.remove self.old.wanted.sets name };
-        } }
+        }) }
+        ensures err { OnErr result (self.new ≡ self.old) }
     {
-        self.ahead = None;
-        self.sides.wanted.sets.remove(&name);
+        self.entries.sets.take(&name)?;
         Ok(())
     }
 
@@ -222,23 +180,21 @@ impl SetSink for Sequencer {
         }) }
         ensures err { OnErr result (self.new ≡ self.old) }
     {
-        self.ahead = None;
-        put_member(self.alloc, &mut self.sides.wanted.sets, &name, member)?;
+        self.entries.sets.put_member(&name, member)?;
         Ok(())
     }
 
     fn member_off(&mut self, name: SetName, member: Member) -> Result<(), Memory>
         requires there { IsSome (map.get self.old.wanted.sets name) }
         requires member { set.contains (members_of (map.get self.old.wanted.sets name)) member ≡ true }
-        ensures ok { IsOk result }
-        ensures gone { self.new ≡ record self.old {
+        ensures ok { OnOk result (self.new ≡ record self.old {
           wanted = record self.old.wanted {
             sets = map.insert self.old.wanted.sets name (set.remove (members_of (map.get self.old.wanted.sets name)) member);
           };
-        } }
+        }) }
+        ensures err { OnErr result (self.new ≡ self.old) }
     {
-        self.ahead = None;
-        remove_member(self.alloc, &mut self.sides.wanted.sets, &name, member);
+        self.entries.sets.take_member(&name, member)?;
         Ok(())
     }
 }
