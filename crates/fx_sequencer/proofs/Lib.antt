@@ -1,5 +1,14 @@
+pub mod AtOne
+pub mod EntryMaps
+pub mod Entering
 pub mod Exchanged
-pub mod NextPending
-pub mod PassingEntries
-pub mod PendingAfter
+pub mod FirstPending
+pub mod FlagLists
+pub mod Flagging
+pub mod Keeping
+pub mod Sending
+pub mod SetKeeping
+pub mod SetMaps
+pub mod Settling
 pub mod Silent
+pub mod Steps
