@@ -73,6 +73,6 @@ fn hand_on<O: MessageOut, R: DigestRule, F: DigestFunction<R> + Drop>(
     };
     out.message(&message)?;
     driver.apply(&message, &mut Counter::new())?;
-    graph.sent()?;
+    graph.sent();
     Ok(Pulled::Sent)
 }

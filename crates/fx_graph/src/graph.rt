@@ -3,7 +3,7 @@
 //! - **Takes** updates of the resources, one by one.
 //! - **Holds** the five nodes and the sequencer. Whatever the updates were, the view that is wanted is the view of the resources.
 //! - **Gives** the next message from the view that was sent towards that one, and takes note of it once it was sent.
-ghost use Rattle.std.specs.Prelude.{◌≡◌, ◌↔◌, true, OnOk, OnErr, IsSome, IsNone, option_map};
+ghost use Rattle.std.specs.Prelude.{◌≡◌, ◌↔◌, true, OnOk, IsSome, IsNone, option_map};
 ghost use Rattle.fx_base.specs.Ticks.{IsTicked};
 ghost use Rattle.fx_model.specs.declared.resources.Resources.{Resources};
 ghost use Rattle.fx_model.specs.Formed.{is_formed};
@@ -11,12 +11,12 @@ ghost use Rattle.fx_model.specs.Lent.{change_of};
 ghost use Rattle.fx_model.specs.Messages.{next_message, step};
 ghost use Rattle.fx_model.specs.Resources.{empty_resources};
 ghost use Rattle.fx_model.specs.Tests.{least_tests, most_tests};
-ghost use Rattle.fx_model.specs.Views.{empty_view, view_of};
+ghost use Rattle.fx_model.specs.Views.{empty_view};
 ghost use Rattle.fx_graph.specs.Graphs.{CanFollow, Follows, IsGraphOf, sides_of};
 
 use crate::state::GraphState;
 use fx_base::{Memory, Text, Ticker};
-use fx_model::{Message, Update, View};
+use fx_model::{Message, Update};
 use fx_names::{DigestFunction, DigestRule, Namer};
 use std::alloc::Global;
 
@@ -62,25 +62,14 @@ impl<R: DigestRule, F: DigestFunction<R> + Drop> Graph<R, F> {
         self.state.nodes.sequencer.peek()
     }
 
-    /// Marks the next message as sent.
-    pub fn sent(&mut self) -> Result<(), Memory>
+    /// Marks the next message as sent. It takes no memory.
+    pub fn sent(&mut self)
         requires { IsSome (next_message (sides_of self.old.state).sent (sides_of self.old.state).wanted) }
-        ensures ok { OnOk result (sides_of self.new.state ≡ record (sides_of self.old.state) { sent = step (sides_of self.old.state).sent (sides_of self.old.state).wanted }) }
+        ensures step { sides_of self.new.state ≡ record (sides_of self.old.state) { sent = step (sides_of self.old.state).sent (sides_of self.old.state).wanted } }
         ensures resources { (resources : Resources) → IsGraphOf R.digest_of resources self.old.state
             → IsGraphOf R.digest_of resources self.new.state }
-        ensures err { OnErr result (sides_of self.new.state ≡ sides_of self.old.state) }
     {
-        self.state.nodes.sequencer.sent()?;
-        Ok(())
-    }
-
-    /// The view that is wanted now: the view of the resources.
-    pub fn wanted(&self) -> &View
-        ensures wanted { result.now ≡ (sides_of self.now.state).wanted }
-        ensures resources { (resources : Resources) → IsGraphOf R.digest_of resources self.now.state
-            → result.now ≡ view_of R.digest_of resources }
-    {
-        self.state.nodes.sequencer.wanted()
+        self.state.nodes.sequencer.sent();
     }
 
     /// The names in the kernel.

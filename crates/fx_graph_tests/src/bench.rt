@@ -8,10 +8,10 @@ ghost use Rattle.fx_graph_tests.specs.Benches.{AreAlike, StaysAlike};
 use fx_base::{Counter, Memory};
 use fx_graph::Graph;
 use fx_lines::{Command, read_command};
-use fx_model::Update;
+use fx_model::{Message, Update, View};
 use fx_names::PlainRule;
 use fx_store::Store;
-use fx_wanted::view_of;
+use fx_wanted::{next_message, pending_key_of, take_at, view_of};
 use std::alloc::Global;
 use std::test::Fail;
 
@@ -49,19 +49,40 @@ fn take(update: Update, store: &mut Store, graph: &mut PlainGraph) -> Result<(),
     Ok(())
 }
 
-/// Marks the next message as sent, if there is one.
-pub fn deliver(graph: &mut PlainGraph) -> Result<(), Memory>
+/// Marks the next message as sent, if there is one. At its key the view that was told is then as the wanted one.
+pub fn deliver(graph: &mut PlainGraph, told: &mut View, wanted: &View) -> Result<(), Memory>
     ensures { OnOk result (StaysAlike graph.old.state graph.new.state) }
 {
-    if graph.peek().is_none() {
+    let Some(message) = graph.peek() else {
         return Ok(());
-    }
-    graph.sent()?;
+    };
+    let key = pending_key_of(&message)?;
+    take_at(told, wanted, key)?;
+    graph.sent();
     Ok(())
 }
 
-/// Whether the wanted view is that of the resources, computed whole.
-pub fn agrees(alloc: Global, store: &Store, graph: &PlainGraph) -> Result<bool, Memory> {
-    let view = view_of(alloc, store.resources(), graph.namer())?;
-    Ok(*graph.wanted() == view)
+/// Whether the next message tells of the key that comes first by the two views.
+pub fn tells_the_next(graph: &PlainGraph, told: &View, wanted: &View) -> Result<bool, Memory> {
+    match (graph.peek(), next_message(told, wanted)) {
+        (Some(message), Some(other)) => {
+            let by_graph = taken(told, wanted, &message)?;
+            let by_views = taken(told, wanted, &other)?;
+            Ok(by_graph == by_views)
+        }
+        (None, None) => Ok(true),
+        _ => Ok(false),
+    }
+}
+
+// The view that was told, after this message.
+fn taken(told: &View, wanted: &View, message: &Message<'_>) -> Result<View, Memory> {
+    let mut view = told.clone()?;
+    take_at(&mut view, wanted, pending_key_of(message)?)?;
+    Ok(view)
+}
+
+/// The view of the resources, computed whole.
+pub fn wanted_view(alloc: Global, store: &Store, graph: &PlainGraph) -> Result<View, Memory> {
+    view_of(alloc, store.resources(), graph.namer())
 }

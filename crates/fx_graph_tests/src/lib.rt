@@ -1,4 +1,4 @@
-//! The tests of `fx_graph`: after each update of a stored list the wanted view is the view of the resources, computed whole.
+//! The tests of `fx_graph`: after each update of a stored list the next message is the one towards the view of the resources, computed whole.
 #![tactic(auto)]
 
 #[cfg(test)]

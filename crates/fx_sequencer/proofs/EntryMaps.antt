@@ -70,11 +70,11 @@ module _ {X : Type 0} (eq : X → X → Bool) (held : Named (Entry X)) (to_put t
     sent_maps itself now at =
         let x = put_first.value in
         let sent : projected sent_of now ≡ taken_first (first_changed eq v.sent v.wanted) v.sent v.wanted =
-            settled_sent eq held to_put to_take was k itself x put_there now at
-            ∙ ap (λ (u : TwoSides (Named X)). maps.insert u.sent k x) is
-            ∙ sym (first_sent (is_changed eq v.sent) v.wanted k put_first v.sent) in
+        settled_sent eq held to_put to_take was k itself x put_there now at
+        ∙ ap (λ (u : TwoSides (Named X)). maps.insert u.sent k x) is
+        ∙ sym (first_sent (is_changed eq v.sent) v.wanted k put_first v.sent) in
         let wanted : projected wanted_of now ≡ v.wanted =
-            settled_wanted eq held to_put to_take was k itself x put_there now at ∙ ap (λ (u : TwoSides (Named X)). u.wanted) is in
+        settled_wanted eq held to_put to_take was k itself x put_there now at ∙ ap (λ (u : TwoSides (Named X)). u.wanted) is in
         λ i. record { sent = sent i; wanted = wanted i }
 
     pub sent_pending : (itself : (a : X) → eq a a ≡ true) (now : Named (Entry X)) → now ≡ maps.insert held k (settled (side_at wanted_of held k))
@@ -98,11 +98,11 @@ module _ {X : Type 0} (eq : X → X → Bool) (held : Named (Entry X)) (to_put t
     pub gone_maps : (now : Named (Entry X)) → now ≡ maps.remove held k → entry_maps now ≡ record v { sent = taken_first (first_absent v.wanted v.sent) v.sent v.wanted }
     gone_maps now at =
         let sent : projected sent_of now ≡ taken_first (first_absent v.wanted v.sent) v.sent v.wanted =
-            taken_sent eq held to_put to_take was k now at
-            ∙ ap (λ (u : TwoSides (Named X)). maps.remove u.sent k) is
-            ∙ sym (first_taken (is_absent v.wanted) v.sent k taken_here v.sent v.wanted not_there) in
+        taken_sent eq held to_put to_take was k now at
+        ∙ ap (λ (u : TwoSides (Named X)). maps.remove u.sent k) is
+        ∙ sym (first_taken (is_absent v.wanted) v.sent k taken_here v.sent v.wanted not_there) in
         let wanted : projected wanted_of now ≡ v.wanted =
-            taken_wanted eq held to_put to_take was k now at unwanted ∙ ap (λ (u : TwoSides (Named X)). u.wanted) is in
+        taken_wanted eq held to_put to_take was k now at unwanted ∙ ap (λ (u : TwoSides (Named X)). u.wanted) is in
         λ i. record { sent = sent i; wanted = wanted i }
 
     pub gone_pending : (now : Named (Entry X)) → now ≡ maps.remove held k → (take : Keys) → take ≡ set.remove to_take k → ArePending eq now to_put take

@@ -6,6 +6,8 @@ pub mod FirstPending
 pub mod FlagLists
 pub mod Flagging
 pub mod Keeping
+pub mod OneMember
+pub mod OneSet
 pub mod Sending
 pub mod SetKeeping
 pub mod SetMaps

@@ -136,9 +136,9 @@ module _ (held : Named SetSides) (to_add to_change to_take : Keys) (was : ArePen
     pub gone_maps : (now : Named SetSides) → now ≡ maps.remove held k → set_maps now ≡ record v { sent = taken_first (first_absent v.wanted v.sent) v.sent v.wanted }
     gone_maps now at =
         let sent : projected sent_set now ≡ taken_first (first_absent v.wanted v.sent) v.sent v.wanted =
-            taken_set_sent held to_add to_change to_take was k now at
-            ∙ ap (λ (u : TwoSides (Named Members)). maps.remove u.sent k) is
-            ∙ sym (first_taken (is_absent v.wanted) v.sent k taken_here v.sent v.wanted not_there) in
+        taken_set_sent held to_add to_change to_take was k now at
+        ∙ ap (λ (u : TwoSides (Named Members)). maps.remove u.sent k) is
+        ∙ sym (first_taken (is_absent v.wanted) v.sent k taken_here v.sent v.wanted not_there) in
         let wanted : projected wanted_set now ≡ v.wanted = taken_set_wanted held to_add to_change to_take was k now at unwanted ∙ ap (λ (u : TwoSides (Named Members)). u.wanted) is in
         λ i. record { sent = sent i; wanted = wanted i }
 

@@ -111,7 +111,8 @@ fn is_wanted(members: &MemberFlags, member: Member) -> bool
     }
 }
 
-fn first_member(members: &MemberSet) -> Option<Member>
+/// The first of the members.
+pub fn first_member(members: &MemberSet) -> Option<Member>
     ensures { result ≡ slice_get (set.items members.now) 0 }
 {
     members.iter().next().copied()

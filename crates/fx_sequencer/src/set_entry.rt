@@ -4,7 +4,7 @@ ghost use Rattle.fx_base.specs.Set as set;
 ghost use Rattle.fx_model.specs.Messages.{members_of};
 ghost use Rattle.fx_sequencer.specs.Pending.{alters, comes, same_sets};
 
-use crate::members::{put_known, put_new, settle, take_told};
+use crate::members::{first_member, put_known, put_new, settle, take_told};
 use fx_base::Memory;
 use fx_model::{Flags, Member, MemberFlags, MemberList, MemberSet};
 use std::alloc::Global;
@@ -80,7 +80,7 @@ impl SetEntry {
         if !self.wanted {
             return false;
         }
-        self.differing.len() > 0
+        first_member(&self.differing).is_some()
     }
 
     /// The members of a set that is wanted and was not sent.

@@ -40,33 +40,13 @@ returns-in_err-apply-clause-driver g c =
     let p = err_from_is_err_and c.from_residual-in_err-apply.result c.from_residual-in_err-apply.ensures.1 in
     λ is. no_write _ p.0 p.1 p.2 is
 
-pub returns-in_err-sent-clause-out : goal.returns-in_err-sent-clause-out
-returns-in_err-sent-clause-out g c =
-    let p = err_from_is_err_and c.from_residual-in_err-sent.result c.from_residual-in_err-sent.ensures.1 in
-    rw (p.1, p.2) (change_of c.in-Some.message, (sym c.in-Some.ensures.message, inl c.in_ok-message.ensures.whole))
-
-pub returns-in_err-sent-clause-cause : goal.returns-in_err-sent-clause-cause
-returns-in_err-sent-clause-cause g c =
-    let p = err_from_is_err_and c.from_residual-in_err-sent.result c.from_residual-in_err-sent.ensures.1 in
-    λ is. no_write _ p.0 p.1 p.2 is
-
-pub returns-in_err-sent-clause-graph : goal.returns-in_err-sent-clause-graph
-returns-in_err-sent-clause-graph g c =
-    let p = err_from_is_err_and c.from_residual-in_err-sent.result c.from_residual-in_err-sent.ensures.1 in
-    λ is. no_write _ p.0 p.1 p.2 is
-
-pub returns-in_err-sent-clause-driver : goal.returns-in_err-sent-clause-driver
-returns-in_err-sent-clause-driver g c =
-    let p = err_from_is_err_and c.from_residual-in_err-sent.result c.from_residual-in_err-sent.ensures.1 in
-    λ is. no_write _ p.0 p.1 p.2 is
-
 pub returns-clause-driven : goal.returns-clause-driven
 returns-clause-driven g c =
     let after = driven-on c.args.graph.now.state.nodes.sequencer c.args.driver.now c.requires (change_of c.in-Some.message) (sym c.in-Some.ensures.message) c.apply.new.self c.in_ok-apply.ensures.driven in
-    subst (λ (v : Sides). IsDriven v c.apply.new.self) (sym c.in_ok-sent.ensures.ok) after
+    subst (λ (v : Sides). IsDriven v c.apply.new.self) (sym c.sent.ensures.step) after
 
 pub returns-clause-step : goal.returns-clause-step
-returns-clause-step g c = c.in_ok-sent.ensures.ok
+returns-clause-step g c = c.sent.ensures.step
 
 pub returns-clause-pulled : goal.returns-clause-pulled
 returns-clause-pulled g c = (change_of c.in-Some.message, (sym c.in-Some.ensures.message, c.in_ok-message.ensures.whole))

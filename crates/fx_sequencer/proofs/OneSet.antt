@@ -1,0 +1,163 @@
+-- The two sides of one set, as each call looks them up and changes them.
+use Rattle.std.proofs.Common.{◌≡◌, Bool, true, false, not, Option, Some, None, is_some, IsSome, refl, sym, ap, ◌∙◌}
+use Rattle.std.specs.List.{slice_get}
+use Rattle.std.specs.FinMap as maps
+use Rattle.fx_base.specs.Same.{same_set}
+use Rattle.fx_base.specs.Set as set
+use Rattle.fx_base.proofs.Cases.{true_false}
+use Rattle.fx_model.specs.MemberLists.{flagged}
+use Rattle.fx_model.specs.Messages.{Members, members_of}
+use Rattle.fx_model.specs.SameMember.{same_member}
+use Rattle.fx_model.specs.contracts.member.MemberSetEq.TheImpl.Laws as members_laws
+use Rattle.fx_model.specs.declared.member.Member.{Member}
+use Rattle.fx_model.specs.declared.member_flags.Flags.{Flags}
+use Rattle.fx_model.proofs.Orders.{member_total}
+use Rattle.fx_sequencer.specs.Flagged.{FlagMap, AreFlagged, side, sent_members, wanted_members, is_held, differs, is_sent, is_wanted}
+use Rattle.fx_sequencer.specs.Pending.{SetSides, same_sets, comes, alters}
+use Rattle.fx_sequencer.proofs.FlagLists.{all_members, added_members, removed_members}
+use Rattle.fx_sequencer.proofs.Flagging.{sent_there, wanted_there, none_in, same_sides, none_wanted, same_wanted, on_there, off_there, on_as, of_side}
+use Rattle.fx_sequencer.proofs.Settling.{no_first, none_first}
+use Rattle.fx_sequencer.proofs.SetKeeping.{unsent_same}
+use mathlib.Core.Bool.{beq}
+
+-- ---- sides
+
+is_side : (b : Bool) (s : Members) → b ≡ is_some (side b s)
+is_side true s = refl
+is_side false s = refl
+
+comes_on : (a b : Bool) (s t : Members) → comes (side a s) (side b t) ≡ true → (a ≡ false) × (b ≡ true)
+comes_on true true s t h = cc
+comes_on true false s t h = cc
+comes_on false true s t h = (refl, refl)
+comes_on false false s t h = cc
+
+alters_on : (a b : Bool) (s t : Members) → alters same_sets (side a s) (side b t) ≡ true → (a ≡ true) × (b ≡ true)
+alters_on true true s t h = (refl, refl)
+alters_on true false s t h = cc
+alters_on false true s t h = cc
+alters_on false false s t h = cc
+
+itself : (b : Bool) → not (beq b b) ≡ false
+itself true = refl
+itself false = refl
+
+same_flags : (o : Option Flags) → is_sent o ≡ is_wanted o → differs o ≡ false
+same_flags None h = refl
+same_flags (Some f) h = ap (λ b. not (beq b f.now)) h ∙ itself f.now
+
+-- where some member is of one side alone, the sides are not one
+other_members : (flags : FlagMap) (differing : Members) → ((m : Member) → set.contains differing m ≡ differs (maps.get flags m))
+    → is_some (slice_get (set.items differing) 0) ≡ not (same_sets (sent_members flags) (wanted_members flags))
+other_members flags differing differ =
+    elim (same_sets (sent_members flags) (wanted_members flags)) as (λ b. same_sets (sent_members flags) (wanted_members flags) ≡ b → is_some (slice_get (set.items differing) 0) ≡ not b) [
+      | true ↦ λ e.
+          let same : sent_members flags ≡ wanted_members flags = same_set _ same_member (sent_members flags) (wanted_members flags) e in
+          let none : (m : Member) → set.contains differing m ≡ false = λ m.
+          differ m ∙ same_flags (maps.get flags m) (sym (sent_there flags m) ∙ ap (λ (s : Members). set.contains s m) same ∙ wanted_there flags m) in
+          sym (ap is_some (no_first member_total differing none))
+      | false ↦ λ e.
+          elim (slice_get (set.items differing) 0) as (λ o. slice_get (set.items differing) 0 ≡ o → is_some o ≡ true) [
+            | Some x ↦ λ is. refl
+            | None ↦ λ is.
+                let same : sent_members flags ≡ wanted_members flags = same_sides flags (λ m. sym (differ m) ∙ none_first member_total differing (sym is) m) in
+                let one : same_sets (sent_members flags) (wanted_members flags) ≡ true = ap (same_sets (sent_members flags)) (sym same) ∙ members_laws.laws-law.refl (sent_members flags) in
+                cc
+          ] refl
+    ] refl
+
+-- a set by its flags
+abbrev pub set_sides : Bool → Bool → FlagMap → SetSides
+set_sides sent wanted flags = record { sent = side sent (sent_members flags); wanted = side wanted (wanted_members flags) }
+
+module _ (sent wanted : Bool) (flags : FlagMap) (differing : Members) (was : AreFlagged sent wanted flags differing) (v : SetSides) (is : set_sides sent wanted flags ≡ v) where
+  sent_is : side sent (sent_members flags) ≡ v.sent
+  sent_is = ap (λ (u : SetSides). u.sent) is
+
+  wanted_is : side wanted (wanted_members flags) ≡ v.wanted
+  wanted_is = ap (λ (u : SetSides). u.wanted) is
+
+  -- ---- what is looked up
+
+  pub sent_flag : sent ≡ is_some v.sent
+  sent_flag = is_side sent (sent_members flags) ∙ ap is_some sent_is
+
+  pub unsent_other : sent ≡ false → false ≡ alters same_sets v.sent v.wanted
+  unsent_other off =
+      sym (ap (λ b. alters same_sets (side b (sent_members flags)) (side wanted (wanted_members flags))) off ∙ unsent_same (side wanted (wanted_members flags)))
+      ∙ ap (λ (u : SetSides). alters same_sets u.sent u.wanted) is
+
+  pub unwanted_other : wanted ≡ false → false ≡ alters same_sets v.sent v.wanted
+  unwanted_other off =
+      sym (ap (λ b. alters same_sets (side sent (sent_members flags)) (side b (wanted_members flags))) off)
+      ∙ ap (λ (u : SetSides). alters same_sets u.sent u.wanted) is
+
+  pub both_other : sent ≡ true → wanted ≡ true → (r : Bool) → r ≡ is_some (slice_get (set.items differing) 0) → r ≡ alters same_sets v.sent v.wanted
+  both_other on_sent on r found =
+      found ∙ other_members flags differing was.differ
+      ∙ (λ i. alters same_sets (side (sym on_sent i) (sent_members flags)) (side (sym on i) (wanted_members flags)))
+      ∙ ap (λ (u : SetSides). alters same_sets u.sent u.wanted) is
+
+  pub told_member : (m : Member) → sent ≡ true → is_sent (maps.get flags m) ≡ set.contains (members_of v.sent) m
+  told_member m on = sym (sent_there flags m) ∙ sym (of_side sent (sent_members flags) m on) ∙ ap (λ s. set.contains (members_of s) m) sent_is
+
+  pub untold_member : (m : Member) → sent ≡ false → false ≡ set.contains (members_of v.sent) m
+  untold_member m off = sym (ap (λ b. set.contains (members_of (side b (sent_members flags))) m) off ∙ none_in m) ∙ ap (λ s. set.contains (members_of s) m) sent_is
+
+  pub lent_members : comes v.sent v.wanted ≡ true → flagged (record { sent = true; now = true }) (maps.entries flags) ≡ set.items (members_of v.wanted)
+  lent_members new =
+      let on = comes_on sent wanted (sent_members flags) (wanted_members flags) (ap (λ (u : SetSides). comes u.sent u.wanted) is ∙ new) in
+      all_members flags (was.unsent on.0) ∙ ap (λ b. set.items (members_of (side b (wanted_members flags)))) (sym on.1) ∙ ap (λ s. set.items (members_of s)) wanted_is
+
+  module _ (other : alters same_sets v.sent v.wanted ≡ true) where
+    on_both : (sent ≡ true) × (wanted ≡ true)
+    on_both = alters_on sent wanted (sent_members flags) (wanted_members flags) (ap (λ (u : SetSides). alters same_sets u.sent u.wanted) is ∙ other)
+
+    pub lent_adds : flagged (record { sent = false; now = true }) (maps.entries flags) ≡ set.items_minus (members_of v.wanted) (members_of v.sent)
+    lent_adds =
+        added_members flags
+        ∙ (λ i. set.items_minus (members_of (side (sym on_both.1 i) (wanted_members flags))) (members_of (side (sym on_both.0 i) (sent_members flags))))
+        ∙ (λ i. set.items_minus (members_of (wanted_is i)) (members_of (sent_is i)))
+
+    pub lent_removes : flagged (record { sent = true; now = false }) (maps.entries flags) ≡ set.items_minus (members_of v.sent) (members_of v.wanted)
+    lent_removes =
+        removed_members flags
+        ∙ (λ i. set.items_minus (members_of (side (sym on_both.0 i) (sent_members flags))) (members_of (side (sym on_both.1 i) (wanted_members flags))))
+        ∙ (λ i. set.items_minus (members_of (sent_is i)) (members_of (wanted_is i)))
+
+  -- ---- the set is wanted, or not
+
+  module _ (none : v.wanted ≡ None) where
+    pub on_flagged : AreFlagged sent true flags differing
+    on_flagged = record { held = was.held; differ = was.differ; unsent = was.unsent; unwanted = λ h. true_false h }
+
+    pub on_sides : set_sides sent true flags ≡ record v { wanted = Some set.empty }
+    on_sides =
+        let off = off_there wanted (wanted_members flags) (wanted_is ∙ none) in
+        λ i. record { sent = sent_is i; wanted = Some (none_wanted flags (was.unwanted off) i) }
+
+  module _ (empty : v.wanted ≡ Some set.empty) where
+    pub off_flagged : AreFlagged sent false flags differing
+    off_flagged =
+        let on = on_as wanted (wanted_members flags) set.empty (wanted_is ∙ empty) in
+        record { held = was.held; differ = was.differ; unsent = was.unsent; unwanted = λ h m. sym (wanted_there flags m) ∙ ap (λ (s : Members). set.contains s m) on.1 ∙ none_in m }
+
+    pub off_sides : set_sides sent false flags ≡ record v { wanted = None }
+    off_sides i = record { sent = sent_is i; wanted = None }
+
+  -- ---- what is wanted was sent
+
+  module _ (there : IsSome v.wanted) where
+    on_wanted : wanted ≡ true
+    on_wanted = on_there wanted (wanted_members flags) (ap is_some wanted_is ∙ there)
+
+    module _ (now : FlagMap) (others : Members) (held : (m : Member) → is_held (maps.get now m) ≡ true) (same : (m : Member) → differs (maps.get now m) ≡ false)
+        (none : (m : Member) → set.contains others m ≡ false) (still : (m : Member) → is_wanted (maps.get now m) ≡ is_wanted (maps.get flags m)) where
+      pub settled_flagged : AreFlagged true wanted now others
+      settled_flagged = record { held = held; differ = λ m. none m ∙ sym (same m); unsent = λ h. true_false h; unwanted = λ h m. still m ∙ was.unwanted h m }
+
+      pub settled_sides : set_sides true wanted now ≡ record { sent = v.wanted; wanted = v.wanted }
+      settled_sides =
+          let whole : side wanted (wanted_members now) ≡ v.wanted = ap (side wanted) (same_wanted flags now still) ∙ wanted_is in
+          let told : side true (sent_members now) ≡ v.wanted = ap (λ s. Some s) (same_sides now same) ∙ ap (λ b. side b (wanted_members now)) (sym on_wanted) ∙ whole in
+          λ i. record { sent = told i; wanted = whole i }
