@@ -1,5 +1,5 @@
 -- The sides of a key's entry after each of its changes.
-use Rattle.std.proofs.Common.{◌≡◌, Bool, true, false, not, cond, Option, Some, None, is_some, refl, sym, ap, ◌∙◌}
+use Rattle.std.proofs.Common.{◌≡◌, Bool, true, false, not, cond, Option, Some, None, is_some, refl, sym, ap}
 use Rattle.std.specs.Option.{option_eq}
 use Rattle.fx_base.specs.Same.{same_option}
 use Rattle.fx_sequencer.specs.Entry.{sent_of, wanted_of, entry_of, is_exact}

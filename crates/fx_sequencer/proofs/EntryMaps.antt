@@ -29,6 +29,10 @@ has_entry : {X : Type 0} (e : Option (Entry X)) → is_some (option_and_then wan
 has_entry None h = cc
 has_entry (Some e) h = refl
 
+-- a key with a wanted value has an entry
+pub entry_there : {X : Type 0} (held : Named (Entry X)) (k : List ℕ) (x : X) → side_at wanted_of held k ≡ Some x → is_some (maps.get held k) ≡ true
+entry_there held k x at = has_entry (maps.get held k) (ap is_some at)
+
 module _ {X : Type 0} (eq : X → X → Bool) (held : Named (Entry X)) (to_put to_take : Keys) (was : ArePending eq held to_put to_take) (v : TwoSides (Named X)) (is : entry_maps held ≡ v) where
   -- ---- what is looked up
 
@@ -52,7 +56,7 @@ module _ {X : Type 0} (eq : X → X → Bool) (held : Named (Entry X)) (to_put t
   none_taken none = sym (none_first (is_absent v.wanted) v.sent [] (none ∙ first_taken_key))
 
   module _ (k : List ℕ) (first : Some k ≡ slice_get (set.items to_put) 0) where
-    put_first : IsFirst (is_changed eq v.sent) v.wanted k
+    pub put_first : IsFirst (is_changed eq v.sent) v.wanted k
     put_first = is_first (is_changed eq v.sent) v.wanted k (first ∙ first_put_key)
 
     pub put_lent : (value : Option X) → value ≡ side_at wanted_of held k → option_map (λ x. (k, x)) value ≡ first_changed eq v.sent v.wanted
@@ -129,6 +133,5 @@ module _ {X : Type 0} (eq : X → X → Bool) (held : Named (Entry X)) (to_put t
         let wanted : projected wanted_of now ≡ maps.remove v.wanted k = withdrawn_wanted eq held to_put to_take was k now at ∙ ap (λ (u : TwoSides (Named X)). maps.remove u.wanted k) is in
         λ i. record { sent = sent i; wanted = wanted i }
 
-    -- a key with a wanted value is kept
-    pub kept_there : is_some (maps.get v.wanted k) ≡ true → is_some (maps.get held k) ≡ true
-    kept_there there = has_entry (maps.get held k) (sym (ap is_some (wanted_as k)) ∙ there)
+  pub kept_there : (k : List ℕ) → is_some (maps.get v.wanted k) ≡ true → is_some (maps.get held k) ≡ true
+  kept_there k there = has_entry (maps.get held k) (sym (ap is_some (wanted_as k)) ∙ there)

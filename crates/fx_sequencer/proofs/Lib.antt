@@ -8,9 +8,11 @@ pub mod Flagging
 pub mod Keeping
 pub mod OneMember
 pub mod OneSet
+pub mod OrderedTexts
 pub mod Sending
 pub mod SetKeeping
 pub mod SetMaps
 pub mod Settling
 pub mod Silent
 pub mod Steps
+pub mod Viewing

@@ -8,7 +8,7 @@ use Rattle.fx_model.specs.Messages.{Members, members_of}
 use Rattle.fx_model.specs.declared.member.Member.{Member}
 use Rattle.fx_model.specs.declared.member_flags.Flags.{Flags}
 use Rattle.fx_model.proofs.Orders.{member_total, exact_member}
-use Rattle.fx_sequencer.specs.Flagged.{FlagMap, AreFlagged, side, sent_members, wanted_members, differs, is_sent, is_wanted}
+use Rattle.fx_sequencer.specs.Flagged.{FlagMap, AreFlagged, sent_members, wanted_members, differs, is_sent, is_wanted}
 use Rattle.fx_sequencer.specs.Pending.{SetSides}
 use Rattle.fx_sequencer.proofs.AtOne.{IsBut, but_insert, but_remove, in_insert, in_remove, in_same}
 use Rattle.fx_sequencer.proofs.Flagging.{kept_sent, sent_kept, sent_there, wanted_there, on_there, on_with, of_side, flagged_at, sent_still, member_put, member_taken}

@@ -8,6 +8,7 @@ use Rattle.fx_base.proofs.Cases.{true_false}
 use Rattle.fx_model.specs.MemberLists.{flagged}
 use Rattle.fx_model.specs.Messages.{Members, members_of}
 use Rattle.fx_model.specs.SameMember.{same_member}
+use Rattle.fx_model.specs.contracts.member.MemberOrd.TheImpl as member_cmp
 use Rattle.fx_model.specs.contracts.member.MemberSetEq.TheImpl.Laws as members_laws
 use Rattle.fx_model.specs.declared.member.Member.{Member}
 use Rattle.fx_model.specs.declared.member_flags.Flags.{Flags}
@@ -65,6 +66,22 @@ other_members flags differing differ =
                 cc
           ] refl
     ] refl
+
+-- without members
+module _ (flags : FlagMap) (empty : flags ≡ maps.empty) where
+  none_here : (m : Member) → maps.get flags m ≡ None
+  none_here m = ap (λ (f : FlagMap). maps.get f m) empty ∙ maps.get-empty member_cmp.cmp-value.it m
+
+  pub no_members : wanted_members flags ≡ set.empty
+  no_members = none_wanted flags (λ m. ap is_wanted (none_here m))
+
+  pub no_flags : (wanted : Bool) (differing : Members) → differing ≡ set.empty → AreFlagged false wanted flags differing
+  no_flags wanted differing none = record {
+    held = λ m. ap is_held (none_here m);
+    differ = λ m. ap (λ (s : Members). set.contains s m) none ∙ none_in m ∙ sym (ap differs (none_here m));
+    unsent = λ h m. ap differs (none_here m);
+    unwanted = λ h m. ap is_wanted (none_here m);
+  }
 
 -- a set by its flags
 abbrev pub set_sides : Bool → Bool → FlagMap → SetSides

@@ -1,5 +1,5 @@
 -- Names of sets stay pending exactly where their sides differ, and the two maps change as a set does.
-use Rattle.std.proofs.Common.{◌≡◌, ℕ, Bool, true, false, not, ◌&&◌, ◌||◌, List, Option, Some, None, is_some, refl, sym, ap, ◌∙◌, subst, cond}
+use Rattle.std.proofs.Common.{◌≡◌, ℕ, Bool, true, false, not, ◌||◌, List, Option, Some, None, is_some, refl, sym, ap, ◌∙◌, subst, cond}
 use Rattle.std.specs.Option.{option_and_then}
 use Rattle.std.specs.Cmp.Lexicographic.{nat_list_cmp_total}
 use Rattle.std.specs.FinMap as maps
@@ -21,7 +21,7 @@ use Rattle.fx_sequencer.proofs.Entering.{there_already, goes}
 abbrev adds_at : Option SetSides → Bool
 adds_at s = comes (option_and_then sent_set s) (option_and_then wanted_set s)
 
-abbrev changed_at : Option SetSides → Bool
+abbrev pub changed_at : Option SetSides → Bool
 changed_at s = alters same_sets (option_and_then sent_set s) (option_and_then wanted_set s)
 
 abbrev takes_at : Option SetSides → Bool
@@ -38,6 +38,14 @@ sent_same w = sym (ap not (members_laws.laws-law.refl w))
 not_new : (sent : Option Members) → is_some sent ≡ true → (wanted : Option Members) → comes sent wanted ≡ false
 not_new sent there None = refl
 not_new sent there (Some w) = ap not there
+
+comes_if : (sent wanted : Option Members) → is_some wanted ≡ true → comes sent wanted ≡ not (is_some sent)
+comes_if sent None there = cc
+comes_if sent (Some w) there = refl
+
+stays : (wanted sent : Option Members) → is_some wanted ≡ true → comes wanted sent ≡ false
+stays None sent there = cc
+stays (Some w) sent there = there_already w sent
 
 first_side : (a b : Bool) → (a || b) ≡ true → b ≡ false → a ≡ true
 first_side true b h off = refl
@@ -180,7 +188,7 @@ module _ (held : Named SetSides) (to_add to_change to_take : Keys) (was : ArePen
 
   -- ---- members of a set
 
-  module _ (w : Members) (there : wanted ≡ Some w) (change kept : Keys) (change_is : change ≡ set.insert to_change key) (differs : Bool) (kept_is : kept ≡ cond differs change (set.remove change key)) where
+  module _ (there : is_some wanted ≡ true) (change kept : Keys) (change_is : change ≡ set.insert to_change key) (differs : Bool) (kept_is : kept ≡ cond differs change (set.remove change key)) where
     kept_in : IsButIn to_change kept key differs
     kept_in = in_kept nat_list_cmp_total to_change change kept key differs change_is kept_is
 
@@ -190,9 +198,9 @@ module _ (held : Named SetSides) (to_add to_change to_take : Keys) (was : ArePen
         let s : SetSides = record { sent = sent; wanted = Some after } in
         let stands : maps.get now key ≡ Some s = ap (λ (m : Named SetSides). maps.get m key) is ∙ get_insert_same held key s in
         sets_pending now (Some s) (but_insert nat_list_cmp_total held now key s is) (surely (is_some sent)) to_add kept to_take
-        (still_adds (not (is_some sent)) (ap (comes sent) there))
+        (still_adds (not (is_some sent)) (comes_if sent wanted there))
         (subst (IsButIn to_change kept key) (told ∙ ap changed_at stands) kept_in)
-        (still_takes (comes (Some after) sent) (ap (λ x. comes x sent) there ∙ there_already w sent ∙ sym (there_already after sent)))
+        (still_takes (comes (Some after) sent) (stays wanted sent there ∙ sym (there_already after sent)))
 
     pub members_refused : (now : Named SetSides) → now ≡ held → differs ≡ changed_at (maps.get now key) → ArePendingSets now to_add kept to_take
     members_refused now is told =

@@ -1,16 +1,17 @@
 -- The two maps that the sets make, as each call looks them up and changes them.
-use Rattle.std.proofs.Common.{◌≡◌, ℕ, Bool, true, List, [], Option, Some, None, is_some, refl, sym, ap, ◌∙◌}
+use Rattle.std.proofs.Common.{◌≡◌, ℕ, true, List, [], Option, Some, None, is_some, refl, sym, ap, ◌∙◌}
 use Rattle.std.specs.List.{slice_get}
 use Rattle.std.specs.Option.{option_and_then, option_map}
 use Rattle.std.specs.Cmp.Lexicographic.{nat_list_cmp_total}
 use Rattle.std.specs.FinMap as maps
 use Rattle.fx_base.specs.Projected.{projected}
 use Rattle.fx_base.specs.Set as set
-use Rattle.fx_base.proofs.Cases.{absent_value, opposite, first_true}
+use Rattle.fx_base.proofs.Cases.{absent_value, opposite, first_true, none_some}
 use Rattle.fx_base.proofs.KeyCases.{bytes_exact}
 use Rattle.fx_base.proofs.Projected.{get-projected}
-use Rattle.fx_model.specs.Messages.{Named, Members, is_absent, is_other, first_absent, first_other}
-use Rattle.fx_sequencer.specs.Pending.{Keys, SetSides, ArePendingSets, sent_set, wanted_set, same_sets, taken_first}
+use Rattle.fx_model.specs.Messages.{Named, Members, SetAdd, SetDelta, is_absent, is_other, first_absent, first_other, members_of, set_added, set_changed}
+use Rattle.fx_model.specs.declared.member.Member.{Member}
+use Rattle.fx_sequencer.specs.Pending.{Keys, SetSides, ArePendingSets, sent_set, wanted_set, same_sets, comes, alters, taken_first}
 use Rattle.fx_sequencer.specs.TwoSides.{TwoSides, side_at}
 use Rattle.fx_sequencer.proofs.AtOne.{part_none}
 use Rattle.fx_sequencer.proofs.FirstPending.{IsFirst, is_first, none_first, first_coming, first_altering, first_passes, first_sent, first_taken, first_some}
@@ -96,6 +97,25 @@ module _ (held : Named SetSides) (to_add to_change to_take : Keys) (was : ArePen
       pub added_kept : (add : Keys) → add ≡ set.remove to_add k → ArePendingSets now add to_change to_take
       added_kept add add_is = added_pending held to_add to_change to_take was k added_first.value added_there now at added_unsent add add_is
 
+    -- what is told of it
+    module _ (s : SetSides) (at : Some s ≡ maps.get held k) where
+      added_wanted : s.wanted ≡ Some added_first.value
+      added_wanted = ap (option_and_then wanted_set) at ∙ added_there
+
+      added_before : s.sent ≡ None
+      added_before = ap (option_and_then sent_set) at ∙ added_unsent
+
+      pub added_new : comes s.sent s.wanted ≡ true
+      added_new i = comes (added_before i) (added_wanted i)
+
+      pub added_told : (members : List Member) → members ≡ set.items (members_of s.wanted) → Some (SetAdd k members) ≡ option_map set_added (first_absent v.sent v.wanted)
+      added_told members lent =
+          ap (λ (ms : List Member). Some (SetAdd k ms)) (lent ∙ ap (λ w. set.items (members_of w)) added_wanted)
+          ∙ sym (ap (option_map set_added) added_first.found)
+
+    pub added_kept_there : {A : Type 0} → None ≡ maps.get held k → A
+    added_kept_there none = none_some added_first.value (ap (option_and_then wanted_set) none ∙ added_there)
+
   -- the first set that was sent with other members
   module _ (k : List ℕ) (first : Some k ≡ slice_get (set.items to_change) 0) where
     pub changed_first : IsFirst (is_other same_sets v.sent) v.wanted k
@@ -118,6 +138,27 @@ module _ (held : Named SetSides) (to_add to_change to_take : Keys) (was : ArePen
 
       pub changed_kept : (change : Keys) → change ≡ set.remove to_change k → ArePendingSets now to_add change to_take
       changed_kept change change_is = changed_pending held to_add to_change to_take was k changed_first.value changed_there now at changed_sent change change_is
+
+    -- what is told of it
+    module _ (s : SetSides) (at : Some s ≡ maps.get held k) where
+      changed_wanted : s.wanted ≡ Some changed_first.value
+      changed_wanted = ap (option_and_then wanted_set) at ∙ changed_there
+
+      changed_before : s.sent ≡ maps.get v.sent k
+      changed_before = ap (option_and_then sent_set) at ∙ sym (sent_as k)
+
+      pub changed_other : alters same_sets s.sent s.wanted ≡ true
+      changed_other = (λ i. alters same_sets (changed_before i) (changed_wanted i)) ∙ first_passes (is_other same_sets v.sent) v.wanted k changed_first
+
+      pub changed_told : (adds removes : List Member) → adds ≡ set.items_minus (members_of s.wanted) (members_of s.sent) → removes ≡ set.items_minus (members_of s.sent) (members_of s.wanted)
+          → Some (SetDelta k adds removes) ≡ option_map (set_changed v.sent) (first_other same_sets v.sent v.wanted)
+      changed_told adds removes added removed =
+          (λ i. Some (SetDelta k (added i) (removed i)))
+          ∙ (λ i. Some (SetDelta k (set.items_minus (members_of (changed_wanted i)) (members_of (changed_before i))) (set.items_minus (members_of (changed_before i)) (members_of (changed_wanted i)))))
+          ∙ sym (ap (option_map (set_changed v.sent)) changed_first.found)
+
+    pub changed_kept_there : {A : Type 0} → None ≡ maps.get held k → A
+    changed_kept_there none = none_some changed_first.value (ap (option_and_then wanted_set) none ∙ changed_there)
 
   -- the first set that is gone
   module _ (k : List ℕ) (first : Some k ≡ slice_get (set.items to_take) 0) where

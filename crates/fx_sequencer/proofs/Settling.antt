@@ -1,5 +1,5 @@
 -- The members that differ are told of one after another.
-use Rattle.std.proofs.Common.{◌≡◌, ◌<◌, ◌-◌, Bool, true, false, cond, List, [], ◌∷◌, length, map, suc, Option, Some, None, is_some, refl, sym, ap, ◌∙◌, arith}
+use Rattle.std.proofs.Common.{◌≡◌, ◌<◌, ◌-◌, true, false, cond, [], ◌∷◌, length, map, suc, Option, Some, None, is_some, refl, sym, ap, ◌∙◌, subst, arith}
 use Rattle.std.specs.List.{slice_get}
 use Rattle.std.specs.Cmp.{IsTotalOrder}
 use Rattle.std.specs.declared.cmp.Ordering.{Ordering}
@@ -12,7 +12,7 @@ use Rattle.fx_model.specs.declared.member.Member.{Member}
 use Rattle.fx_model.specs.declared.member_flags.Flags.{Flags}
 use Rattle.fx_model.proofs.Orders.{member_total, exact_member}
 use Rattle.fx_sequencer.specs.Flagged.{FlagMap, is_held, differs, is_wanted, told}
-use Rattle.fx_sequencer.proofs.AtOne.{IsBut, in_remove, all_at, still_at, told_at}
+use Rattle.fx_sequencer.proofs.AtOne.{IsBut, but_insert, but_remove, in_remove, all_at, still_at, told_at}
 
 -- ---- the first of a set
 
@@ -70,6 +70,30 @@ told_held (Some f) = elim f.now as (λ b. is_held (cond b (Some (record { sent =
 told_wanted : (o : Option Flags) → is_wanted (told o) ≡ is_wanted o
 told_wanted None = refl
 told_wanted (Some f) = elim f.now as (λ b. is_wanted (cond b (Some (record { sent = true; now = true })) None) ≡ b) [ true ↦ refl | false ↦ refl ]
+
+told_on : (o : Option Flags) → is_wanted o ≡ true → told o ≡ Some (record { sent = true; now = true })
+told_on None on = cc
+told_on (Some f) on = ap (λ b. cond b (Some (record { sent = true; now = true })) None) on
+
+told_off : (o : Option Flags) → is_wanted o ≡ false → told o ≡ None
+told_off None off = refl
+told_off (Some f) off = ap (λ b. cond b (Some (record { sent = true; now = true })) None) off
+
+-- one that is wanted is held
+pub wanted_held : (o : Option Flags) → is_wanted o ≡ true → is_some o ≡ true
+wanted_held None on = cc
+wanted_held (Some f) on = refl
+
+-- one of them is told of
+module _ (flags now : FlagMap) (m : Member) where
+  one_told : (here : Option Flags) → told (maps.get flags m) ≡ here → IsBut flags now m here → IsBut flags now m (told (maps.get flags m))
+  one_told here is but = subst (IsBut flags now m) (sym is) but
+
+  pub told_stays : is_wanted (maps.get flags m) ≡ true → now ≡ maps.insert flags m (record { sent = true; now = true }) → IsBut flags now m (told (maps.get flags m))
+  told_stays on is = one_told (Some (record { sent = true; now = true })) (told_on (maps.get flags m) on) (but_insert member_total flags now m (record { sent = true; now = true }) is)
+
+  pub told_goes : is_wanted (maps.get flags m) ≡ false → now ≡ maps.remove flags m → IsBut flags now m (told (maps.get flags m))
+  told_goes off is = one_told None (told_off (maps.get flags m) off) (but_remove member_total flags now m is)
 
 -- of those at the start all that differ still are noted, and as many are wanted
 pub record IsSettling (start flags : FlagMap) (differing : Members) : Type 0 where

@@ -7,7 +7,7 @@ use Rattle.fx_model.specs.declared.view.ViewEndpoint.{ViewEndpoint}
 use Rattle.fx_model.specs.contracts.view.ViewPolicyPartialEq.TheImpl as policy_eq
 use Rattle.fx_model.specs.contracts.view.ViewProfilePartialEq.TheImpl as profile_eq
 use Rattle.fx_model.specs.contracts.view.ViewEndpointPartialEq.TheImpl as endpoint_eq
-use Rattle.fx_model.specs.Messages.{Members, Change, PolicyPut, ProfilePut, EndpointPut, EndpointGone, ProfileGone, PolicyGone, SetGone, set_added, set_changed, first_absent, first_changed, first_other, or_else, next_put, next_gone, next_message, step, step_by, step_at}
+use Rattle.fx_model.specs.Messages.{Members, Change, PolicyPut, ProfilePut, EndpointPut, EndpointGone, ProfileGone, PolicyGone, SetGone, set_added, set_changed, first_absent, first_changed, first_other, or_else, next_put, next_gone, step, step_by, step_at}
 use Rattle.fx_sequencer.specs.Pending.{same_sets, taken_first}
 
 -- ---- of two kinds the first that has something

@@ -1,5 +1,5 @@
 -- What was sent and what is wanted, each whole.
-use Rattle.std.specs.Prelude.{Option, refl}
+use Rattle.std.specs.Prelude.{ℕ, List, Option, refl}
 use Rattle.std.specs.Option.{option_and_then}
 use Rattle.std.specs.Coded.{Coded, code_by, coded×}
 use Rattle.std.specs.FinMap as maps

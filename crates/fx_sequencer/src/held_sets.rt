@@ -33,6 +33,16 @@ pub fn is_other(found: Option<&SetEntry>) -> bool
     }
 }
 
+/// Puts a set in, without members, that is wanted and was not sent.
+pub fn enter(alloc: Global, held: &mut SetMap<SetEntry>, name: &SetName) -> Result<(), Memory>
+    ensures ok { OnOk result (held.new
+        ≡ map.insert held.old name.now (record { sent = None; wanted = Some set.empty })) }
+    ensures err { OnErr result (held.new ≡ held.old) }
+{
+    held.insert(name, SetEntry::new(alloc))?;
+    Ok(())
+}
+
 /// Makes a set wanted again, without members, and tells whether it was sent with some.
 #[tactic(auto, using(crate::proofs::Exchanged::exchanges))]
 pub fn turn_on(alloc: Global, held: &mut SetMap<SetEntry>, name: &SetName) -> bool

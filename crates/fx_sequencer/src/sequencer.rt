@@ -49,7 +49,6 @@ impl Sequencer {
     }
 
     /// The next message, if the views differ.
-    #[tactic(auto, using(crate::proofs::Silent::equal_if_silent, crate::proofs::Silent::silent_if_equal))]
     pub fn peek(&self) -> Option<Message<'_>>
         ensures message { option_map change_of result ≡ next_message self.now.sent self.now.wanted }
         ensures none { IsNone result ↔ (self.now.sent ≡ self.now.wanted) }

@@ -7,7 +7,9 @@ ghost use Rattle.fx_model.specs.Lent.{change_of};
 ghost use Rattle.fx_model.specs.Messages.{first_absent, first_other, members_of, set_added, set_changed};
 ghost use Rattle.fx_sequencer.specs.Pending.{same_sets, taken_first};
 
-use crate::held_sets::{is_other, put_member, settle, take_member, turn_off, turn_on, was_sent};
+use crate::held_sets::{
+    enter, is_other, put_member, settle, take_member, turn_off, turn_on, was_sent,
+};
 use crate::names::{first_name, keep_if, take_first};
 use crate::set_entry::SetEntry;
 use fx_base::{Memory, SetMap, SetName};
@@ -116,8 +118,8 @@ impl SetEntries {
             return Ok(());
         }
         self.to_add.insert(name, ())?;
-        match self.held.insert(name, SetEntry::new(self.alloc)) {
-            Ok(_before) => Ok(()),
+        match enter(self.alloc, &mut self.held, name) {
+            Ok(()) => Ok(()),
             Err(memory) => {
                 self.to_add.remove(name);
                 Err(memory)

@@ -66,10 +66,7 @@ impl TextSet {
         ensures first { result ≡ slice_get (set.items self.old) 0 }
         ensures rest { self.new ≡ without result self.old }
     {
-        match self.held.pop_first() {
-            Some(text) => Some(text),
-            None => None,
-        }
+        self.held.pop_first()
     }
 
     /// Takes a text out unless it is pending.

@@ -1,0 +1,15 @@
+use Rattle.std.proofs.Common.{is_some, ap, ◌∙◌}
+use Rattle.std.specs.FinMap as map
+use Rattle.fx_base.specs.Set as set
+use Rattle.fx_model.specs.Messages.{members_of}
+use Rattle.fx_sequencer.proofs.Viewing.{sets_now}
+use Rattle.fx_sequencer.proofs.sequencer.SequencerSetSink.member_on.Goals as goal
+
+pub put_member-requires-clause-there : goal.put_member-requires-clause-there
+put_member-requires-clause-there c = ap (λ v. is_some (map.get v.wanted.sets c.args.name)) c.self.view_is ∙ c.requires.there
+
+pub put_member-requires-clause-absent : goal.put_member-requires-clause-absent
+put_member-requires-clause-absent c = ap (λ v. set.contains (members_of (map.get v.wanted.sets c.args.name)) c.args.member) c.self.view_is ∙ c.requires.absent
+
+pub returns-clause-ok : goal.returns-clause-ok
+returns-clause-ok c = sets_now c.self.inside.entries c.args.self.now c.self.view_is (λ m. map.insert m c.args.name (set.insert (members_of (map.get m c.args.name)) c.args.member)) c.put_member.new.self c.in_ok-put_member.ensures.ok

@@ -1,0 +1,14 @@
+use Rattle.fx_sequencer.proofs.OneSet.{settled_flagged, settled_sides}
+use Rattle.fx_sequencer.proofs.set_entry.SetEntry.settle.Goals as goal
+
+pub settle-requires-clause-held : goal.settle-requires-clause-held
+settle-requires-clause-held c = c.self.invariant.held
+
+pub settle-requires-clause-differ : goal.settle-requires-clause-differ
+settle-requires-clause-differ c = c.self.invariant.differ
+
+pub invariant_of-self : goal.invariant_of-self
+invariant_of-self c = settled_flagged c.self.inside.sent c.self.inside.wanted c.self.inside.members c.self.inside.differing c.self.invariant c.args.self.now c.self.view_is c.requires c.settle.new.members c.settle.new.differing c.settle.ensures.held c.settle.ensures.same c.settle.ensures.none c.settle.ensures.wanted
+
+pub returns : goal.returns
+returns c = settled_sides c.self.inside.sent c.self.inside.wanted c.self.inside.members c.self.inside.differing c.self.invariant c.args.self.now c.self.view_is c.requires c.settle.new.members c.settle.new.differing c.settle.ensures.held c.settle.ensures.same c.settle.ensures.none c.settle.ensures.wanted
