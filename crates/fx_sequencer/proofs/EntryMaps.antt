@@ -22,8 +22,8 @@ use Rattle.fx_sequencer.proofs.Keeping.{settled_pending, taken_pending, put_sent
 abbrev pub entry_maps : {X : Type 0} → Named (Entry X) → TwoSides (Named X)
 entry_maps held = record { sent = projected sent_of held; wanted = projected wanted_of held }
 
-pub no_maps : {X : Type 0} (held : Named (Entry X)) → held ≡ maps.empty → entry_maps held ≡ record { sent = maps.empty; wanted = maps.empty }
-no_maps held none i = record { sent = part_none nat_list_cmp_total bytes_exact sent_of held none i; wanted = part_none nat_list_cmp_total bytes_exact wanted_of held none i }
+pub no_maps : {X : Type 0} {held : Named (Entry X)} → held ≡ maps.empty → entry_maps held ≡ record { sent = maps.empty; wanted = maps.empty }
+no_maps {held = held} none i = record { sent = part_none nat_list_cmp_total bytes_exact sent_of held none i; wanted = part_none nat_list_cmp_total bytes_exact wanted_of held none i }
 
 has_entry : {X : Type 0} (e : Option (Entry X)) → is_some (option_and_then wanted_of e) ≡ true → is_some e ≡ true
 has_entry None h = cc
@@ -33,7 +33,7 @@ has_entry (Some e) h = refl
 pub entry_there : {X : Type 0} (held : Named (Entry X)) (k : List ℕ) (x : X) → side_at wanted_of held k ≡ Some x → is_some (maps.get held k) ≡ true
 entry_there held k x at = has_entry (maps.get held k) (ap is_some at)
 
-module _ {X : Type 0} (eq : X → X → Bool) (held : Named (Entry X)) (to_put to_take : Keys) (was : ArePending eq held to_put to_take) (v : TwoSides (Named X)) (is : entry_maps held ≡ v) where
+module _ {X : Type 0} {eq : X → X → Bool} {held : Named (Entry X)} {to_put to_take : Keys} (was : ArePending eq held to_put to_take) {v : TwoSides (Named X)} (is : entry_maps held ≡ v) where
   -- ---- what is looked up
 
   wanted_as : (k : List ℕ) → maps.get v.wanted k ≡ side_at wanted_of held k
@@ -69,21 +69,21 @@ module _ {X : Type 0} (eq : X → X → Bool) (held : Named (Entry X)) (to_put t
     put_found = sym (first_some (is_changed eq v.sent) v.wanted k put_first)
 
     -- once it was sent
-    pub sent_maps : (itself : (a : X) → eq a a ≡ true) (now : Named (Entry X)) → now ≡ maps.insert held k (settled (side_at wanted_of held k))
+    pub sent_maps : (itself : (a : X) → eq a a ≡ true) {now : Named (Entry X)} → now ≡ maps.insert held k (settled (side_at wanted_of held k))
         → entry_maps now ≡ record v { sent = taken_first (first_changed eq v.sent v.wanted) v.sent v.wanted }
-    sent_maps itself now at =
+    sent_maps itself {now} at =
         let x = put_first.value in
         let sent : projected sent_of now ≡ taken_first (first_changed eq v.sent v.wanted) v.sent v.wanted =
-        settled_sent eq held to_put to_take was k itself x put_there now at
+        settled_sent was k itself x put_there at
         ∙ ap (λ (u : TwoSides (Named X)). maps.insert u.sent k x) is
         ∙ sym (first_sent (is_changed eq v.sent) v.wanted k put_first v.sent) in
         let wanted : projected wanted_of now ≡ v.wanted =
-        settled_wanted eq held to_put to_take was k itself x put_there now at ∙ ap (λ (u : TwoSides (Named X)). u.wanted) is in
+        settled_wanted was k itself x put_there at ∙ ap (λ (u : TwoSides (Named X)). u.wanted) is in
         λ i. record { sent = sent i; wanted = wanted i }
 
-    pub sent_pending : (itself : (a : X) → eq a a ≡ true) (now : Named (Entry X)) → now ≡ maps.insert held k (settled (side_at wanted_of held k))
-        → (put : Keys) → put ≡ set.remove to_put k → ArePending eq now put to_take
-    sent_pending itself now at put put_is = settled_pending eq held to_put to_take was k itself put_first.value put_there now at put put_is
+    pub sent_pending : (itself : (a : X) → eq a a ≡ true) {now : Named (Entry X)} → now ≡ maps.insert held k (settled (side_at wanted_of held k))
+        → {put : Keys} → put ≡ set.remove to_put k → ArePending eq now put to_take
+    sent_pending itself at put_is = settled_pending was k itself put_first.value put_there at put_is
 
   module _ (k : List ℕ) (first : Some k ≡ slice_get (set.items to_take) 0) where
     taken_here : IsFirst (is_absent v.wanted) v.sent k
@@ -99,38 +99,38 @@ module _ {X : Type 0} (eq : X → X → Bool) (held : Named (Entry X)) (to_put t
     taken_found = sym (first_some (is_absent v.wanted) v.sent k taken_here)
 
     -- once it was told that it is gone
-    pub gone_maps : (now : Named (Entry X)) → now ≡ maps.remove held k → entry_maps now ≡ record v { sent = taken_first (first_absent v.wanted v.sent) v.sent v.wanted }
-    gone_maps now at =
+    pub gone_maps : {now : Named (Entry X)} → now ≡ maps.remove held k → entry_maps now ≡ record v { sent = taken_first (first_absent v.wanted v.sent) v.sent v.wanted }
+    gone_maps {now} at =
         let sent : projected sent_of now ≡ taken_first (first_absent v.wanted v.sent) v.sent v.wanted =
-        taken_sent eq held to_put to_take was k now at
+        taken_sent was k at
         ∙ ap (λ (u : TwoSides (Named X)). maps.remove u.sent k) is
         ∙ sym (first_taken (is_absent v.wanted) v.sent k taken_here v.sent v.wanted not_there) in
         let wanted : projected wanted_of now ≡ v.wanted =
-        taken_wanted eq held to_put to_take was k now at unwanted ∙ ap (λ (u : TwoSides (Named X)). u.wanted) is in
+        taken_wanted was k at unwanted ∙ ap (λ (u : TwoSides (Named X)). u.wanted) is in
         λ i. record { sent = sent i; wanted = wanted i }
 
-    pub gone_pending : (now : Named (Entry X)) → now ≡ maps.remove held k → (take : Keys) → take ≡ set.remove to_take k → ArePending eq now to_put take
-    gone_pending now at take take_is = taken_pending eq held to_put to_take was k now at unwanted take take_is
+    pub gone_pending : {now : Named (Entry X)} → now ≡ maps.remove held k → {take : Keys} → take ≡ set.remove to_take k → ArePending eq now to_put take
+    gone_pending at take_is = taken_pending was k at unwanted take_is
 
   -- ---- what is changed
 
-  module _ (k : List ℕ) (now : Named (Entry X)) where
+  module _ (k : List ℕ) {now : Named (Entry X)} where
     pub put_maps : ((a b : X) → eq a b ≡ true → a ≡ b) → (x : X) → now ≡ maps.insert held k (entry_of eq (side_at sent_of held k) x) → entry_maps now ≡ record v { wanted = maps.insert v.wanted k x }
     put_maps same x at =
-        let sent : projected sent_of now ≡ v.sent = put_sent eq held to_put to_take was k same x now at ∙ ap (λ (u : TwoSides (Named X)). u.sent) is in
-        let wanted : projected wanted_of now ≡ maps.insert v.wanted k x = put_wanted eq held to_put to_take was k same x now at ∙ ap (λ (u : TwoSides (Named X)). maps.insert u.wanted k x) is in
+        let sent : projected sent_of now ≡ v.sent = put_sent was k same x at ∙ ap (λ (u : TwoSides (Named X)). u.sent) is in
+        let wanted : projected wanted_of now ≡ maps.insert v.wanted k x = put_wanted was k same x at ∙ ap (λ (u : TwoSides (Named X)). maps.insert u.wanted k x) is in
         λ i. record { sent = sent i; wanted = wanted i }
 
     pub unsent_maps : side_at sent_of held k ≡ None → now ≡ maps.remove held k → entry_maps now ≡ record v { wanted = maps.remove v.wanted k }
     unsent_maps unsent at =
-        let sent : projected sent_of now ≡ v.sent = unsent_sent eq held to_put to_take was k now at unsent ∙ ap (λ (u : TwoSides (Named X)). u.sent) is in
-        let wanted : projected wanted_of now ≡ maps.remove v.wanted k = removed_wanted eq held to_put to_take was k now at ∙ ap (λ (u : TwoSides (Named X)). maps.remove u.wanted k) is in
+        let sent : projected sent_of now ≡ v.sent = unsent_sent was k at unsent ∙ ap (λ (u : TwoSides (Named X)). u.sent) is in
+        let wanted : projected wanted_of now ≡ maps.remove v.wanted k = removed_wanted was k at ∙ ap (λ (u : TwoSides (Named X)). maps.remove u.wanted k) is in
         λ i. record { sent = sent i; wanted = wanted i }
 
     pub withdrawn_maps : now ≡ maps.insert held k (withdrawn (side_at sent_of held k)) → entry_maps now ≡ record v { wanted = maps.remove v.wanted k }
     withdrawn_maps at =
-        let sent : projected sent_of now ≡ v.sent = withdrawn_sent eq held to_put to_take was k now at ∙ ap (λ (u : TwoSides (Named X)). u.sent) is in
-        let wanted : projected wanted_of now ≡ maps.remove v.wanted k = withdrawn_wanted eq held to_put to_take was k now at ∙ ap (λ (u : TwoSides (Named X)). maps.remove u.wanted k) is in
+        let sent : projected sent_of now ≡ v.sent = withdrawn_sent was k at ∙ ap (λ (u : TwoSides (Named X)). u.sent) is in
+        let wanted : projected wanted_of now ≡ maps.remove v.wanted k = withdrawn_wanted was k at ∙ ap (λ (u : TwoSides (Named X)). maps.remove u.wanted k) is in
         λ i. record { sent = sent i; wanted = wanted i }
 
   pub kept_there : (k : List ℕ) → is_some (maps.get v.wanted k) ≡ true → is_some (maps.get held k) ≡ true

@@ -110,7 +110,7 @@ of_side b s m on = ap (λ c. set.contains (members_of (side c s)) m) on
 
 -- ---- one member's flags are changed
 
-module _ (sent wanted : Bool) (flags : FlagMap) (differing : Members) (was : AreFlagged sent wanted flags differing) (m : Member) (now : FlagMap) (here : Option Flags) (but : IsBut flags now m here) where
+module _ {sent wanted : Bool} {flags : FlagMap} {differing : Members} (was : AreFlagged sent wanted flags differing) {m : Member} {now : FlagMap} {here : Option Flags} (but : IsBut flags now m here) where
   pub flagged_at : (others : Members) (b : Bool) → IsButIn differing others m b → b ≡ differs here → is_held here ≡ true
       → (sent ≡ false → differs here ≡ false) → (wanted ≡ false → is_wanted here ≡ false) → AreFlagged sent wanted now others
   flagged_at others b put is held none off = record {

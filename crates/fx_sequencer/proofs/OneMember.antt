@@ -23,7 +23,7 @@ added = record { sent = false; now = true }
 abbrev removed : Flags
 removed = record { sent = true; now = false }
 
-module _ (sent wanted : Bool) (flags : FlagMap) (differing : Members) (was : AreFlagged sent wanted flags differing) (v : SetSides) (is : set_sides sent wanted flags ≡ v) (m : Member) (there : IsSome v.wanted) where
+module _ {sent wanted : Bool} {flags : FlagMap} {differing : Members} (was : AreFlagged sent wanted flags differing) {v : SetSides} (is : set_sides sent wanted flags ≡ v) (m : Member) (there : IsSome v.wanted) where
   on : wanted ≡ true
   on = on_there wanted (wanted_members flags) (ap (λ (u : SetSides). is_some u.wanted) is ∙ there)
 
@@ -33,53 +33,53 @@ module _ (sent wanted : Bool) (flags : FlagMap) (differing : Members) (was : Are
     off : is_wanted (maps.get flags m) ≡ false
     off = sym (wanted_there flags m) ∙ sym (of_side wanted (wanted_members flags) m on) ∙ ap (λ (u : SetSides). set.contains (members_of u.wanted) m) is ∙ absent
 
-    come : (now : FlagMap) (here : Option Flags) (but : IsBut flags now m here) → (sent ≡ true → is_sent here ≡ is_sent (maps.get flags m)) → is_wanted here ≡ true
+    come : {now : FlagMap} {here : Option Flags} (but : IsBut flags now m here) → (sent ≡ true → is_sent here ≡ is_sent (maps.get flags m)) → is_wanted here ≡ true
         → set_sides sent wanted now ≡ record v { wanted = Some (set.insert (members_of v.wanted) m) }
-    come now here but same comes =
-        let sent_is = sent_still sent wanted flags differing was m now here but same ∙ ap (λ (u : SetSides). u.sent) is in
-        let wanted_is = member_put sent wanted flags differing was m now here but on comes ∙ ap (λ (u : SetSides). Some (set.insert (members_of u.wanted) m)) is in
+    come but same comes =
+        let sent_is = sent_still was but same ∙ ap (λ (u : SetSides). u.sent) is in
+        let wanted_is = member_put was but on comes ∙ ap (λ (u : SetSides). Some (set.insert (members_of u.wanted) m)) is in
         λ i. record { sent = sent_is i; wanted = wanted_is i }
 
     -- one that was sent and went since
-    module _ (some : is_some (maps.get flags m) ≡ true) (now : FlagMap) (at : now ≡ maps.insert flags m both) where
-      pub known_flagged : (others : Members) → others ≡ set.remove differing m → AreFlagged sent wanted now others
-      known_flagged others less =
-          flagged_at sent wanted flags differing was m now (Some both) (but_insert member_total flags now m both at) others false
+    module _ (some : is_some (maps.get flags m) ≡ true) {now : FlagMap} (at : now ≡ maps.insert flags m both) where
+      pub known_flagged : {others : Members} → others ≡ set.remove differing m → AreFlagged sent wanted now others
+      known_flagged {others} less =
+          flagged_at was (but_insert member_total flags now m both at) others false
           (in_remove member_total differing others m less) refl refl (λ h. refl) (λ h. true_false (sym on ∙ h))
 
       pub known_sides : set_sides sent wanted now ≡ record v { wanted = Some (set.insert (members_of v.wanted) m) }
-      known_sides = come now (Some both) (but_insert member_total flags now m both at) (λ s. sym (kept_sent (maps.get flags m) some (was.held m) off)) refl
+      known_sides = come (but_insert member_total flags now m both at) (λ s. sym (kept_sent (maps.get flags m) some (was.held m) off)) refl
 
     -- one that was not sent
-    module _ (none : maps.get flags m ≡ None) (now : FlagMap) where
+    module _ (none : maps.get flags m ≡ None) where
       pub none_noted : set.contains differing m ≡ false
       none_noted = was.differ m ∙ ap differs none
 
-      pub new_flagged : sent ≡ true → now ≡ maps.insert flags m added → (others : Members) → others ≡ set.insert differing m → AreFlagged sent wanted now others
-      new_flagged told at others more =
-          flagged_at sent wanted flags differing was m now (Some added) (but_insert member_total flags now m added at) others true
+      pub new_flagged : {now : FlagMap} → sent ≡ true → now ≡ maps.insert flags m added → {others : Members} → others ≡ set.insert differing m → AreFlagged sent wanted now others
+      new_flagged {now} told at {others} more =
+          flagged_at was (but_insert member_total flags now m added at) others true
           (in_insert member_total differing others m more) refl refl (λ h. true_false (sym told ∙ h)) (λ h. true_false (sym on ∙ h))
 
-      pub new_sides : now ≡ maps.insert flags m added → set_sides sent wanted now ≡ record v { wanted = Some (set.insert (members_of v.wanted) m) }
-      new_sides at = come now (Some added) (but_insert member_total flags now m added at) (λ s. sym (ap is_sent none)) refl
+      pub new_sides : {now : FlagMap} → now ≡ maps.insert flags m added → set_sides sent wanted now ≡ record v { wanted = Some (set.insert (members_of v.wanted) m) }
+      new_sides {now} at = come (but_insert member_total flags now m added at) (λ s. sym (ap is_sent none)) refl
 
       -- of a set that was not sent
-      module _ (untold : sent ≡ false) (at : now ≡ maps.insert flags m both) where
+      module _ (untold : sent ≡ false) {now : FlagMap} (at : now ≡ maps.insert flags m both) where
         pub first_flagged : AreFlagged sent wanted now differing
         first_flagged =
-            flagged_at sent wanted flags differing was m now (Some both) (but_insert member_total flags now m both at) differing false
+            flagged_at was (but_insert member_total flags now m both at) differing false
             (in_same member_total exact_member differing m false none_noted) refl refl (λ h. refl) (λ h. true_false (sym on ∙ h))
 
         pub first_sides : set_sides sent wanted now ≡ record v { wanted = Some (set.insert (members_of v.wanted) m) }
-        first_sides = come now (Some both) (but_insert member_total flags now m both at) (λ s. true_false (sym s ∙ untold)) refl
+        first_sides = come (but_insert member_total flags now m both at) (λ s. true_false (sym s ∙ untold)) refl
 
   -- ---- it goes
 
-  leave : (now : FlagMap) (here : Option Flags) (but : IsBut flags now m here) → (sent ≡ true → is_sent here ≡ is_sent (maps.get flags m)) → is_wanted here ≡ false
+  leave : {now : FlagMap} {here : Option Flags} (but : IsBut flags now m here) → (sent ≡ true → is_sent here ≡ is_sent (maps.get flags m)) → is_wanted here ≡ false
       → set_sides sent wanted now ≡ record v { wanted = Some (set.remove (members_of v.wanted) m) }
-  leave now here but same goes =
-      let sent_is = sent_still sent wanted flags differing was m now here but same ∙ ap (λ (u : SetSides). u.sent) is in
-      let wanted_is = member_taken sent wanted flags differing was m now here but on goes ∙ ap (λ (u : SetSides). Some (set.remove (members_of u.wanted) m)) is in
+  leave but same goes =
+      let sent_is = sent_still was but same ∙ ap (λ (u : SetSides). u.sent) is in
+      let wanted_is = member_taken was but on goes ∙ ap (λ (u : SetSides). Some (set.remove (members_of u.wanted) m)) is in
       λ i. record { sent = sent_is i; wanted = wanted_is i }
 
   -- one that was sent
@@ -93,23 +93,23 @@ module _ (sent wanted : Bool) (flags : FlagMap) (differing : Members) (was : Are
     pub told_there : is_some (maps.get flags m) ≡ true
     told_there = sent_kept (maps.get flags m) was_sent
 
-    module _ (now : FlagMap) (at : now ≡ maps.insert flags m removed) where
-      pub told_flagged : (others : Members) → others ≡ set.insert differing m → AreFlagged sent wanted now others
-      told_flagged others more =
-          flagged_at sent wanted flags differing was m now (Some removed) (but_insert member_total flags now m removed at) others true
+    module _ {now : FlagMap} (at : now ≡ maps.insert flags m removed) where
+      pub told_flagged : {others : Members} → others ≡ set.insert differing m → AreFlagged sent wanted now others
+      told_flagged {others} more =
+          flagged_at was (but_insert member_total flags now m removed at) others true
           (in_insert member_total differing others m more) refl refl (λ h. true_false (sym on_sent ∙ h)) (λ h. refl)
 
       pub told_sides : set_sides sent wanted now ≡ record v { wanted = Some (set.remove (members_of v.wanted) m) }
-      told_sides = leave now (Some removed) (but_insert member_total flags now m removed at) (λ s. sym was_sent) refl
+      told_sides = leave (but_insert member_total flags now m removed at) (λ s. sym was_sent) refl
 
   -- one that was not sent
-  module _ (untold : set.contains (members_of v.sent) m ≡ false) (now : FlagMap) (at : now ≡ maps.remove flags m) where
-    pub untold_flagged : (others : Members) → others ≡ set.remove differing m → AreFlagged sent wanted now others
-    untold_flagged others less =
-        flagged_at sent wanted flags differing was m now None (but_remove member_total flags now m at) others false
+  module _ (untold : set.contains (members_of v.sent) m ≡ false) {now : FlagMap} (at : now ≡ maps.remove flags m) where
+    pub untold_flagged : {others : Members} → others ≡ set.remove differing m → AreFlagged sent wanted now others
+    untold_flagged {others} less =
+        flagged_at was (but_remove member_total flags now m at) others false
         (in_remove member_total differing others m less) refl refl (λ h. refl) (λ h. refl)
 
     pub untold_sides : set_sides sent wanted now ≡ record v { wanted = Some (set.remove (members_of v.wanted) m) }
     untold_sides =
-        leave now None (but_remove member_total flags now m at)
+        leave (but_remove member_total flags now m at)
         (λ s. sym (sym (sent_there flags m) ∙ sym (of_side sent (sent_members flags) m s) ∙ ap (λ (u : SetSides). set.contains (members_of u.sent) m) is ∙ untold)) refl

@@ -68,15 +68,15 @@ other_members flags differing differ =
     ] refl
 
 -- without members
-module _ (flags : FlagMap) (empty : flags ≡ maps.empty) where
+module _ {flags : FlagMap} (empty : flags ≡ maps.empty) where
   none_here : (m : Member) → maps.get flags m ≡ None
   none_here m = ap (λ (f : FlagMap). maps.get f m) empty ∙ maps.get-empty member_cmp.cmp-value.it m
 
   pub no_members : wanted_members flags ≡ set.empty
   no_members = none_wanted flags (λ m. ap is_wanted (none_here m))
 
-  pub no_flags : (wanted : Bool) (differing : Members) → differing ≡ set.empty → AreFlagged false wanted flags differing
-  no_flags wanted differing none = record {
+  pub no_flags : (wanted : Bool) {differing : Members} → differing ≡ set.empty → AreFlagged false wanted flags differing
+  no_flags wanted {differing} none = record {
     held = λ m. ap is_held (none_here m);
     differ = λ m. ap (λ (s : Members). set.contains s m) none ∙ none_in m ∙ sym (ap differs (none_here m));
     unsent = λ h m. ap differs (none_here m);
@@ -87,7 +87,7 @@ module _ (flags : FlagMap) (empty : flags ≡ maps.empty) where
 abbrev pub set_sides : Bool → Bool → FlagMap → SetSides
 set_sides sent wanted flags = record { sent = side sent (sent_members flags); wanted = side wanted (wanted_members flags) }
 
-module _ (sent wanted : Bool) (flags : FlagMap) (differing : Members) (was : AreFlagged sent wanted flags differing) (v : SetSides) (is : set_sides sent wanted flags ≡ v) where
+module _ {sent wanted : Bool} {flags : FlagMap} {differing : Members} (was : AreFlagged sent wanted flags differing) {v : SetSides} (is : set_sides sent wanted flags ≡ v) where
   sent_is : side sent (sent_members flags) ≡ v.sent
   sent_is = ap (λ (u : SetSides). u.sent) is
 
@@ -109,8 +109,8 @@ module _ (sent wanted : Bool) (flags : FlagMap) (differing : Members) (was : Are
       sym (ap (λ b. alters same_sets (side sent (sent_members flags)) (side b (wanted_members flags))) off)
       ∙ ap (λ (u : SetSides). alters same_sets u.sent u.wanted) is
 
-  pub both_other : sent ≡ true → wanted ≡ true → (r : Bool) → r ≡ is_some (slice_get (set.items differing) 0) → r ≡ alters same_sets v.sent v.wanted
-  both_other on_sent on r found =
+  pub both_other : sent ≡ true → wanted ≡ true → {r : Bool} → r ≡ is_some (slice_get (set.items differing) 0) → r ≡ alters same_sets v.sent v.wanted
+  both_other on_sent on found =
       found ∙ other_members flags differing was.differ
       ∙ (λ i. alters same_sets (side (sym on_sent i) (sent_members flags)) (side (sym on i) (wanted_members flags)))
       ∙ ap (λ (u : SetSides). alters same_sets u.sent u.wanted) is

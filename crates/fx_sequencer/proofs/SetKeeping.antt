@@ -57,8 +57,8 @@ one_side None there h none = cc
 one_side (Some s) there h none = first_side (is_some s.sent) (is_some s.wanted) h (ap is_some none)
 
 -- without sets no name is pending
-pub no_sets_pending : (held : Named SetSides) (to_add to_change to_take : Keys) → held ≡ maps.empty → to_add ≡ set.empty → to_change ≡ set.empty → to_take ≡ set.empty → ArePendingSets held to_add to_change to_take
-no_sets_pending held to_add to_change to_take none no_add no_change no_take =
+pub no_sets_pending : {held : Named SetSides} {to_add to_change to_take : Keys} → held ≡ maps.empty → to_add ≡ set.empty → to_change ≡ set.empty → to_take ≡ set.empty → ArePendingSets held to_add to_change to_take
+no_sets_pending {held} none no_add no_change no_take =
     let at : (k : List ℕ) → maps.get held k ≡ None = λ k. ap (λ (m : Named SetSides). maps.get m k) none ∙ get_empty k in
     record {
       there = λ k. ap has_side (at k);
@@ -67,7 +67,7 @@ no_sets_pending held to_add to_change to_take none no_add no_change no_take =
       takes = λ k. ap (λ (s : Keys). set.contains s k) no_take ∙ ap is_some (get_empty k) ∙ sym (ap takes_at (at k));
     }
 
-module _ (held : Named SetSides) (to_add to_change to_take : Keys) (was : ArePendingSets held to_add to_change to_take) (key : List ℕ) where
+module _ {held : Named SetSides} {to_add to_change to_take : Keys} (was : ArePendingSets held to_add to_change to_take) (key : List ℕ) where
   abbrev sent : Option Members
   sent = side_at sent_set held key
 
@@ -101,17 +101,18 @@ module _ (held : Named SetSides) (to_add to_change to_take : Keys) (was : ArePen
     abbrev fresh : SetSides
     fresh = record { sent = None; wanted = Some set.empty }
 
-    pub refused_set : (add back : Keys) → add ≡ set.insert to_add key → back ≡ set.remove add key → back ≡ to_add
-    refused_set add back add_is back_is =
-        back_is ∙ ap (λ (s : Keys). set.remove s key) add_is
-        ∙ put_back nat_list_cmp_total bytes_exact to_add key (was.adds key ∙ ap adds_at absent)
+    pub refused_set : {add back : Keys} {now : Named SetSides} → add ≡ set.insert to_add key → back ≡ set.remove add key → now ≡ held → ArePendingSets now back to_change to_take
+    refused_set add_is back_is same =
+        let back : set.remove (set.insert to_add key) key ≡ to_add = put_back nat_list_cmp_total bytes_exact to_add key (was.adds key ∙ ap adds_at absent) in
+        let out = back_is ∙ ap (λ (s : Keys). set.remove s key) add_is ∙ back in
+        subst (λ (p : Named SetSides × Keys). ArePendingSets p.0 p.1 to_change to_take) (λ i. (sym same i, sym out i)) was
 
-    module _ (now : Named SetSides) (is : now ≡ maps.insert held key fresh) where
+    module _ {now : Named SetSides} (is : now ≡ maps.insert held key fresh) where
       fresh_but : IsBut held now key (Some fresh)
       fresh_but = but_insert nat_list_cmp_total held now key fresh is
 
-      pub fresh_pending : (add : Keys) → add ≡ set.insert to_add key → ArePendingSets now add to_change to_take
-      fresh_pending add add_is =
+      pub fresh_pending : {add : Keys} → add ≡ set.insert to_add key → ArePendingSets now add to_change to_take
+      fresh_pending {add} add_is =
           sets_pending now (Some fresh) fresh_but refl add to_change to_take (in_insert nat_list_cmp_total to_add add key add_is)
           (still_changes false (ap changed_at absent)) (still_takes false (ap takes_at absent))
 
@@ -122,7 +123,7 @@ module _ (held : Named SetSides) (to_add to_change to_take : Keys) (was : ArePen
       fresh_wanted = part_put nat_list_cmp_total bytes_exact wanted_set held now key (Some fresh) fresh_but set.empty refl
 
   -- one whose wanted side alone changes
-  module _ (after : Option Members) (now : Named SetSides) (is : now ≡ maps.insert held key (record { sent = sent; wanted = after })) where
+  module _ (after : Option Members) {now : Named SetSides} (is : now ≡ maps.insert held key (record { sent = sent; wanted = after })) where
     side_but : IsBut held now key (Some (record { sent = sent; wanted = after }))
     side_but = but_insert nat_list_cmp_total held now key (record { sent = sent; wanted = after }) is
 
@@ -136,10 +137,10 @@ module _ (held : Named SetSides) (to_add to_change to_take : Keys) (was : ArePen
     side_gone none = part_gone nat_list_cmp_total bytes_exact wanted_set held now key (Some (record { sent = sent; wanted = after })) side_but none
 
   -- one that was sent and is wanted again
-  pub again_pending : (e : Members) (now : Named SetSides) → now ≡ maps.insert held key (record { sent = sent; wanted = Some e })
-      → is_some (maps.get held key) ≡ true → wanted ≡ None → (change kept take : Keys) (differs : Bool) → differs ≡ alters same_sets sent (Some e)
+  pub again_pending : (e : Members) {now : Named SetSides} → now ≡ maps.insert held key (record { sent = sent; wanted = Some e })
+      → is_some (maps.get held key) ≡ true → wanted ≡ None → {change kept take : Keys} (differs : Bool) → differs ≡ alters same_sets sent (Some e)
       → change ≡ set.insert to_change key → kept ≡ cond differs change (set.remove change key) → take ≡ set.remove to_take key → ArePendingSets now to_add kept take
-  again_pending e now is there none change kept take differs told change_is kept_is take_is =
+  again_pending e {now} is there none {change} {kept} {take} differs told change_is kept_is take_is =
       let s : SetSides = record { sent = sent; wanted = Some e } in
       let was_sent : is_some sent ≡ true = one_side (maps.get held key) there (was.there key) none in
       sets_pending now (Some s) (but_insert nat_list_cmp_total held now key s is) (surely (is_some sent)) to_add kept take
@@ -149,7 +150,7 @@ module _ (held : Named SetSides) (to_add to_change to_take : Keys) (was : ArePen
 
   -- ---- a set is wanted no more
 
-  module _ (now : Named SetSides) (is : now ≡ maps.remove held key) where
+  module _ {now : Named SetSides} (is : now ≡ maps.remove held key) where
     dropped_but : IsBut held now key None
     dropped_but = but_remove nat_list_cmp_total held now key is
 
@@ -157,8 +158,8 @@ module _ (held : Named SetSides) (to_add to_change to_take : Keys) (was : ArePen
     dropped_wanted = part_gone nat_list_cmp_total bytes_exact wanted_set held now key None dropped_but refl
 
     -- of one that was not sent nothing is left
-    pub unsent_set : sent ≡ None → (add : Keys) → add ≡ set.remove to_add key → ArePendingSets now add to_change to_take
-    unsent_set none add add_is =
+    pub unsent_set : sent ≡ None → {add : Keys} → add ≡ set.remove to_add key → ArePendingSets now add to_change to_take
+    unsent_set none {add} add_is =
         sets_pending now None dropped_but refl add to_change to_take (in_remove nat_list_cmp_total to_add add key add_is)
         (still_changes false (ap (λ s. alters same_sets s wanted) none ∙ unsent_same wanted)) (still_takes false (ap (comes wanted) none))
 
@@ -166,8 +167,8 @@ module _ (held : Named SetSides) (to_add to_change to_take : Keys) (was : ArePen
     unsent_set_sent none = part_still nat_list_cmp_total bytes_exact sent_set held now key None dropped_but (sym none)
 
     -- one that was wanted no more is gone
-    pub taken_set : wanted ≡ None → (take : Keys) → take ≡ set.remove to_take key → ArePendingSets now to_add to_change take
-    taken_set none take take_is =
+    pub taken_set : wanted ≡ None → {take : Keys} → take ≡ set.remove to_take key → ArePendingSets now to_add to_change take
+    taken_set none {take} take_is =
         sets_pending now None dropped_but refl to_add to_change take (still_adds false (ap (comes sent) none))
         (still_changes false (ap (alters same_sets sent) none)) (in_remove nat_list_cmp_total to_take take key take_is)
 
@@ -178,9 +179,9 @@ module _ (held : Named SetSides) (to_add to_change to_take : Keys) (was : ArePen
     taken_set_wanted none = part_still nat_list_cmp_total bytes_exact wanted_set held now key None dropped_but (sym none)
 
   -- one that was sent has to go
-  pub off_pending : (now : Named SetSides) → now ≡ maps.insert held key (record { sent = sent; wanted = None })
-      → is_some sent ≡ true → (change take : Keys) → change ≡ set.remove to_change key → take ≡ set.insert to_take key → ArePendingSets now to_add change take
-  off_pending now is was_sent change take change_is take_is =
+  pub off_pending : {now : Named SetSides} → now ≡ maps.insert held key (record { sent = sent; wanted = None })
+      → is_some sent ≡ true → {change take : Keys} → change ≡ set.remove to_change key → take ≡ set.insert to_take key → ArePendingSets now to_add change take
+  off_pending {now} is was_sent {change} {take} change_is take_is =
       let s : SetSides = record { sent = sent; wanted = None } in
       sets_pending now (Some s) (but_insert nat_list_cmp_total held now key s is) (ap (λ b. b || false) was_sent) to_add change take
       (still_adds false (not_new sent was_sent wanted)) (in_remove nat_list_cmp_total to_change change key change_is)
@@ -188,13 +189,13 @@ module _ (held : Named SetSides) (to_add to_change to_take : Keys) (was : ArePen
 
   -- ---- members of a set
 
-  module _ (there : is_some wanted ≡ true) (change kept : Keys) (change_is : change ≡ set.insert to_change key) (differs : Bool) (kept_is : kept ≡ cond differs change (set.remove change key)) where
+  module _ (there : is_some wanted ≡ true) {change kept : Keys} (change_is : change ≡ set.insert to_change key) (differs : Bool) (kept_is : kept ≡ cond differs change (set.remove change key)) where
     kept_in : IsButIn to_change kept key differs
     kept_in = in_kept nat_list_cmp_total to_change change kept key differs change_is kept_is
 
-    pub members_pending : (after : Members) (now : Named SetSides) → now ≡ maps.insert held key (record { sent = sent; wanted = Some after })
+    pub members_pending : (after : Members) {now : Named SetSides} → now ≡ maps.insert held key (record { sent = sent; wanted = Some after })
         → differs ≡ changed_at (maps.get now key) → ArePendingSets now to_add kept to_take
-    members_pending after now is told =
+    members_pending after {now} is told =
         let s : SetSides = record { sent = sent; wanted = Some after } in
         let stands : maps.get now key ≡ Some s = ap (λ (m : Named SetSides). maps.get m key) is ∙ get_insert_same held key s in
         sets_pending now (Some s) (but_insert nat_list_cmp_total held now key s is) (surely (is_some sent)) to_add kept to_take
@@ -202,8 +203,8 @@ module _ (held : Named SetSides) (to_add to_change to_take : Keys) (was : ArePen
         (subst (IsButIn to_change kept key) (told ∙ ap changed_at stands) kept_in)
         (still_takes (comes (Some after) sent) (stays wanted sent there ∙ sym (there_already after sent)))
 
-    pub members_refused : (now : Named SetSides) → now ≡ held → differs ≡ changed_at (maps.get now key) → ArePendingSets now to_add kept to_take
-    members_refused now is told =
+    pub members_refused : {now : Named SetSides} → now ≡ held → differs ≡ changed_at (maps.get now key) → ArePendingSets now to_add kept to_take
+    members_refused {now} is told =
         sets_pending now (maps.get held key) (but_same bytes_exact held now key is) (was.there key) to_add kept to_take
         (still_adds (comes sent wanted) refl)
         (subst (IsButIn to_change kept key) (told ∙ ap (λ (m : Named SetSides). changed_at (maps.get m key)) is) kept_in)
@@ -211,7 +212,7 @@ module _ (held : Named SetSides) (to_add to_change to_take : Keys) (was : ArePen
 
   -- ---- a set was sent
 
-  module _ (w : Members) (there : wanted ≡ Some w) (now : Named SetSides) (is : now ≡ maps.insert held key (record { sent = wanted; wanted = wanted })) where
+  module _ (w : Members) (there : wanted ≡ Some w) {now : Named SetSides} (is : now ≡ maps.insert held key (record { sent = wanted; wanted = wanted })) where
     abbrev one : SetSides
     one = record { sent = Some w; wanted = Some w }
 
@@ -221,13 +222,13 @@ module _ (held : Named SetSides) (to_add to_change to_take : Keys) (was : ArePen
     one_takes : IsButIn to_take to_take key false
     one_takes = still_takes false (ap (λ x. comes x sent) there ∙ there_already w sent)
 
-    pub added_pending : sent ≡ None → (add : Keys) → add ≡ set.remove to_add key → ArePendingSets now add to_change to_take
-    added_pending none add add_is =
+    pub added_pending : sent ≡ None → {add : Keys} → add ≡ set.remove to_add key → ArePendingSets now add to_change to_take
+    added_pending none {add} add_is =
         sets_pending now (Some one) one_but refl add to_change to_take (in_remove nat_list_cmp_total to_add add key add_is)
         (still_changes (alters same_sets (Some w) (Some w)) (ap (λ s. alters same_sets s wanted) none ∙ unsent_same wanted ∙ sent_same w)) one_takes
 
-    pub changed_pending : is_some sent ≡ true → (change : Keys) → change ≡ set.remove to_change key → ArePendingSets now to_add change to_take
-    changed_pending was_sent change change_is =
+    pub changed_pending : is_some sent ≡ true → {change : Keys} → change ≡ set.remove to_change key → ArePendingSets now to_add change to_take
+    changed_pending was_sent {change} change_is =
         sets_pending now (Some one) one_but refl to_add change to_take (still_adds false (not_new sent was_sent wanted))
         (subst (IsButIn to_change change key) (sent_same w) (in_remove nat_list_cmp_total to_change change key change_is)) one_takes
 

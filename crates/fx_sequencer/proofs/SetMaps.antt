@@ -21,14 +21,14 @@ use Rattle.fx_sequencer.proofs.SetKeeping.{fresh_sent, fresh_wanted, side_sent, 
 abbrev pub set_maps : Named SetSides → TwoSides (Named Members)
 set_maps held = record { sent = projected sent_set held; wanted = projected wanted_set held }
 
-pub no_set_maps : (held : Named SetSides) → held ≡ maps.empty → set_maps held ≡ record { sent = maps.empty; wanted = maps.empty }
-no_set_maps held none i = record { sent = part_none nat_list_cmp_total bytes_exact sent_set held none i; wanted = part_none nat_list_cmp_total bytes_exact wanted_set held none i }
+pub no_set_maps : {held : Named SetSides} → held ≡ maps.empty → set_maps held ≡ record { sent = maps.empty; wanted = maps.empty }
+no_set_maps {held} none i = record { sent = part_none nat_list_cmp_total bytes_exact sent_set held none i; wanted = part_none nat_list_cmp_total bytes_exact wanted_set held none i }
 
 has_set : (e : Option SetSides) → is_some (option_and_then wanted_set e) ≡ true → is_some e ≡ true
 has_set None h = cc
 has_set (Some s) h = refl
 
-module _ (held : Named SetSides) (to_add to_change to_take : Keys) (was : ArePendingSets held to_add to_change to_take) (v : TwoSides (Named Members)) (is : set_maps held ≡ v) where
+module _ {held : Named SetSides} {to_add to_change to_take : Keys} (was : ArePendingSets held to_add to_change to_take) {v : TwoSides (Named Members)} (is : set_maps held ≡ v) where
   -- ---- what is looked up
 
   pub wanted_as : (k : List ℕ) → maps.get v.wanted k ≡ side_at wanted_set held k
@@ -67,11 +67,11 @@ module _ (held : Named SetSides) (to_add to_change to_take : Keys) (was : ArePen
 
   -- ---- what was sent
 
-  module _ (k : List ℕ) (w : Members) (there : side_at wanted_set held k ≡ Some w) (now : Named SetSides) (at : now ≡ maps.insert held k (record { sent = side_at wanted_set held k; wanted = side_at wanted_set held k })) where
+  module _ (k : List ℕ) (w : Members) (there : side_at wanted_set held k ≡ Some w) {now : Named SetSides} (at : now ≡ maps.insert held k (record { sent = side_at wanted_set held k; wanted = side_at wanted_set held k })) where
     one_maps : set_maps now ≡ record v { sent = maps.insert v.sent k w }
     one_maps =
-        let sent : projected sent_set now ≡ maps.insert v.sent k w = one_sent held to_add to_change to_take was k w there now at ∙ ap (λ (u : TwoSides (Named Members)). maps.insert u.sent k w) is in
-        let wanted : projected wanted_set now ≡ v.wanted = one_wanted held to_add to_change to_take was k w there now at ∙ ap (λ (u : TwoSides (Named Members)). u.wanted) is in
+        let sent : projected sent_set now ≡ maps.insert v.sent k w = one_sent was k w there at ∙ ap (λ (u : TwoSides (Named Members)). maps.insert u.sent k w) is in
+        let wanted : projected wanted_set now ≡ v.wanted = one_wanted was k w there at ∙ ap (λ (u : TwoSides (Named Members)). u.wanted) is in
         λ i. record { sent = sent i; wanted = wanted i }
 
   -- the first set that is new
@@ -88,17 +88,17 @@ module _ (held : Named SetSides) (to_add to_change to_take : Keys) (was : ArePen
     pub added_found : true ≡ is_some (first_absent v.sent v.wanted)
     added_found = sym (first_some (is_absent v.sent) v.wanted k added_first)
 
-    module _ (now : Named SetSides) (at : now ≡ maps.insert held k (record { sent = side_at wanted_set held k; wanted = side_at wanted_set held k })) where
+    module _ {now : Named SetSides} (at : now ≡ maps.insert held k (record { sent = side_at wanted_set held k; wanted = side_at wanted_set held k })) where
       pub added_maps : set_maps now ≡ record v { sent = taken_first (first_absent v.sent v.wanted) v.sent v.wanted }
       added_maps =
-          one_maps k added_first.value added_there now at
+          one_maps k added_first.value added_there at
           ∙ ap (λ (m : Named Members). record v { sent = m }) (sym (first_sent (is_absent v.sent) v.wanted k added_first v.sent))
 
-      pub added_kept : (add : Keys) → add ≡ set.remove to_add k → ArePendingSets now add to_change to_take
-      added_kept add add_is = added_pending held to_add to_change to_take was k added_first.value added_there now at added_unsent add add_is
+      pub added_kept : {add : Keys} → add ≡ set.remove to_add k → ArePendingSets now add to_change to_take
+      added_kept add_is = added_pending was k added_first.value added_there at added_unsent add_is
 
     -- what is told of it
-    module _ (s : SetSides) (at : Some s ≡ maps.get held k) where
+    module _ {s : SetSides} (at : Some s ≡ maps.get held k) where
       added_wanted : s.wanted ≡ Some added_first.value
       added_wanted = ap (option_and_then wanted_set) at ∙ added_there
 
@@ -108,8 +108,8 @@ module _ (held : Named SetSides) (to_add to_change to_take : Keys) (was : ArePen
       pub added_new : comes s.sent s.wanted ≡ true
       added_new i = comes (added_before i) (added_wanted i)
 
-      pub added_told : (members : List Member) → members ≡ set.items (members_of s.wanted) → Some (SetAdd k members) ≡ option_map set_added (first_absent v.sent v.wanted)
-      added_told members lent =
+      pub added_told : {members : List Member} → members ≡ set.items (members_of s.wanted) → Some (SetAdd k members) ≡ option_map set_added (first_absent v.sent v.wanted)
+      added_told lent =
           ap (λ (ms : List Member). Some (SetAdd k ms)) (lent ∙ ap (λ w. set.items (members_of w)) added_wanted)
           ∙ sym (ap (option_map set_added) added_first.found)
 
@@ -130,17 +130,17 @@ module _ (held : Named SetSides) (to_add to_change to_take : Keys) (was : ArePen
     pub changed_found : true ≡ is_some (first_other same_sets v.sent v.wanted)
     changed_found = sym (first_some (is_other same_sets v.sent) v.wanted k changed_first)
 
-    module _ (now : Named SetSides) (at : now ≡ maps.insert held k (record { sent = side_at wanted_set held k; wanted = side_at wanted_set held k })) where
+    module _ {now : Named SetSides} (at : now ≡ maps.insert held k (record { sent = side_at wanted_set held k; wanted = side_at wanted_set held k })) where
       pub changed_maps : set_maps now ≡ record v { sent = taken_first (first_other same_sets v.sent v.wanted) v.sent v.wanted }
       changed_maps =
-          one_maps k changed_first.value changed_there now at
+          one_maps k changed_first.value changed_there at
           ∙ ap (λ (m : Named Members). record v { sent = m }) (sym (first_sent (is_other same_sets v.sent) v.wanted k changed_first v.sent))
 
-      pub changed_kept : (change : Keys) → change ≡ set.remove to_change k → ArePendingSets now to_add change to_take
-      changed_kept change change_is = changed_pending held to_add to_change to_take was k changed_first.value changed_there now at changed_sent change change_is
+      pub changed_kept : {change : Keys} → change ≡ set.remove to_change k → ArePendingSets now to_add change to_take
+      changed_kept change_is = changed_pending was k changed_first.value changed_there at changed_sent change_is
 
     -- what is told of it
-    module _ (s : SetSides) (at : Some s ≡ maps.get held k) where
+    module _ {s : SetSides} (at : Some s ≡ maps.get held k) where
       changed_wanted : s.wanted ≡ Some changed_first.value
       changed_wanted = ap (option_and_then wanted_set) at ∙ changed_there
 
@@ -150,9 +150,9 @@ module _ (held : Named SetSides) (to_add to_change to_take : Keys) (was : ArePen
       pub changed_other : alters same_sets s.sent s.wanted ≡ true
       changed_other = (λ i. alters same_sets (changed_before i) (changed_wanted i)) ∙ first_passes (is_other same_sets v.sent) v.wanted k changed_first
 
-      pub changed_told : (adds removes : List Member) → adds ≡ set.items_minus (members_of s.wanted) (members_of s.sent) → removes ≡ set.items_minus (members_of s.sent) (members_of s.wanted)
+      pub changed_told : {adds removes : List Member} → adds ≡ set.items_minus (members_of s.wanted) (members_of s.sent) → removes ≡ set.items_minus (members_of s.sent) (members_of s.wanted)
           → Some (SetDelta k adds removes) ≡ option_map (set_changed v.sent) (first_other same_sets v.sent v.wanted)
-      changed_told adds removes added removed =
+      changed_told added removed =
           (λ i. Some (SetDelta k (added i) (removed i)))
           ∙ (λ i. Some (SetDelta k (set.items_minus (members_of (changed_wanted i)) (members_of (changed_before i))) (set.items_minus (members_of (changed_before i)) (members_of (changed_wanted i)))))
           ∙ sym (ap (option_map (set_changed v.sent)) changed_first.found)
@@ -174,41 +174,41 @@ module _ (held : Named SetSides) (to_add to_change to_take : Keys) (was : ArePen
     pub taken_found : true ≡ is_some (first_absent v.wanted v.sent)
     taken_found = sym (first_some (is_absent v.wanted) v.sent k taken_here)
 
-    pub gone_maps : (now : Named SetSides) → now ≡ maps.remove held k → set_maps now ≡ record v { sent = taken_first (first_absent v.wanted v.sent) v.sent v.wanted }
-    gone_maps now at =
+    pub gone_maps : {now : Named SetSides} → now ≡ maps.remove held k → set_maps now ≡ record v { sent = taken_first (first_absent v.wanted v.sent) v.sent v.wanted }
+    gone_maps {now} at =
         let sent : projected sent_set now ≡ taken_first (first_absent v.wanted v.sent) v.sent v.wanted =
-        taken_set_sent held to_add to_change to_take was k now at
+        taken_set_sent was k at
         ∙ ap (λ (u : TwoSides (Named Members)). maps.remove u.sent k) is
         ∙ sym (first_taken (is_absent v.wanted) v.sent k taken_here v.sent v.wanted not_there) in
-        let wanted : projected wanted_set now ≡ v.wanted = taken_set_wanted held to_add to_change to_take was k now at unwanted ∙ ap (λ (u : TwoSides (Named Members)). u.wanted) is in
+        let wanted : projected wanted_set now ≡ v.wanted = taken_set_wanted was k at unwanted ∙ ap (λ (u : TwoSides (Named Members)). u.wanted) is in
         λ i. record { sent = sent i; wanted = wanted i }
 
-    pub gone_kept : (now : Named SetSides) → now ≡ maps.remove held k → (take : Keys) → take ≡ set.remove to_take k → ArePendingSets now to_add to_change take
-    gone_kept now at take take_is = taken_set held to_add to_change to_take was k now at unwanted take take_is
+    pub gone_kept : {now : Named SetSides} → now ≡ maps.remove held k → {take : Keys} → take ≡ set.remove to_take k → ArePendingSets now to_add to_change take
+    gone_kept at take_is = taken_set was k at unwanted take_is
 
   -- ---- what is changed
 
-  module _ (k : List ℕ) (now : Named SetSides) where
+  module _ (k : List ℕ) {now : Named SetSides} where
     pub fresh_maps : (absent : maps.get held k ≡ None) → now ≡ maps.insert held k (record { sent = None; wanted = Some set.empty }) → set_maps now ≡ record v { wanted = maps.insert v.wanted k set.empty }
     fresh_maps absent at =
-        let sent : projected sent_set now ≡ v.sent = fresh_sent held to_add to_change to_take was k absent now at ∙ ap (λ (u : TwoSides (Named Members)). u.sent) is in
-        let wanted : projected wanted_set now ≡ maps.insert v.wanted k set.empty = fresh_wanted held to_add to_change to_take was k absent now at ∙ ap (λ (u : TwoSides (Named Members)). maps.insert u.wanted k set.empty) is in
+        let sent : projected sent_set now ≡ v.sent = fresh_sent was k absent at ∙ ap (λ (u : TwoSides (Named Members)). u.sent) is in
+        let wanted : projected wanted_set now ≡ maps.insert v.wanted k set.empty = fresh_wanted was k absent at ∙ ap (λ (u : TwoSides (Named Members)). maps.insert u.wanted k set.empty) is in
         λ i. record { sent = sent i; wanted = wanted i }
 
     pub side_maps : (w : Members) → now ≡ maps.insert held k (record { sent = side_at sent_set held k; wanted = Some w }) → set_maps now ≡ record v { wanted = maps.insert v.wanted k w }
     side_maps w at =
-        let sent : projected sent_set now ≡ v.sent = side_sent held to_add to_change to_take was k (Some w) now at ∙ ap (λ (u : TwoSides (Named Members)). u.sent) is in
-        let wanted : projected wanted_set now ≡ maps.insert v.wanted k w = side_put held to_add to_change to_take was k (Some w) now at w refl ∙ ap (λ (u : TwoSides (Named Members)). maps.insert u.wanted k w) is in
+        let sent : projected sent_set now ≡ v.sent = side_sent was k (Some w) at ∙ ap (λ (u : TwoSides (Named Members)). u.sent) is in
+        let wanted : projected wanted_set now ≡ maps.insert v.wanted k w = side_put was k (Some w) at w refl ∙ ap (λ (u : TwoSides (Named Members)). maps.insert u.wanted k w) is in
         λ i. record { sent = sent i; wanted = wanted i }
 
     pub off_maps : now ≡ maps.insert held k (record { sent = side_at sent_set held k; wanted = None }) → set_maps now ≡ record v { wanted = maps.remove v.wanted k }
     off_maps at =
-        let sent : projected sent_set now ≡ v.sent = side_sent held to_add to_change to_take was k None now at ∙ ap (λ (u : TwoSides (Named Members)). u.sent) is in
-        let wanted : projected wanted_set now ≡ maps.remove v.wanted k = side_gone held to_add to_change to_take was k None now at refl ∙ ap (λ (u : TwoSides (Named Members)). maps.remove u.wanted k) is in
+        let sent : projected sent_set now ≡ v.sent = side_sent was k None at ∙ ap (λ (u : TwoSides (Named Members)). u.sent) is in
+        let wanted : projected wanted_set now ≡ maps.remove v.wanted k = side_gone was k None at refl ∙ ap (λ (u : TwoSides (Named Members)). maps.remove u.wanted k) is in
         λ i. record { sent = sent i; wanted = wanted i }
 
     pub dropped_maps : side_at sent_set held k ≡ None → now ≡ maps.remove held k → set_maps now ≡ record v { wanted = maps.remove v.wanted k }
     dropped_maps unsent at =
-        let sent : projected sent_set now ≡ v.sent = unsent_set_sent held to_add to_change to_take was k now at unsent ∙ ap (λ (u : TwoSides (Named Members)). u.sent) is in
-        let wanted : projected wanted_set now ≡ maps.remove v.wanted k = dropped_wanted held to_add to_change to_take was k now at ∙ ap (λ (u : TwoSides (Named Members)). maps.remove u.wanted k) is in
+        let sent : projected sent_set now ≡ v.sent = unsent_set_sent was k at unsent ∙ ap (λ (u : TwoSides (Named Members)). u.sent) is in
+        let wanted : projected wanted_set now ≡ maps.remove v.wanted k = dropped_wanted was k at ∙ ap (λ (u : TwoSides (Named Members)). maps.remove u.wanted k) is in
         λ i. record { sent = sent i; wanted = wanted i }

@@ -12,15 +12,15 @@ use Rattle.fx_sequencer.specs.declared.sides.Sides.{Sides}
 use Rattle.fx_sequencer.proofs.Sending.{IsSent, IsGoneFrom}
 use Rattle.fx_sequencer.proofs.Steps.{put_step, gone_step}
 
-module _ (e : Entries) (v : Sides) (is : views_of e ≡ v) where
+module _ (e : Entries) {v : Sides} (is : views_of e ≡ v) where
   -- ---- the next message
 
-  pub told_put : (c : Change) → Some c ≡ next_put (sent_view e) (wanted_view e) → Some c ≡ next_message v.sent v.wanted
-  told_put c put =
+  pub told_put : {c : Change} → Some c ≡ next_put (sent_view e) (wanted_view e) → Some c ≡ next_message v.sent v.wanted
+  told_put put =
       ap (λ o. or_else o (next_gone (sent_view e) (wanted_view e))) put ∙ ap (λ (u : Sides). next_message u.sent u.wanted) is
 
-  pub told_gone : (o : Option Change) → None ≡ next_put (sent_view e) (wanted_view e) → o ≡ next_gone (sent_view e) (wanted_view e) → o ≡ next_message v.sent v.wanted
-  told_gone o none gone =
+  pub told_gone : {o : Option Change} → None ≡ next_put (sent_view e) (wanted_view e) → o ≡ next_gone (sent_view e) (wanted_view e) → o ≡ next_message v.sent v.wanted
+  told_gone none gone =
       gone ∙ ap (λ p. or_else p (next_gone (sent_view e) (wanted_view e))) none ∙ ap (λ (u : Sides). next_message u.sent u.wanted) is
 
   -- ---- what was sent
@@ -44,14 +44,14 @@ module _ (e : Entries) (v : Sides) (is : views_of e ≡ v) where
 
   -- ---- one map of the wanted view is changed
 
-  pub sets_now : (f : Named Members → Named Members) (m : TwoSides (Named Members)) → m ≡ record e.sets { wanted = f e.sets.wanted } → views_of (record e { sets = m }) ≡ record v { wanted = record v.wanted { sets = f v.wanted.sets } }
-  sets_now f m at = (λ i. views_of (record e { sets = at i })) ∙ (λ i. record (is i) { wanted = record (is i).wanted { sets = f (is i).wanted.sets } })
+  pub sets_now : (f : Named Members → Named Members) {m : TwoSides (Named Members)} → m ≡ record e.sets { wanted = f e.sets.wanted } → views_of (record e { sets = m }) ≡ record v { wanted = record v.wanted { sets = f v.wanted.sets } }
+  sets_now f at = (λ i. views_of (record e { sets = at i })) ∙ (λ i. record (is i) { wanted = record (is i).wanted { sets = f (is i).wanted.sets } })
 
-  pub policies_now : (f : Named ViewPolicy → Named ViewPolicy) (m : TwoSides (Named ViewPolicy)) → m ≡ record e.policies { wanted = f e.policies.wanted } → views_of (record e { policies = m }) ≡ record v { wanted = record v.wanted { policies = f v.wanted.policies } }
-  policies_now f m at = (λ i. views_of (record e { policies = at i })) ∙ (λ i. record (is i) { wanted = record (is i).wanted { policies = f (is i).wanted.policies } })
+  pub policies_now : (f : Named ViewPolicy → Named ViewPolicy) {m : TwoSides (Named ViewPolicy)} → m ≡ record e.policies { wanted = f e.policies.wanted } → views_of (record e { policies = m }) ≡ record v { wanted = record v.wanted { policies = f v.wanted.policies } }
+  policies_now f at = (λ i. views_of (record e { policies = at i })) ∙ (λ i. record (is i) { wanted = record (is i).wanted { policies = f (is i).wanted.policies } })
 
-  pub profiles_now : (f : Named ViewProfile → Named ViewProfile) (m : TwoSides (Named ViewProfile)) → m ≡ record e.profiles { wanted = f e.profiles.wanted } → views_of (record e { profiles = m }) ≡ record v { wanted = record v.wanted { profiles = f v.wanted.profiles } }
-  profiles_now f m at = (λ i. views_of (record e { profiles = at i })) ∙ (λ i. record (is i) { wanted = record (is i).wanted { profiles = f (is i).wanted.profiles } })
+  pub profiles_now : (f : Named ViewProfile → Named ViewProfile) {m : TwoSides (Named ViewProfile)} → m ≡ record e.profiles { wanted = f e.profiles.wanted } → views_of (record e { profiles = m }) ≡ record v { wanted = record v.wanted { profiles = f v.wanted.profiles } }
+  profiles_now f at = (λ i. views_of (record e { profiles = at i })) ∙ (λ i. record (is i) { wanted = record (is i).wanted { profiles = f (is i).wanted.profiles } })
 
-  pub endpoints_now : (f : Named ViewEndpoint → Named ViewEndpoint) (m : TwoSides (Named ViewEndpoint)) → m ≡ record e.endpoints { wanted = f e.endpoints.wanted } → views_of (record e { endpoints = m }) ≡ record v { wanted = record v.wanted { endpoints = f v.wanted.endpoints } }
-  endpoints_now f m at = (λ i. views_of (record e { endpoints = at i })) ∙ (λ i. record (is i) { wanted = record (is i).wanted { endpoints = f (is i).wanted.endpoints } })
+  pub endpoints_now : (f : Named ViewEndpoint → Named ViewEndpoint) {m : TwoSides (Named ViewEndpoint)} → m ≡ record e.endpoints { wanted = f e.endpoints.wanted } → views_of (record e { endpoints = m }) ≡ record v { wanted = record v.wanted { endpoints = f v.wanted.endpoints } }
+  endpoints_now f at = (λ i. views_of (record e { endpoints = at i })) ∙ (λ i. record (is i) { wanted = record (is i).wanted { endpoints = f (is i).wanted.endpoints } })

@@ -5,10 +5,10 @@ use Rattle.fx_sequencer.proofs.EntryMaps.{none_put, put_lent}
 use Rattle.fx_sequencer.proofs.name_entries.NameEntries.first_put.Goals as goal
 
 pub returns-in_default : goal.returns-in_default
-returns-in_default g c = none_put g.V.PartialEq.eq c.self.inside.held c.self.inside.to_put c.self.inside.to_take c.self.invariant c.args.self.now c.self.view_is c.in_default.ensures
+returns-in_default g c = none_put c.self.invariant c.self.view_is c.in_default.ensures
 
 pub returns-in-Some-wanted_at : goal.returns-in-Some-wanted_at
-returns-in-Some-wanted_at g c = put_lent g.V.PartialEq.eq c.self.inside.held c.self.inside.to_put c.self.inside.to_take c.self.invariant c.args.self.now c.self.view_is c.in-Some.name.now c.in-Some.ensures (Some c.in-Some-wanted_at.value.now) (c.in-Some-wanted_at.ensures ∙ ap (option_and_then wanted_of) c.get.ensures)
+returns-in-Some-wanted_at g c = put_lent c.self.invariant c.self.view_is c.in-Some.name.now c.in-Some.ensures (Some c.in-Some-wanted_at.value.now) (c.in-Some-wanted_at.ensures ∙ ap (option_and_then wanted_of) c.get.ensures)
 
 pub returns-in-None : goal.returns-in-None
-returns-in-None g c = put_lent g.V.PartialEq.eq c.self.inside.held c.self.inside.to_put c.self.inside.to_take c.self.invariant c.args.self.now c.self.view_is c.in-Some.name.now c.in-Some.ensures None (c.in-None.ensures ∙ ap (option_and_then wanted_of) c.get.ensures)
+returns-in-None g c = put_lent c.self.invariant c.self.view_is c.in-Some.name.now c.in-Some.ensures None (c.in-None.ensures ∙ ap (option_and_then wanted_of) c.get.ensures)

@@ -1,22 +1,18 @@
-use Rattle.std.proofs.Common.{sym, ap, ◌∙◌, subst}
-use Rattle.fx_sequencer.specs.Pending.{ArePending}
+use Rattle.std.proofs.Common.{ap, ◌∙◌}
 use Rattle.fx_sequencer.proofs.EntryMaps.{entry_maps, put_maps}
 use Rattle.fx_sequencer.proofs.Keeping.{put_pending, refused_pending}
 use Rattle.fx_sequencer.proofs.name_entries.NameEntries.put.Goals as goal
 
 pub invariant_of-self-in-Ok : goal.invariant_of-self-in-Ok
 invariant_of-self-in-Ok g c =
-    put_pending g.V.PartialEq.eq c.self.inside.held c.self.inside.to_put c.self.inside.to_take c.self.invariant c.args.name.now g.met.V.Exact.same c.args.value c.enter.new.held c.in-Ok.ensures.ok
-    _ _ _ c.in-Ok.differs c.in-Ok.ensures.differs c.in_ok-insert.ensures.ok c.keep_if.ensures c.remove.ensures.removed
+    put_pending c.self.invariant c.args.name.now g.met.V.Exact.same c.args.value c.in-Ok.ensures.ok
+    c.in-Ok.differs c.in-Ok.ensures.differs c.in_ok-insert.ensures.ok c.keep_if.ensures c.remove.ensures.removed
 
 pub returns-in-Ok-clause-ok : goal.returns-in-Ok-clause-ok
-returns-in-Ok-clause-ok g c = put_maps g.V.PartialEq.eq c.self.inside.held c.self.inside.to_put c.self.inside.to_take c.self.invariant c.args.self.now c.self.view_is c.args.name.now c.enter.new.held g.met.V.Exact.same c.args.value c.in-Ok.ensures.ok
+returns-in-Ok-clause-ok g c = put_maps c.self.invariant c.self.view_is c.args.name.now g.met.V.Exact.same c.args.value c.in-Ok.ensures.ok
 
 pub invariant_of-self-in-Err : goal.invariant_of-self-in-Err
-invariant_of-self-in-Err g c =
-    let back = refused_pending g.V.PartialEq.eq c.self.inside.held c.self.inside.to_put c.self.inside.to_take c.self.invariant c.args.name.now _ _ c.in_ok-insert.ensures.ok c.remove-in-Err.ensures.removed c.in-Err.ensures.absent in
-    subst (λ h. ArePending g.V.PartialEq.eq h c.remove-in-Err.new.self c.self.inside.to_take) (sym c.in-Err.ensures.err)
-    (subst (λ s. ArePending g.V.PartialEq.eq c.self.inside.held s c.self.inside.to_take) (sym back) c.self.invariant)
+invariant_of-self-in-Err g c = refused_pending c.self.invariant c.args.name.now c.in_ok-insert.ensures.ok c.remove-in-Err.ensures.removed c.in-Err.ensures.absent c.in-Err.ensures.err
 
 pub returns-in-Err-clause-err : goal.returns-in-Err-clause-err
 returns-in-Err-clause-err g c = ap entry_maps c.in-Err.ensures.err ∙ c.self.view_is

@@ -8,21 +8,21 @@ use Rattle.fx_sequencer.proofs.name_entries.NameEntries.take.Goals as goal
 
 pub invariant_of-self : goal.invariant_of-self
 invariant_of-self g c =
-    unsent_pending g.V.PartialEq.eq c.self.inside.held c.self.inside.to_put c.self.inside.to_take c.self.invariant c.args.name.now c.remove.new.self c.remove.ensures.removed
-    (absent_value _ (sym (c.was_sent.ensures ∙ ap (λ e. is_some (option_and_then sent_of e)) c.get.ensures) ∙ c.if-not-was_sent.true)) _ c.remove-then-not-was_sent.ensures.removed
+    unsent_pending c.self.invariant c.args.name.now c.remove.ensures.removed
+    (absent_value _ (sym (c.was_sent.ensures ∙ ap (λ e. is_some (option_and_then sent_of e)) c.get.ensures) ∙ c.if-not-was_sent.true)) c.remove-then-not-was_sent.ensures.removed
 
 pub returns-then-not-was_sent-clause-ok : goal.returns-then-not-was_sent-clause-ok
 returns-then-not-was_sent-clause-ok g c =
-    unsent_maps g.V.PartialEq.eq c.self.inside.held c.self.inside.to_put c.self.inside.to_take c.self.invariant c.args.self.now c.self.view_is c.args.name.now c.remove.new.self
+    unsent_maps c.self.invariant c.self.view_is c.args.name.now
     (absent_value _ (sym (c.was_sent.ensures ∙ ap (λ e. is_some (option_and_then sent_of e)) c.get.ensures) ∙ c.if-not-was_sent.true)) c.remove.ensures.removed
 
 pub withdraw-requires : goal.withdraw-requires
-withdraw-requires g c = kept_there g.V.PartialEq.eq c.self.inside.held c.self.inside.to_put c.self.inside.to_take c.self.invariant c.args.self.now c.self.view_is c.args.name.now c.requires
+withdraw-requires g c = kept_there c.self.invariant c.self.view_is c.args.name.now c.requires
 
 pub invariant_of-self-2 : goal.invariant_of-self-2
 invariant_of-self-2 g c =
-    withdrawn_pending g.V.PartialEq.eq c.self.inside.held c.self.inside.to_put c.self.inside.to_take c.self.invariant c.args.name.now c.withdraw.new.held c.withdraw.ensures
-    (sym (c.was_sent.ensures ∙ ap (λ e. is_some (option_and_then sent_of e)) c.get.ensures) ∙ c.if-not-was_sent.false) _ _ c.remove-2.ensures.removed c.in_ok-insert.ensures.ok
+    withdrawn_pending c.self.invariant c.args.name.now c.withdraw.ensures
+    (sym (c.was_sent.ensures ∙ ap (λ e. is_some (option_and_then sent_of e)) c.get.ensures) ∙ c.if-not-was_sent.false) c.remove-2.ensures.removed c.in_ok-insert.ensures.ok
 
 pub returns-clause-ok : goal.returns-clause-ok
-returns-clause-ok g c = withdrawn_maps g.V.PartialEq.eq c.self.inside.held c.self.inside.to_put c.self.inside.to_take c.self.invariant c.args.self.now c.self.view_is c.args.name.now c.withdraw.new.held c.withdraw.ensures
+returns-clause-ok g c = withdrawn_maps c.self.invariant c.self.view_is c.args.name.now c.withdraw.ensures

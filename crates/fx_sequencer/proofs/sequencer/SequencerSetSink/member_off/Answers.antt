@@ -12,4 +12,4 @@ pub take_member-requires-clause-member : goal.take_member-requires-clause-member
 take_member-requires-clause-member c = ap (λ v. set.contains (members_of (map.get v.wanted.sets c.args.name)) c.args.member) c.self.view_is ∙ c.requires.member
 
 pub returns-clause-ok : goal.returns-clause-ok
-returns-clause-ok c = sets_now c.self.inside.entries c.args.self.now c.self.view_is (λ m. map.insert m c.args.name (set.remove (members_of (map.get m c.args.name)) c.args.member)) c.take_member.new.self c.in_ok-take_member.ensures.ok
+returns-clause-ok c = sets_now c.self.inside.entries c.self.view_is (λ m. map.insert m c.args.name (set.remove (members_of (map.get m c.args.name)) c.args.member)) c.in_ok-take_member.ensures.ok

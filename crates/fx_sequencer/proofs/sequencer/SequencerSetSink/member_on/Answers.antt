@@ -12,4 +12,4 @@ pub put_member-requires-clause-absent : goal.put_member-requires-clause-absent
 put_member-requires-clause-absent c = ap (λ v. set.contains (members_of (map.get v.wanted.sets c.args.name)) c.args.member) c.self.view_is ∙ c.requires.absent
 
 pub returns-clause-ok : goal.returns-clause-ok
-returns-clause-ok c = sets_now c.self.inside.entries c.args.self.now c.self.view_is (λ m. map.insert m c.args.name (set.insert (members_of (map.get m c.args.name)) c.args.member)) c.put_member.new.self c.in_ok-put_member.ensures.ok
+returns-clause-ok c = sets_now c.self.inside.entries c.self.view_is (λ m. map.insert m c.args.name (set.insert (members_of (map.get m c.args.name)) c.args.member)) c.in_ok-put_member.ensures.ok

@@ -8,4 +8,4 @@ pub put-requires : goal.put-requires
 put-requires c = ap (λ v. map.contains_key v.wanted.sets c.args.name) c.self.view_is ∙ c.requires
 
 pub returns-clause-ok : goal.returns-clause-ok
-returns-clause-ok c = sets_now c.self.inside.entries c.args.self.now c.self.view_is (λ m. map.insert m c.args.name set.empty) c.put.new.self c.in_ok-put.ensures.ok
+returns-clause-ok c = sets_now c.self.inside.entries c.self.view_is (λ m. map.insert m c.args.name set.empty) c.in_ok-put.ensures.ok

@@ -3,4 +3,4 @@ use Rattle.fx_sequencer.proofs.Viewing.{policies_now}
 use Rattle.fx_sequencer.proofs.sequencer.SequencerViewSink.policy_put.Goals as goal
 
 pub returns-clause-ok : goal.returns-clause-ok
-returns-clause-ok c = policies_now c.self.inside.entries c.args.self.now c.self.view_is (λ m. map.insert m c.args.key c.args.policy) c.put.new.self c.in_ok-put.ensures.ok
+returns-clause-ok c = policies_now c.self.inside.entries c.self.view_is (λ m. map.insert m c.args.key c.args.policy) c.in_ok-put.ensures.ok

@@ -3,4 +3,4 @@ use Rattle.fx_sequencer.proofs.SetMaps.{first_taken_key}
 use Rattle.fx_sequencer.proofs.set_entries.SetEntries.first_taken.Goals as goal
 
 pub returns : goal.returns
-returns c = c.first_name.ensures ∙ first_taken_key c.self.inside.held c.self.inside.to_add c.self.inside.to_change c.self.inside.to_take c.self.invariant c.args.self.now c.self.view_is
+returns c = c.first_name.ensures ∙ first_taken_key c.self.invariant c.self.view_is

@@ -7,19 +7,19 @@ pub invariant_of-self : goal.invariant_of-self
 invariant_of-self c = subst (λ s. ArePendingSets c.self.inside.held c.self.inside.to_add s c.self.inside.to_take) (sym c.in_default.ensures.rest) c.self.invariant
 
 pub returns-in_default-clause-found : goal.returns-in_default-clause-found
-returns-in_default-clause-found c = ap is_some (none_changed c.self.inside.held c.self.inside.to_add c.self.inside.to_change c.self.inside.to_take c.self.invariant c.args.self.now c.self.view_is c.in_default.ensures.first)
+returns-in_default-clause-found c = ap is_some (none_changed c.self.invariant c.self.view_is c.in_default.ensures.first)
 
 pub returns-in_default-clause-sent : goal.returns-in_default-clause-sent
-returns-in_default-clause-sent c = c.self.view_is ∙ ap (λ o. record c.args.self.now { sent = taken_first o c.args.self.now.sent c.args.self.now.wanted }) (none_changed c.self.inside.held c.self.inside.to_add c.self.inside.to_change c.self.inside.to_take c.self.invariant c.args.self.now c.self.view_is c.in_default.ensures.first)
+returns-in_default-clause-sent c = c.self.view_is ∙ ap (λ o. record c.args.self.now { sent = taken_first o c.args.self.now.sent c.args.self.now.wanted }) (none_changed c.self.invariant c.self.view_is c.in_default.ensures.first)
 
 pub settle-requires : goal.settle-requires
-settle-requires c = ap is_some (changed_there c.self.inside.held c.self.inside.to_add c.self.inside.to_change c.self.inside.to_take c.self.invariant c.args.self.now c.self.view_is c.in-Some.name c.in-Some.ensures.first)
+settle-requires c = ap is_some (changed_there c.self.invariant c.self.view_is c.in-Some.name c.in-Some.ensures.first)
 
 pub invariant_of-self-2 : goal.invariant_of-self-2
-invariant_of-self-2 c = changed_kept c.self.inside.held c.self.inside.to_add c.self.inside.to_change c.self.inside.to_take c.self.invariant c.args.self.now c.self.view_is c.in-Some.name c.in-Some.ensures.first c.settle.new.held c.settle.ensures _ c.in-Some.ensures.rest
+invariant_of-self-2 c = changed_kept c.self.invariant c.self.view_is c.in-Some.name c.in-Some.ensures.first c.settle.ensures c.in-Some.ensures.rest
 
 pub returns-clause-found : goal.returns-clause-found
-returns-clause-found c = changed_found c.self.inside.held c.self.inside.to_add c.self.inside.to_change c.self.inside.to_take c.self.invariant c.args.self.now c.self.view_is c.in-Some.name c.in-Some.ensures.first
+returns-clause-found c = changed_found c.self.invariant c.self.view_is c.in-Some.name c.in-Some.ensures.first
 
 pub returns-clause-sent : goal.returns-clause-sent
-returns-clause-sent c = changed_maps c.self.inside.held c.self.inside.to_add c.self.inside.to_change c.self.inside.to_take c.self.invariant c.args.self.now c.self.view_is c.in-Some.name c.in-Some.ensures.first c.settle.new.held c.settle.ensures
+returns-clause-sent c = changed_maps c.self.invariant c.self.view_is c.in-Some.name c.in-Some.ensures.first c.settle.ensures

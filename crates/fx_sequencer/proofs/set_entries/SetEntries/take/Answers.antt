@@ -8,21 +8,21 @@ use Rattle.fx_sequencer.proofs.set_entries.SetEntries.take.Goals as goal
 
 pub invariant_of-self : goal.invariant_of-self
 invariant_of-self c =
-    unsent_set c.self.inside.held c.self.inside.to_add c.self.inside.to_change c.self.inside.to_take c.self.invariant c.args.name.now c.remove.new.self c.remove.ensures.removed
-    (absent_value _ (sym (c.was_sent.ensures ∙ ap (λ e. is_some (option_and_then sent_set e)) c.get.ensures) ∙ c.if-not-was_sent.true)) _ c.remove-then-not-was_sent.ensures.removed
+    unsent_set c.self.invariant c.args.name.now c.remove.ensures.removed
+    (absent_value _ (sym (c.was_sent.ensures ∙ ap (λ e. is_some (option_and_then sent_set e)) c.get.ensures) ∙ c.if-not-was_sent.true)) c.remove-then-not-was_sent.ensures.removed
 
 pub returns-then-not-was_sent-clause-ok : goal.returns-then-not-was_sent-clause-ok
 returns-then-not-was_sent-clause-ok c =
-    dropped_maps c.self.inside.held c.self.inside.to_add c.self.inside.to_change c.self.inside.to_take c.self.invariant c.args.self.now c.self.view_is c.args.name.now c.remove.new.self
+    dropped_maps c.self.invariant c.self.view_is c.args.name.now
     (absent_value _ (sym (c.was_sent.ensures ∙ ap (λ e. is_some (option_and_then sent_set e)) c.get.ensures) ∙ c.if-not-was_sent.true)) c.remove.ensures.removed
 
 pub turn_off-requires : goal.turn_off-requires
-turn_off-requires c = sym (wanted_as c.self.inside.held c.self.inside.to_add c.self.inside.to_change c.self.inside.to_take c.self.invariant c.args.self.now c.self.view_is c.args.name.now) ∙ c.requires
+turn_off-requires c = sym (wanted_as c.self.invariant c.self.view_is c.args.name.now) ∙ c.requires
 
 pub invariant_of-self-2 : goal.invariant_of-self-2
 invariant_of-self-2 c =
-    off_pending c.self.inside.held c.self.inside.to_add c.self.inside.to_change c.self.inside.to_take c.self.invariant c.args.name.now c.turn_off.new.held c.turn_off.ensures
-    (sym (c.was_sent.ensures ∙ ap (λ e. is_some (option_and_then sent_set e)) c.get.ensures) ∙ c.if-not-was_sent.false) _ _ c.remove-2.ensures.removed c.in_ok-insert.ensures.ok
+    off_pending c.self.invariant c.args.name.now c.turn_off.ensures
+    (sym (c.was_sent.ensures ∙ ap (λ e. is_some (option_and_then sent_set e)) c.get.ensures) ∙ c.if-not-was_sent.false) c.remove-2.ensures.removed c.in_ok-insert.ensures.ok
 
 pub returns-clause-ok : goal.returns-clause-ok
-returns-clause-ok c = off_maps c.self.inside.held c.self.inside.to_add c.self.inside.to_change c.self.inside.to_take c.self.invariant c.args.self.now c.self.view_is c.args.name.now c.turn_off.new.held c.turn_off.ensures
+returns-clause-ok c = off_maps c.self.invariant c.self.view_is c.args.name.now c.turn_off.ensures

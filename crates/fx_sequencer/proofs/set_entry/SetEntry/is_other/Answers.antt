@@ -3,10 +3,10 @@ use Rattle.fx_sequencer.proofs.OneSet.{unsent_other, unwanted_other, both_other}
 use Rattle.fx_sequencer.proofs.set_entry.SetEntry.is_other.Goals as goal
 
 pub returns-then-not-self : goal.returns-then-not-self
-returns-then-not-self c = unsent_other c.self.inside.sent c.self.inside.wanted c.self.inside.members c.self.inside.differing c.self.invariant c.args.self.now c.self.view_is c.if-not-self.true
+returns-then-not-self c = unsent_other c.self.invariant c.self.view_is c.if-not-self.true
 
 pub returns-then-not-self-2 : goal.returns-then-not-self-2
-returns-then-not-self-2 c = unwanted_other c.self.inside.sent c.self.inside.wanted c.self.inside.members c.self.inside.differing c.self.invariant c.args.self.now c.self.view_is c.if-not-self-2.true
+returns-then-not-self-2 c = unwanted_other c.self.invariant c.self.view_is c.if-not-self-2.true
 
 pub returns : goal.returns
-returns c = both_other c.self.inside.sent c.self.inside.wanted c.self.inside.members c.self.inside.differing c.self.invariant c.args.self.now c.self.view_is c.if-not-self.false c.if-not-self-2.false _ (c.is_some.ensures ∙ ap is_some c.first_member.ensures)
+returns c = both_other c.self.invariant c.self.view_is c.if-not-self.false c.if-not-self-2.false (c.is_some.ensures ∙ ap is_some c.first_member.ensures)

@@ -3,4 +3,4 @@ use Rattle.fx_sequencer.proofs.OneSet.{lent_members}
 use Rattle.fx_sequencer.proofs.set_entry.SetEntry.members.Goals as goal
 
 pub returns : goal.returns
-returns c = c.flagged.ensures ∙ lent_members c.self.inside.sent c.self.inside.wanted c.self.inside.members c.self.inside.differing c.self.invariant c.args.self.now c.self.view_is c.requires
+returns c = c.flagged.ensures ∙ lent_members c.self.invariant c.self.view_is c.requires

@@ -7,22 +7,22 @@ pub put_known-requires : goal.put_known-requires
 put_known-requires c = sym (c.is_some.ensures ∙ ap is_some c.get.ensures) ∙ c.if-is_some.true
 
 pub invariant_of-self : goal.invariant_of-self
-invariant_of-self c = known_flagged c.self.inside.sent c.self.inside.wanted c.self.inside.members c.self.inside.differing c.self.invariant c.args.self.now c.self.view_is c.args.member c.requires.there c.requires.absent (sym (c.is_some.ensures ∙ ap is_some c.get.ensures) ∙ c.if-is_some.true) c.put_known.new.members c.put_known.ensures.members _ c.put_known.ensures.differing
+invariant_of-self c = known_flagged c.self.invariant c.self.view_is c.args.member c.requires.there c.requires.absent (sym (c.is_some.ensures ∙ ap is_some c.get.ensures) ∙ c.if-is_some.true) c.put_known.ensures.members c.put_known.ensures.differing
 
 pub returns-then-is_some-clause-ok : goal.returns-then-is_some-clause-ok
-returns-then-is_some-clause-ok c = known_sides c.self.inside.sent c.self.inside.wanted c.self.inside.members c.self.inside.differing c.self.invariant c.args.self.now c.self.view_is c.args.member c.requires.there c.requires.absent (sym (c.is_some.ensures ∙ ap is_some c.get.ensures) ∙ c.if-is_some.true) c.put_known.new.members c.put_known.ensures.members
+returns-then-is_some-clause-ok c = known_sides c.self.invariant c.self.view_is c.args.member c.requires.there c.requires.absent (sym (c.is_some.ensures ∙ ap is_some c.get.ensures) ∙ c.if-is_some.true) c.put_known.ensures.members
 
 pub put_new-requires : goal.put_new-requires
-put_new-requires c = none_noted c.self.inside.sent c.self.inside.wanted c.self.inside.members c.self.inside.differing c.self.invariant c.args.self.now c.self.view_is c.args.member c.requires.there c.requires.absent (absent_value _ (sym (c.is_some.ensures ∙ ap is_some c.get.ensures) ∙ c.if-is_some.false)) c.self.inside.members
+put_new-requires c = none_noted c.self.invariant c.self.view_is c.args.member c.requires.there c.requires.absent (absent_value _ (sym (c.is_some.ensures ∙ ap is_some c.get.ensures) ∙ c.if-is_some.false))
 
 pub invariant_of-self-then-self : goal.invariant_of-self-then-self
-invariant_of-self-then-self c = new_flagged c.self.inside.sent c.self.inside.wanted c.self.inside.members c.self.inside.differing c.self.invariant c.args.self.now c.self.view_is c.args.member c.requires.there c.requires.absent (absent_value _ (sym (c.is_some.ensures ∙ ap is_some c.get.ensures) ∙ c.if-is_some.false)) c.put_new.new.members c.if-self.true c.in_ok-put_new.ensures.members _ c.in_ok-put_new.ensures.differing
+invariant_of-self-then-self c = new_flagged c.self.invariant c.self.view_is c.args.member c.requires.there c.requires.absent (absent_value _ (sym (c.is_some.ensures ∙ ap is_some c.get.ensures) ∙ c.if-is_some.false)) c.if-self.true c.in_ok-put_new.ensures.members c.in_ok-put_new.ensures.differing
 
 pub returns-then-self-clause-ok : goal.returns-then-self-clause-ok
-returns-then-self-clause-ok c = new_sides c.self.inside.sent c.self.inside.wanted c.self.inside.members c.self.inside.differing c.self.invariant c.args.self.now c.self.view_is c.args.member c.requires.there c.requires.absent (absent_value _ (sym (c.is_some.ensures ∙ ap is_some c.get.ensures) ∙ c.if-is_some.false)) c.put_new.new.members c.in_ok-put_new.ensures.members
+returns-then-self-clause-ok c = new_sides c.self.invariant c.self.view_is c.args.member c.requires.there c.requires.absent (absent_value _ (sym (c.is_some.ensures ∙ ap is_some c.get.ensures) ∙ c.if-is_some.false)) c.in_ok-put_new.ensures.members
 
 pub invariant_of-self-2 : goal.invariant_of-self-2
-invariant_of-self-2 c = first_flagged c.self.inside.sent c.self.inside.wanted c.self.inside.members c.self.inside.differing c.self.invariant c.args.self.now c.self.view_is c.args.member c.requires.there c.requires.absent (absent_value _ (sym (c.is_some.ensures ∙ ap is_some c.get.ensures) ∙ c.if-is_some.false)) c.insert.new.self c.if-self.false c.in_ok-insert.ensures.ok
+invariant_of-self-2 c = first_flagged c.self.invariant c.self.view_is c.args.member c.requires.there c.requires.absent (absent_value _ (sym (c.is_some.ensures ∙ ap is_some c.get.ensures) ∙ c.if-is_some.false)) c.if-self.false c.in_ok-insert.ensures.ok
 
 pub returns-clause-ok : goal.returns-clause-ok
-returns-clause-ok c = first_sides c.self.inside.sent c.self.inside.wanted c.self.inside.members c.self.inside.differing c.self.invariant c.args.self.now c.self.view_is c.args.member c.requires.there c.requires.absent (absent_value _ (sym (c.is_some.ensures ∙ ap is_some c.get.ensures) ∙ c.if-is_some.false)) c.insert.new.self c.if-self.false c.in_ok-insert.ensures.ok
+returns-clause-ok c = first_sides c.self.invariant c.self.view_is c.args.member c.requires.there c.requires.absent (absent_value _ (sym (c.is_some.ensures ∙ ap is_some c.get.ensures) ∙ c.if-is_some.false)) c.if-self.false c.in_ok-insert.ensures.ok

@@ -8,7 +8,7 @@ pub settle-requires-clause-differ : goal.settle-requires-clause-differ
 settle-requires-clause-differ c = c.self.invariant.differ
 
 pub invariant_of-self : goal.invariant_of-self
-invariant_of-self c = settled_flagged c.self.inside.sent c.self.inside.wanted c.self.inside.members c.self.inside.differing c.self.invariant c.args.self.now c.self.view_is c.requires c.settle.new.members c.settle.new.differing c.settle.ensures.held c.settle.ensures.same c.settle.ensures.none c.settle.ensures.wanted
+invariant_of-self c = settled_flagged c.self.invariant c.self.view_is c.requires c.settle.new.members c.settle.new.differing c.settle.ensures.held c.settle.ensures.same c.settle.ensures.none c.settle.ensures.wanted
 
 pub returns : goal.returns
-returns c = settled_sides c.self.inside.sent c.self.inside.wanted c.self.inside.members c.self.inside.differing c.self.invariant c.args.self.now c.self.view_is c.requires c.settle.new.members c.settle.new.differing c.settle.ensures.held c.settle.ensures.same c.settle.ensures.none c.settle.ensures.wanted
+returns c = settled_sides c.self.invariant c.self.view_is c.requires c.settle.new.members c.settle.new.differing c.settle.ensures.held c.settle.ensures.same c.settle.ensures.none c.settle.ensures.wanted

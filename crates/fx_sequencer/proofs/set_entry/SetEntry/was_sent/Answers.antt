@@ -2,4 +2,4 @@ use Rattle.fx_sequencer.proofs.OneSet.{sent_flag}
 use Rattle.fx_sequencer.proofs.set_entry.SetEntry.was_sent.Goals as goal
 
 pub returns : goal.returns
-returns c = sent_flag c.self.inside.sent c.self.inside.wanted c.self.inside.members c.self.inside.differing c.self.invariant c.args.self.now c.self.view_is
+returns c = sent_flag c.self.invariant c.self.view_is

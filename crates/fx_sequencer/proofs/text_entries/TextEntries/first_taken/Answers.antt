@@ -3,4 +3,4 @@ use Rattle.fx_sequencer.proofs.EntryMaps.{first_taken_key}
 use Rattle.fx_sequencer.proofs.text_entries.TextEntries.first_taken.Goals as goal
 
 pub returns : goal.returns
-returns g c = c.first.ensures ∙ first_taken_key g.V.PartialEq.eq c.self.inside.held c.self.inside.to_put c.self.inside.to_take c.self.invariant c.args.self.now c.self.view_is
+returns g c = c.first.ensures ∙ first_taken_key c.self.invariant c.self.view_is

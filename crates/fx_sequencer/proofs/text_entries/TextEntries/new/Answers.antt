@@ -3,7 +3,7 @@ use Rattle.fx_sequencer.proofs.Keeping.{none_pending}
 use Rattle.fx_sequencer.proofs.text_entries.TextEntries.new.Goals as goal
 
 pub invariant_of-result : goal.invariant_of-result
-invariant_of-result g c = none_pending g.V.PartialEq.eq _ _ _ c.new.ensures c.new-2.ensures c.new-3.ensures
+invariant_of-result g c = none_pending g.V.PartialEq.eq c.new.ensures c.new-2.ensures c.new-3.ensures
 
 pub returns : goal.returns
-returns g c = no_maps _ c.new.ensures
+returns g c = no_maps c.new.ensures
