@@ -1,4 +1,5 @@
-//! The tests of `fx_graph`: after each update of a stored list the next message is the one towards the view of the resources, computed whole.
+//! The tests of `fx_graph`: after each update of a stored list the next message is the one towards the view of the
+//! resources, computed whole.
 #![tactic(auto)]
 
 #[cfg(test)]

@@ -15,7 +15,8 @@ use std::test::Fail;
 /// No more messages than this are left at the end of a list.
 const MOST_LEFT: u8 = 100;
 
-// After each line, and after each message, the next message is the first from the view that was told towards that of the resources.
+// After each line, and after each message, the next message is the first from the view that was told towards that of
+// the resources.
 fn follow(
     rt: &impl Abort,
     alloc: Global,

@@ -77,7 +77,8 @@ impl Entries {
     pub fn send_put(&mut self) -> bool
         ensures found { result ≡ is_some (next_put (sent_view self.old) (wanted_view self.old)) }
         ensures sent { sent_view self.new
-            ≡ step_by (next_put (sent_view self.old) (wanted_view self.old)) (sent_view self.old) (wanted_view self.old) }
+            ≡ step_by (next_put (sent_view self.old) (wanted_view self.old)) (sent_view self.old)
+            (wanted_view self.old) }
         ensures wanted { wanted_view self.new ≡ wanted_view self.old }
     {
         if self.sets.send_added() {
@@ -98,7 +99,8 @@ impl Entries {
     /// Marks what is told first of what is gone as sent, if there is something.
     pub fn send_gone(&mut self)
         ensures sent { sent_view self.new
-            ≡ step_by (next_gone (sent_view self.old) (wanted_view self.old)) (sent_view self.old) (wanted_view self.old) }
+            ≡ step_by (next_gone (sent_view self.old) (wanted_view self.old)) (sent_view self.old)
+            (wanted_view self.old) }
         ensures wanted { wanted_view self.new ≡ wanted_view self.old }
     {
         if self.endpoints.send_taken() {

@@ -88,8 +88,8 @@ pub fn settle(members: &mut MemberFlags, differing: &mut MemberSet)
 }
 
 fn settle_one(members: &mut MemberFlags, member: Member)
-    ensures { (m : Member) → map.get members.new m
-        ≡ cond (eq_by_cmp member_cmp.cmp-value.it m member) (told (map.get members.old member)) (map.get members.old m) }
+    ensures { (m : Member) → map.get members.new m ≡ cond (eq_by_cmp member_cmp.cmp-value.it m member)
+        (told (map.get members.old member)) (map.get members.old m) }
 {
     if is_wanted(members, member) {
         let mut flags = Flags {

@@ -1,12 +1,12 @@
 //! Felix's event sequencer.
 //!
-//! - **Takes** what the nodes tell of the view: policies, profiles and endpoints as a `ViewSink`, sets and their members as a
-//!   `SetSink`. These calls change the view that is wanted now, and no other.
-//! - **Gives** the next message from the view that was sent towards that one, by `next_message`. `sent` marks it as sent. So of
-//!   what comes and goes between two messages only the difference is told.
-//! - **Holds** of each key one entry with both sides, which is one value where they are equal, and the keys that are pending, in
-//!   order for each kind of message. So the next message is the first key of the first kind that has one, and `sent` costs what
-//!   that message tells.
+//! - **Takes** what the nodes tell of the view: policies, profiles and endpoints as a `ViewSink`, sets and their members
+//!   as a `SetSink`. These calls change the view that is wanted now, and no other.
+//! - **Gives** the next message from the view that was sent towards that one, by `next_message`. `sent` marks it as
+//!   sent. So of what comes and goes between two messages only the difference is told.
+//! - **Holds** of each key one entry with both sides, which is one value where they are equal, and the keys that are
+//!   pending, in order for each kind of message. So the next message is the first key of the first kind that has one,
+//!   and `sent` costs what that message tells.
 ghost use Rattle.std.specs.Prelude.{◌≡◌, ◌↔◌, OnOk, OnErr, IsSome, IsNone, Some, true, false, option_map};
 ghost use Rattle.std.specs.FinMap as map;
 ghost use Rattle.fx_base.specs.Set as set;

@@ -150,7 +150,8 @@ impl SetEntries {
         requires there { IsSome (map.get self.old.wanted name.now) }
         requires absent { set.contains (members_of (map.get self.old.wanted name.now)) member ≡ false }
         ensures ok { OnOk result (self.new ≡ record self.old {
-          wanted = map.insert self.old.wanted name.now (set.insert (members_of (map.get self.old.wanted name.now)) member);
+          wanted = map.insert self.old.wanted name.now
+              (set.insert (members_of (map.get self.old.wanted name.now)) member);
         }) }
         ensures err { OnErr result (self.new ≡ self.old) }
     {
@@ -167,7 +168,8 @@ impl SetEntries {
         requires there { IsSome (map.get self.old.wanted name.now) }
         requires member { set.contains (members_of (map.get self.old.wanted name.now)) member ≡ true }
         ensures ok { OnOk result (self.new ≡ record self.old {
-          wanted = map.insert self.old.wanted name.now (set.remove (members_of (map.get self.old.wanted name.now)) member);
+          wanted = map.insert self.old.wanted name.now
+              (set.remove (members_of (map.get self.old.wanted name.now)) member);
         }) }
         ensures err { OnErr result (self.new ≡ self.old) }
     {

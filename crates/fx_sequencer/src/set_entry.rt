@@ -10,8 +10,8 @@ use fx_model::{Flags, Member, MemberFlags, MemberList, MemberSet};
 use std::alloc::Global;
 use std::marker::Model;
 
-/// A set as the dataplane was told of it, and as it is wanted. While it was not sent, its members count as sent, so that one
-/// flag says that it is. Want of memory leaves both sides as they were.
+/// A set as the dataplane was told of it, and as it is wanted. While it was not sent, its members count as sent, so
+/// that one flag says that it is. Want of memory leaves both sides as they were.
 #[derive(Drop)]
 pub struct SetEntry {
     sent: bool,
@@ -33,7 +33,10 @@ impl Model for SetEntry {
 
     ghost coded = { two_sides_code (coded_option (set.code member.the_row.coded)) };
 
-    ghost view = { λ a. record { sent = side a.sent (sent_members a.members); wanted = side a.wanted (wanted_members a.members) } };
+    ghost view = { λ a. record {
+      sent = side a.sent (sent_members a.members);
+      wanted = side a.wanted (wanted_members a.members);
+    } };
 
     ghost invariant = { λ a. AreFlagged a.sent a.wanted a.members a.differing };
 }

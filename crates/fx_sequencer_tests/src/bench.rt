@@ -1,4 +1,5 @@
-//! A sequencer with the view that is wanted of it and the one that its messages have made, and the names of what comes and goes.
+//! A sequencer with the view that is wanted of it and the one that its messages have made, and the names of what comes
+//! and goes.
 ghost use Rattle.std.specs.Prelude.{◌≡◌, IfOk, OnOk};
 
 use crate::folding::fold;
@@ -110,8 +111,8 @@ impl Bench {
         )
     }
 
-    /// Sends the next message. The answer is what it tells of, or none where the view that the messages have made isn't the one that
-    /// the two views call for.
+    /// Sends the next message. The answer is what it tells of, or none where the view that the messages have made isn't
+    /// the one that the two views call for.
     pub fn send(&mut self) -> Result<Option<&'static str>, Memory>
         requires { self.old.sequencer.wanted ≡ self.old.wanted }
         ensures { OnOk result (self.new.sequencer.wanted ≡ self.new.wanted) }

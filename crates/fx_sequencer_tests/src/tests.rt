@@ -1,5 +1,5 @@
-//! In which order messages come, by Felix's documented event sequencer: what is named comes before what names it, and goes after
-//! it. Of what goes and comes back nothing is told.
+//! In which order messages come, by Felix's documented event sequencer: what is named comes before what names it, and
+//! goes after it. Of what goes and comes back nothing is told.
 ghost use Rattle.std.specs.Prelude.{◌≡◌, OnOk};
 
 use crate::bench::{Bench, Step};
