@@ -9,3 +9,9 @@ pub mod Deletable
 pub mod Planned
 pub mod Once
 pub mod Exact
+pub mod EntryParts
+pub mod Beginnings
+pub mod Regrouped
+pub mod OneBranch
+pub mod LaidLemmas
+pub mod Promised

@@ -1,4 +1,4 @@
--- What is promised of a plan, from what is written and deleted; and of an empty plan.
+-- A name that is there, put once more, and one that isn't, removed.
 use Rattle.std.specs.declared.cmp.Ordering.TheVariants.{Less, Equal, Greater}
 use Rattle.fx_laws.proofs.EntryLookups.{is}
 use Rattle.std.proofs.Common.{◌≡◌, true, false, cond, List, ℕ, Option, Some, None, is_some, refl, sym, ap, ◌∙◌}
@@ -8,25 +8,7 @@ use Rattle.std.specs.FinMap as maps
 use Rattle.fx_base.specs.Set as set
 use Rattle.fx_base.proofs.AtKey.{insert_same_bytes, get_remove, same_by_get}
 use Rattle.fx_base.proofs.KeyCases.{bytes_exact}
-use Rattle.fx_model.specs.Tables.{ChainName}
-use Rattle.fx_dispatch.specs.declared.way.Way.{Way}
-use Rattle.fx_model.specs.Tree.{Branch, shared_prefix, branches}
-use Rattle.fx_dispatch.specs.Ways.{root_ways}
-use Rattle.fx_dispatch.specs.Differences.{all_writes, all_deletes}
-use Rattle.fx_dispatch.specs.Plans.{Names, Writes}
-use Rattle.fx_dispatch.proofs.Written.{writes_between, deletes_between}
-
--- the trees that were compared are those of these interfaces
-pub are_writes : (old new : Names) (ob nb : List Branch) (or nr : List Way) (writes : Writes) →
-    ob ≡ branches (shared_prefix (set.items old)) (set.items old) → nb ≡ branches (shared_prefix (set.items new)) (set.items new) →
-    or ≡ root_ways (set.items old) → nr ≡ root_ways (set.items new) → writes ≡ all_writes ob nb or nr →
-    writes_between (set.items old) (set.items new) ≡ writes
-are_writes old new ob nb or nr writes a b c d e = sym (e ∙ (λ i. all_writes (a i) (b i) (c i) (d i)))
-
-pub are_deletes : (old new : Names) (ob nb : List Branch) (deletes : List ChainName) →
-    ob ≡ branches (shared_prefix (set.items old)) (set.items old) → nb ≡ branches (shared_prefix (set.items new)) (set.items new) →
-    deletes ≡ all_deletes ob nb → deletes_between (set.items old) (set.items new) ≡ deletes
-are_deletes old new ob nb deletes a b e = sym (e ∙ (λ i. all_deletes (a i) (b i)))
+use Rattle.fx_dispatch.specs.Plans.{Names}
 
 -- an item that is there changes nothing
 pub insert_there : (s : Names) (k : List ℕ) → true ≡ set.contains s k → s ≡ set.insert s k

@@ -52,3 +52,20 @@ all_writes old new old_root new_root = writes_towards Ingress old new old_root n
 
 abbrev pub all_deletes : List Branch → List Branch → List ChainName
 all_deletes old new = deletes_towards Ingress old new ++ deletes_towards Egress old new
+
+-- ---- where the names of one byte alone are others
+
+-- what is written for one direction: the byte's chain, and the root behind it
+abbrev pub writes_at : Direction → List Branch → List ℕ → List (List ℕ) → List Way → List Way → List (ChainName × List ChainRule)
+writes_at d old byte names old_root new_root = child_write d old (byte, names) ++ root_write d old_root new_root
+
+-- the byte's chain is there no more
+abbrev pub delete_at : Direction → List Branch → List ℕ → List (List ℕ) → List ChainName
+delete_at d old byte names = if has_chain old byte && not (has_child byte names) then child_chain d byte ∷ [] else []
+
+-- all of it, in both directions
+abbrev pub all_writes_at : List Branch → List ℕ → List (List ℕ) → List Way → List Way → List (ChainName × List ChainRule)
+all_writes_at old byte names old_root new_root = writes_at Ingress old byte names old_root new_root ++ writes_at Egress old byte names old_root new_root
+
+abbrev pub all_deletes_at : List Branch → List ℕ → List (List ℕ) → List ChainName
+all_deletes_at old byte names = delete_at Ingress old byte names ++ delete_at Egress old byte names

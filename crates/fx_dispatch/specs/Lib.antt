@@ -3,3 +3,5 @@ pub mod Ways
 pub mod Differences
 pub mod Narrowing
 pub mod Plans
+pub mod Beside
+pub mod Laid

@@ -1,8 +1,9 @@
 //! The names of interfaces by the byte that follows what they share.
-ghost use Rattle.std.specs.Prelude.{◌≡◌, ◌++◌, [], ◌∷◌, IfOk, OnOk};
+ghost use Rattle.std.specs.Prelude.{◌≡◌, ◌++◌, [], ◌∷◌, IfOk, OnOk, None, nat_lt};
 ghost use Rattle.std.specs.FinMap as map;
 ghost use Rattle.fx_base.specs.Set as set;
 ghost use Rattle.fx_model.specs.Tree.{branches, has_child, names_found};
+ghost use Rattle.fx_dispatch.specs.Beside.{too_few, with_branch};
 
 use crate::interfaces::{Interface, Interfaces};
 use crate::shared::next_byte;
@@ -58,4 +59,40 @@ pub fn branches_of(
         add_name(alloc, &next_byte(shared, name), name, &mut branches)?;
     }
     Ok(branches)
+}
+
+/// The names in which this byte follows.
+pub fn names_at<'a>(branches: &'a Branches, byte: &NextByte) -> &'a [Interface]
+    ensures { result.now ≡ names_found (map.get branches.now byte.now) }
+{
+    match branches.get(byte) {
+        Some(names) => names.as_slice(),
+        None => &[],
+    }
+}
+
+fn too_few(names: &Seq<Interface>) -> usize
+    ensures { result ≡ too_few names.now }
+{
+    if names.as_slice().is_empty() { 2 } else { 1 }
+}
+
+/// Whether two branches or more are left where one of them has these names.
+pub fn are_parted(branches: &Branches, names: &Seq<Interface>) -> bool
+    ensures { result ≡ nat_lt (too_few names.now) (map.len branches.now) }
+{
+    too_few(names) < branches.len()
+}
+
+/// Gives a byte that is there these names, and takes it away where there are none. Takes no memory.
+pub fn replace_names(branches: &mut Branches, byte: &NextByte, names: Seq<Interface>)
+    requires { map.get branches.old byte.now ≡ None → names ≡ [] }
+    ensures { branches.new ≡ with_branch byte.now names branches.old }
+{
+    let mut names = names;
+    if names.as_slice().is_empty() {
+        branches.remove(byte);
+    } else {
+        branches.swap(byte, &mut names);
+    }
 }

@@ -5,19 +5,19 @@ ghost use Rattle.fx_model.specs.Tree.{dispatch_chains_of};
 ghost use Rattle.fx_dispatch.specs.Plans.{Replaces, ChangesOnly, IsExact, AreWritable, AreDeletable};
 
 use crate::interfaces::{Interface, Interfaces};
+use crate::laid::Laid;
 use crate::names::root_chain_name;
 use crate::plan::{Plan, Writes};
 use crate::rules::way_rules;
-use crate::tree::Tree;
 use fx_base::{Memory, Seq, Text};
 use std::alloc::Global;
 use std::marker::Model;
 
-/// The local interfaces, seen as the set of their names.
+/// The local interfaces, seen as the set of their names. Their tree is held beside them, so that a plan costs what changes.
 #[derive(Drop)]
 pub struct Dispatch {
     alloc: Global,
-    names: Interfaces,
+    laid: Laid,
 }
 
 impl Model for Dispatch {
@@ -25,12 +25,15 @@ impl Model for Dispatch {
     ghost use Rattle.std.specs.Cmp.Lexicographic.{slice_cmp};
     ghost use Rattle.std.specs.Coded.{coded_ℕ, coded_list};
     ghost use Rattle.fx_base.specs.Set as set;
+    ghost use Rattle.fx_dispatch.specs.Laid.{IsLaid};
 
     ghost Value = { set.Set (slice_cmp nat_cmp) };
 
     ghost coded = { set.code (coded_list coded_ℕ) };
 
-    ghost view = { λ d. d.names };
+    ghost view = { λ d. d.laid.names };
+
+    ghost invariant = { λ d. IsLaid d.laid };
 }
 
 /// The dispatch chains of a node without interfaces.
@@ -42,20 +45,6 @@ pub fn first_chains(alloc: Global) -> Result<Writes, Memory>
     chains.push((root_chain_name(true), way_rules(alloc, true, &none)?))?;
     chains.push((root_chain_name(false), way_rules(alloc, false, &none)?))?;
     Ok(chains)
-}
-
-// What takes the chains of these interfaces to those of others.
-fn plan_between(alloc: Global, old: &Interfaces, new: &Interfaces) -> Result<Plan, Memory>
-    ensures written { IfOk result (λ plan. Replaces old.now new.now plan.writes plan.deletes) }
-    ensures changed { IfOk result (λ plan. ChangesOnly old.now new.now plan.writes plan.deletes) }
-    ensures exact { IfOk result (λ plan. IsExact old.now new.now plan.writes plan.deletes) }
-    ensures writable { IfOk result (λ plan. AreWritable old.now new.now plan.writes) }
-    ensures deletable { IfOk result (λ plan. AreDeletable old.now plan.writes plan.deletes) }
-{
-    let before = Tree::new(alloc, old)?;
-    let after = Tree::new(alloc, new)?;
-    let plan = Plan::between(alloc, &before, &after)?;
-    Ok(plan)
 }
 
 // Nothing to do where nothing changes.
@@ -76,7 +65,7 @@ impl Dispatch {
     {
         Dispatch {
             alloc,
-            names: Interfaces::new(alloc),
+            laid: Laid::new(alloc),
         }
     }
 
@@ -92,13 +81,10 @@ impl Dispatch {
         ensures deletable { IfOk result (λ plan. AreDeletable self.old plan.writes plan.deletes) }
     {
         let name = Interface::join(b"", iface.bytes());
-        if self.names.contains(&name) {
-            return Ok(no_plan(self.alloc, &self.names));
+        if self.laid.names.contains(&name) {
+            return Ok(no_plan(self.alloc, &self.laid.names));
         }
-        let mut names = self.names.clone()?;
-        names.insert(name)?;
-        let plan = plan_between(self.alloc, &self.names, &names)?;
-        self.names = names;
+        let plan = self.laid.add(self.alloc, name)?;
         Ok(plan)
     }
 
@@ -114,13 +100,10 @@ impl Dispatch {
         ensures deletable { IfOk result (λ plan. AreDeletable self.old plan.writes plan.deletes) }
     {
         let name = Interface::join(b"", iface.bytes());
-        if !self.names.contains(&name) {
-            return Ok(no_plan(self.alloc, &self.names));
+        if !self.laid.names.contains(&name) {
+            return Ok(no_plan(self.alloc, &self.laid.names));
         }
-        let mut names = self.names.clone()?;
-        names.remove(&name);
-        let plan = plan_between(self.alloc, &self.names, &names)?;
-        self.names = names;
+        let plan = self.laid.take(self.alloc, &name)?;
         Ok(plan)
     }
 }

@@ -6,9 +6,11 @@ pub use names::{child_chain_name, root_chain_name};
 pub use plan::{Plan, Writes};
 pub use way::NextByte;
 
+mod beside;
 mod branches;
 mod dispatch;
 mod interfaces;
+mod laid;
 mod names;
 mod plan;
 mod rules;

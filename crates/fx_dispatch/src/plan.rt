@@ -5,6 +5,7 @@ ghost use Rattle.std.specs.FinMap as maps;
 ghost use Rattle.fx_rules.specs.Rules.{direction_of};
 ghost use Rattle.fx_dispatch.specs.Differences.{stands, child_write, root_write, has_chain, child_delete};
 ghost use Rattle.fx_dispatch.specs.Differences.{writes_towards, deletes_towards, all_writes, all_deletes};
+ghost use Rattle.fx_dispatch.specs.Differences.{writes_at, delete_at, all_writes_at, all_deletes_at};
 
 use crate::branches::{Branches, has_child};
 use crate::interfaces::Interface;
@@ -143,6 +144,38 @@ fn push_deletes(
     Ok(())
 }
 
+fn push_writes_at(
+    alloc: Global,
+    ingress: bool,
+    old: &Tree,
+    byte: &NextByte,
+    names: &Seq<Interface>,
+    root: &Seq<Way>,
+    writes: &mut Writes,
+) -> Result<(), Memory>
+    ensures { OnOk result (writes.new ≡ writes.old ++ writes_at (direction_of ingress)
+        (maps.entries old.now.branches) byte.now names.now old.now.root root.now) }
+{
+    push_child(alloc, ingress, &old.branches, byte, names, writes)?;
+    push_root(alloc, ingress, &old.root, root, writes)
+}
+
+fn push_delete_at(
+    ingress: bool,
+    old: &Branches,
+    byte: &NextByte,
+    names: &Seq<Interface>,
+    deletes: &mut Seq<ChainName>,
+) -> Result<(), Memory>
+    ensures { OnOk result (deletes.new ≡ deletes.old
+        ++ delete_at (direction_of ingress) (maps.entries old.now) byte.now names.now) }
+{
+    if has_chain(old, byte) && !has_child(byte, names) {
+        deletes.push(child_chain_name(ingress, byte))?;
+    }
+    Ok(())
+}
+
 impl Plan {
     /// Nothing to do.
     pub fn empty(alloc: Global) -> Plan
@@ -166,6 +199,27 @@ impl Plan {
         push_writes(alloc, false, old, new, &mut plan.writes)?;
         push_deletes(true, &old.branches, &new.branches, &mut plan.deletes)?;
         push_deletes(false, &old.branches, &new.branches, &mut plan.deletes)?;
+        Ok(plan)
+    }
+
+    /// What gives one byte of a tree these names, and its root these ways.
+    pub fn at(
+        alloc: Global,
+        old: &Tree,
+        byte: &NextByte,
+        names: &Seq<Interface>,
+        root: &Seq<Way>,
+    ) -> Result<Plan, Memory>
+        ensures writes { IfOk result (λ plan. plan.writes ≡ all_writes_at
+            (maps.entries old.now.branches) byte.now names.now old.now.root root.now) }
+        ensures deletes { IfOk result (λ plan. plan.deletes ≡ all_deletes_at
+            (maps.entries old.now.branches) byte.now names.now) }
+    {
+        let mut plan = Plan::empty(alloc);
+        push_writes_at(alloc, true, old, byte, names, root, &mut plan.writes)?;
+        push_writes_at(alloc, false, old, byte, names, root, &mut plan.writes)?;
+        push_delete_at(true, &old.branches, byte, names, &mut plan.deletes)?;
+        push_delete_at(false, &old.branches, byte, names, &mut plan.deletes)?;
         Ok(plan)
     }
 }

@@ -2,6 +2,7 @@
 ghost use Rattle.std.specs.Prelude.{◌≡◌, ◌≤◌, take, length};
 ghost use Rattle.fx_base.specs.Set as set;
 ghost use Rattle.fx_model.specs.Tree.{common_prefix, shared_prefix, next_byte};
+ghost use Rattle.fx_dispatch.specs.Beside.{begins};
 ghost use Rattle.fx_dispatch.specs.Narrowing.{narrowed};
 
 use crate::interfaces::{Interface, Interfaces};
@@ -44,6 +45,13 @@ pub fn shared_prefix(names: &Interfaces) -> Interface
         Some(shared) => shared,
         None => Interface::join(b"", b""),
     }
+}
+
+/// Whether a name begins so.
+pub fn begins(name: &Interface, shared: &Interface) -> bool
+    ensures { result ≡ begins name.now shared.now }
+{
+    narrow(Some(*shared), name) == *shared
 }
 
 /// The byte that follows in a name, or nothing.

@@ -1,6 +1,10 @@
-use Rattle.std.proofs.Common.{subst}
+use Rattle.std.proofs.Common.{List, ℕ, ap, sym, subst, ◌∙◌}
+use Rattle.fx_base.specs.Set as set
+use Rattle.fx_dispatch.specs.declared.laid.Laid.{Laid}
+use Rattle.fx_dispatch.specs.Laid.{IsLaid, IsPlan}
 use Rattle.fx_dispatch.specs.Plans.{Names, AreWritable}
 use Rattle.fx_dispatch.proofs.Planned.{insert_there}
+use Rattle.fx_dispatch.proofs.Promised.{promised_replaces, promised_changes, promised_exact, promised_writable, promised_deletable}
 use Rattle.fx_dispatch.proofs.dispatch.Dispatch.put.Goals as goal
 
 pub returns-then-contains-clause-interfaces : goal.returns-then-contains-clause-interfaces
@@ -8,3 +12,36 @@ returns-then-contains-clause-interfaces c = insert_there c.args.self.now c.args.
 
 pub returns-then-contains-clause-writable : goal.returns-then-contains-clause-writable
 returns-then-contains-clause-writable c = subst (λ (s : Names). AreWritable s s c.no_plan.result.writes) c.self.view_is c.no_plan.ensures.writable
+
+-- where there is no memory, names and tree are as they were
+pub invariant_of-self-in_err-plan : goal.invariant_of-self-in_err-plan
+invariant_of-self-in_err-plan c = subst (λ (l : Laid). IsLaid l) (sym c.in_err-plan.ensures.err) c.self.invariant
+
+pub returns-in_err-plan-clause-err : goal.returns-in_err-plan-clause-err
+returns-in_err-plan-clause-err c = ap (λ (l : Laid). l.names) c.in_err-plan.ensures.err ∙ c.self.view_is
+
+-- the plan has all that differs, and so keeps each promise
+pub returns-clause-written : goal.returns-clause-written
+returns-clause-written c =
+    promised_replaces c.args.self.now c.add.new.self.names c.in_ok-plan.plan
+    (subst (λ (s : Names). IsPlan (set.items s) (set.items c.add.new.self.names) c.in_ok-plan.plan) c.self.view_is c.in_ok-plan.ensures.planned)
+
+pub returns-clause-changed : goal.returns-clause-changed
+returns-clause-changed c =
+    promised_changes c.args.self.now c.add.new.self.names c.in_ok-plan.plan
+    (subst (λ (s : Names). IsPlan (set.items s) (set.items c.add.new.self.names) c.in_ok-plan.plan) c.self.view_is c.in_ok-plan.ensures.planned)
+
+pub returns-clause-exact : goal.returns-clause-exact
+returns-clause-exact c =
+    promised_exact c.args.self.now c.add.new.self.names c.in_ok-plan.plan
+    (subst (λ (s : Names). IsPlan (set.items s) (set.items c.add.new.self.names) c.in_ok-plan.plan) c.self.view_is c.in_ok-plan.ensures.planned)
+
+pub returns-clause-writable : goal.returns-clause-writable
+returns-clause-writable c =
+    promised_writable c.args.self.now c.add.new.self.names c.in_ok-plan.plan
+    (subst (λ (s : Names). IsPlan (set.items s) (set.items c.add.new.self.names) c.in_ok-plan.plan) c.self.view_is c.in_ok-plan.ensures.planned)
+
+pub returns-clause-deletable : goal.returns-clause-deletable
+returns-clause-deletable c =
+    promised_deletable c.args.self.now c.add.new.self.names c.in_ok-plan.plan
+    (subst (λ (s : Names). IsPlan (set.items s) (set.items c.add.new.self.names) c.in_ok-plan.plan) c.self.view_is c.in_ok-plan.ensures.planned)

@@ -1,0 +1,22 @@
+use Rattle.std.proofs.Common.{sym, subst, refl}
+use Rattle.fx_base.specs.Set as set
+use Rattle.fx_dispatch.specs.declared.tree.Tree.{Tree}
+use Rattle.fx_dispatch.specs.Laid.{IsTreeOf, IsPlan}
+use Rattle.fx_dispatch.specs.Plans.{Names}
+use Rattle.fx_dispatch.proofs.LaidLemmas.{plan_with, tree_with}
+use Rattle.fx_dispatch.proofs.laid.Laid.take_at.Goals as goal
+
+pub returns-clause-laid : goal.returns-clause-laid
+returns-clause-laid c =
+    let s = c.args.self.now in
+    let now : Tree = record s.tree { root = c.in_ok-root.root; branches = c.replace_names.new.branches } in
+    subst (λ (n : Names). IsTreeOf now (set.items n)) (sym c.remove.ensures)
+    (tree_with s.tree (set.items s.names) (set.items (set.remove s.names c.args.name.now)) c.args.byte.now c.args.branch c.requires.kept c.requires.regrouped
+    now refl c.in_ok-root.ensures c.replace_names.ensures)
+
+pub returns-clause-planned : goal.returns-clause-planned
+returns-clause-planned c =
+    let s = c.args.self.now in
+    subst (λ (n : Names). IsPlan (set.items s.names) (set.items n) c.in_ok-plan.plan) (sym c.remove.ensures)
+    (plan_with s.tree (set.items s.names) (set.items (set.remove s.names c.args.name.now)) c.args.byte.now c.args.branch c.requires.kept c.requires.regrouped
+    c.in_ok-plan.plan c.in_ok-root.root c.in_ok-root.ensures c.in_ok-plan.ensures.writes c.in_ok-plan.ensures.deletes)
