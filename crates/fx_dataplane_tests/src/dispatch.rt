@@ -8,6 +8,8 @@ use std::collections::BTreeMap;
 use std::process::Abort;
 use std::test::Fail;
 
+mod mixed;
+mod model;
 mod sequences;
 mod trees;
 
