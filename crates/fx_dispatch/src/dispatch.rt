@@ -13,7 +13,7 @@ use fx_base::{Memory, Seq, Text};
 use std::alloc::Global;
 use std::marker::Model;
 
-/// The local interfaces, seen as the set of their names. Their tree is held beside them, so that a plan costs what changes.
+/// The local interfaces, seen as the set of their names. Their tree is held too, so that a plan costs what changes.
 #[derive(Drop)]
 pub struct Dispatch {
     alloc: Global,
