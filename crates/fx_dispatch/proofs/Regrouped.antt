@@ -1,5 +1,5 @@
 -- The branches of names of which one came or went, where what all share stays: the names of its byte alone are others.
-use Rattle.std.proofs.Common.{◌≡◌, ◌≤◌, ◌+◌, ◌-◌, ◌==◌, ℕ, Bool, true, false, cond, ◌&&◌, List, [], ◌∷◌, ◌++◌, length, Option, Some, None, IsSome, refl, sym, ap, ◌∙◌, subst, nat_lt, arith}
+use Rattle.std.proofs.Common.{◌≡◌, ◌≤◌, ◌+◌, ◌-◌, ◌==◌, ℕ, Bool, true, false, cond, ◌&&◌, List, [], ◌∷◌, ◌++◌, filter, length, Option, Some, None, IsSome, refl, sym, ap, ◌∙◌, subst, nat_lt, arith}
 use Rattle.std.proofs.lemmas.Bool.Decides.{nat_tests}
 use Rattle.std.specs.List.{AllByRecursion}
 use Rattle.std.specs.declared.cmp.Ordering.TheVariants.{Less, Equal, Greater}
@@ -115,7 +115,8 @@ module _ (tree : Tree) (s : Names) (x : List ℕ) (held : IsTreeOf tree (set.ite
       begin : AllByRecursion (Starts tree.shared) (set.items (set.insert s x))
       begin =
           subst (AllByRecursion (Starts tree.shared)) (sym (items-insert s x))
-          (all-append (Starts tree.shared) _ _ (all_filter (Starts tree.shared) (is_below x) (set.items s) all_begin)
+          (all-append (Starts tree.shared) (filter (is_below x) (set.items s)) (x ∷ filter (is_above x) (set.items s))
+          (all_filter (Starts tree.shared) (is_below x) (set.items s) all_begin)
           (itself, all_filter (Starts tree.shared) (is_above x) (set.items s) all_begin))
 
   went : nat_lt (too_few (left_out x found)) (maps.len tree.branches) ≡ true → IsRegrouped tree byte (left_out x found) (set.items (set.remove s x))
@@ -135,7 +136,8 @@ module _ (tree : Tree) (s : Names) (x : List ℕ) (held : IsTreeOf tree (set.ite
       begin : AllByRecursion (Starts tree.shared) (set.items (set.remove s x))
       begin =
           subst (AllByRecursion (Starts tree.shared)) (sym (items-remove s x))
-          (all-append (Starts tree.shared) _ _ (all_filter (Starts tree.shared) (is_below x) (set.items s) all_begin)
+          (all-append (Starts tree.shared) (filter (is_below x) (set.items s)) (filter (is_above x) (set.items s))
+          (all_filter (Starts tree.shared) (is_below x) (set.items s) all_begin)
           (all_filter (Starts tree.shared) (is_above x) (set.items s) all_begin))
 
   -- ---- the same, of a byte and names that were found to be these
@@ -160,7 +162,7 @@ none_left m byte x ys e none = e ∙ ap (λ o. left_out x (names_found o)) none
 
 -- names of which one was placed are some
 pub placed_some : (m : BranchMap) (byte x : List ℕ) (xs ys : List (List ℕ)) → ys ≡ with_placed x xs → with_branch byte ys m ≡ maps.insert m byte ys
-placed_some m byte x xs ys e = subst (λ (zs : List (List ℕ)). with_branch byte zs m ≡ maps.insert m byte zs) (sym e) (with_some byte _ x _ m)
+placed_some m byte x xs ys e = subst (λ (zs : List (List ℕ)). with_branch byte zs m ≡ maps.insert m byte zs) (sym e) (with_some byte (filter (is_below x) xs) x (filter (is_above x) xs) m)
 
 -- ---- a byte that is there is given names, or taken away
 

@@ -124,8 +124,8 @@ impl Tree {
         })
     }
 
-    /// Whether a name changes its own byte's branch alone, which then has these names: it begins as all do, and they still
-    /// part behind that.
+    /// Whether a name changes its own byte's branch alone, which then has these names: it begins as all do, and they
+    /// still part behind that.
     pub fn fits(&self, name: &Interface, branch: &Seq<Interface>) -> bool
         ensures { result ≡ (begins name.now self.now.shared
             && nat_lt (too_few branch.now) (maps.len self.now.branches)) }

@@ -7,7 +7,7 @@ use Rattle.fx_dispatch.proofs.Regrouped.{regrouped_came, placed_some}
 use Rattle.fx_dispatch.proofs.laid.Laid.add.Goals as goal
 
 pub add_at-requires-clause-placed : goal.add_at-requires-clause-placed
-add_at-requires-clause-placed c = placed_some c.args.self.now.tree.branches c.next_byte-byte.result c.args.name _ _ c.in_ok-branch.ensures
+add_at-requires-clause-placed c = placed_some c.args.self.now.tree.branches c.next_byte-byte.result c.args.name c.names_at.result.now c.in_ok-branch.branch c.in_ok-branch.ensures
 
 pub add_at-requires-clause-regrouped : goal.add_at-requires-clause-regrouped
 add_at-requires-clause-regrouped c =
