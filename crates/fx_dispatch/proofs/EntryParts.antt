@@ -32,39 +32,36 @@ before : (k x : List ℕ) → slice_cmp nat_cmp k x ≡ Greater → slice_cmp na
 before k x p = nat_list_cmp_total.antisymm x k ∙ ap ordering_reverse p
 
 module _ {X : Type 0} where
-  abbrev Entries : Type 0
-  Entries = List (List ℕ × X)
-
-  abbrev pub lower : List ℕ → Entries → Entries
+  abbrev pub lower : List ℕ → List (List ℕ × X) → List (List ℕ × X)
   lower k es = filter (λ e. is_below k e.0) es
 
-  abbrev pub upper : List ℕ → Entries → Entries
+  abbrev pub upper : List ℕ → List (List ℕ × X) → List (List ℕ × X)
   upper k es = filter (λ e. is_above k e.0) es
 
-  abbrev pub others : List ℕ → Entries → Entries
+  abbrev pub others : List ℕ → List (List ℕ × X) → List (List ℕ × X)
   others k es = filter (λ e. not (is k e.0)) es
 
   -- a key below the first of some is below all
-  below_first : (k x : List ℕ) (es : Entries) → slice_cmp nat_cmp k x ≡ Less → T (below_all (slice_cmp nat_cmp) x es) → T (below_all (slice_cmp nat_cmp) k es)
+  below_first : (k x : List ℕ) (es : List (List ℕ × X)) → slice_cmp nat_cmp k x ≡ Less → T (below_all (slice_cmp nat_cmp) x es) → T (below_all (slice_cmp nat_cmp) k es)
   below_first k x [] p h = tt
   below_first k x (e ∷ es) p h =
       both _ _ (subst (λ r. T (is_lt r)) (sym (nat_list_cmp_total.trans k x e.0 p (less _ (first _ _ h)))) tt)
       (below_first k x es p (second _ _ h))
 
-  none_lower : (k : List ℕ) (es : Entries) → T (below_all (slice_cmp nat_cmp) k es) → lower k es ≡ []
+  none_lower : (k : List ℕ) (es : List (List ℕ × X)) → T (below_all (slice_cmp nat_cmp) k es) → lower k es ≡ []
   none_lower k [] h = refl
   none_lower k (e ∷ es) h =
       ap (λ r. cond (is_lt r) (e ∷ lower k es) (lower k es)) (behind k e.0 (less _ (first _ _ h)))
       ∙ none_lower k es (second _ _ h)
 
-  all_upper : (k : List ℕ) (es : Entries) → T (below_all (slice_cmp nat_cmp) k es) → upper k es ≡ es
+  all_upper : (k : List ℕ) (es : List (List ℕ × X)) → T (below_all (slice_cmp nat_cmp) k es) → upper k es ≡ es
   all_upper k [] h = refl
   all_upper k (e ∷ es) h =
       ap (λ r. cond (is_lt r) (e ∷ upper k es) (upper k es)) (less _ (first _ _ h))
       ∙ ap (λ fs. e ∷ fs) (all_upper k es (second _ _ h))
 
   -- an entry is put between those below it and those above it
-  pub put_parts : (k : List ℕ) (v : X) (es : Entries) → T (is_sorted (slice_cmp nat_cmp) es) → put (slice_cmp nat_cmp) k v es ≡ lower k es ++ (k, v) ∷ upper k es
+  pub put_parts : (k : List ℕ) (v : X) (es : List (List ℕ × X)) → T (is_sorted (slice_cmp nat_cmp) es) → put (slice_cmp nat_cmp) k v es ≡ lower k es ++ (k, v) ∷ upper k es
   put_parts k v [] h = refl
   put_parts k v (e ∷ es) h =
       elim (slice_cmp nat_cmp k e.0) as (λ r. slice_cmp nat_cmp k e.0 ≡ r → by_order r ((k, v) ∷ e ∷ es) ((e.0, v) ∷ es) (e ∷ put (slice_cmp nat_cmp) k v es) ≡ cond (is_lt (slice_cmp nat_cmp e.0 k)) (e ∷ lower k es) (lower k es) ++ (k, v) ∷ cond (is_lt r) (e ∷ upper k es) (upper k es)) [
@@ -83,7 +80,7 @@ module _ {X : Type 0} where
       ] refl
 
   -- the entries at other keys are those below and those above
-  pub others_parts : (k : List ℕ) (es : Entries) → T (is_sorted (slice_cmp nat_cmp) es) → others k es ≡ lower k es ++ upper k es
+  pub others_parts : (k : List ℕ) (es : List (List ℕ × X)) → T (is_sorted (slice_cmp nat_cmp) es) → others k es ≡ lower k es ++ upper k es
   others_parts k [] h = refl
   others_parts k (e ∷ es) h =
       let rest = others_parts k es (second _ _ h) in
@@ -110,7 +107,7 @@ module _ {X : Type 0} where
 
   -- ---- the keys alone
 
-  keys-filter : (t : List ℕ → Bool) (es : Entries) → map (λ e. e.0) (filter (λ e. t e.0) es) ≡ filter t (map (λ e. e.0) es)
+  keys-filter : (t : List ℕ → Bool) (es : List (List ℕ × X)) → map (λ e. e.0) (filter (λ e. t e.0) es) ≡ filter t (map (λ e. e.0) es)
   keys-filter t [] = refl
   keys-filter t (e ∷ es) =
       elim (t e.0) as (λ b. map (λ f. f.0) (cond b (e ∷ filter (λ f. t f.0) es) (filter (λ f. t f.0) es)) ≡ cond b (e.0 ∷ filter t (map (λ f. f.0) es)) (filter t (map (λ f. f.0) es))) [
@@ -119,25 +116,25 @@ module _ {X : Type 0} where
       ]
 
   -- a key that doesn't pass a test is not seen among those that do, whether it comes
-  passed_put : (g : List ℕ → Bool) (k : List ℕ) (v : X) (es : Entries) → g k ≡ false → filter g (map (λ e. e.0) (put (slice_cmp nat_cmp) k v es)) ≡ filter g (map (λ e. e.0) es)
-  passed_put g k v [] no = ap (λ t. cond t (k ∷ []) []) no
-  passed_put g k v (e ∷ es) no =
+  passed_put : (g : List ℕ → Bool) (k : List ℕ) (v : X) (es : List (List ℕ × X)) → g k ≡ false → filter g (map (λ e. e.0) (put (slice_cmp nat_cmp) k v es)) ≡ filter g (map (λ e. e.0) es)
+  passed_put g k v [] fails = ap (λ t. cond t (k ∷ []) []) fails
+  passed_put g k v (e ∷ es) fails =
       let rest = filter g (map (λ (f : List ℕ × X). f.0) es) in
       elim (slice_cmp nat_cmp k e.0) as (λ r. filter g (map (λ f. f.0) (by_order r ((k, v) ∷ e ∷ es) ((e.0, v) ∷ es) (e ∷ put (slice_cmp nat_cmp) k v es))) ≡ cond (g e.0) (e.0 ∷ rest) rest) [
-        | Less ↦ ap (λ t. cond t (k ∷ cond (g e.0) (e.0 ∷ rest) rest) (cond (g e.0) (e.0 ∷ rest) rest)) no
+        | Less ↦ ap (λ t. cond t (k ∷ cond (g e.0) (e.0 ∷ rest) rest) (cond (g e.0) (e.0 ∷ rest) rest)) fails
         | Equal ↦ refl
-        | Greater ↦ ap (λ ks. cond (g e.0) (e.0 ∷ ks) ks) (passed_put g k v es no)
+        | Greater ↦ ap (λ ks. cond (g e.0) (e.0 ∷ ks) ks) (passed_put g k v es fails)
       ]
 
   -- or goes
-  passed_others : (g : List ℕ → Bool) (k : List ℕ) (es : Entries) → g k ≡ false → filter g (map (λ e. e.0) (others k es)) ≡ filter g (map (λ e. e.0) es)
-  passed_others g k [] no = refl
-  passed_others g k (e ∷ es) no =
+  passed_others : (g : List ℕ → Bool) (k : List ℕ) (es : List (List ℕ × X)) → g k ≡ false → filter g (map (λ e. e.0) (others k es)) ≡ filter g (map (λ e. e.0) es)
+  passed_others g k [] fails = refl
+  passed_others g k (e ∷ es) fails =
       let rest = filter g (map (λ (f : List ℕ × X). f.0) es) in
-      let later = passed_others g k es no in
+      let later = passed_others g k es fails in
       elim (slice_cmp nat_cmp k e.0) as (λ r. slice_cmp nat_cmp k e.0 ≡ r → filter g (map (λ f. f.0) (cond (not (is_eq r)) (e ∷ others k es) (others k es))) ≡ cond (g e.0) (e.0 ∷ rest) rest) [
         | Less ↦ λ p. ap (λ ks. cond (g e.0) (e.0 ∷ ks) ks) later
-        | Equal ↦ λ p. later ∙ ap (λ t. cond t (e.0 ∷ rest) rest) (sym (ap g (sym (bytes_exact k e.0 p)) ∙ no))
+        | Equal ↦ λ p. later ∙ ap (λ t. cond t (e.0 ∷ rest) rest) (sym (ap g (sym (bytes_exact k e.0 p)) ∙ fails))
         | Greater ↦ λ p. ap (λ ks. cond (g e.0) (e.0 ∷ ks) ks) later
       ] refl
 
@@ -162,9 +159,9 @@ filter-swap g h (x ∷ xs) =
 module _ (g : List ℕ → Bool) (x : List ℕ) (xs : List (List ℕ)) where
   -- a test finds a name that came and passes at its place
   pub placed_filtered : g x ≡ true → filter g (with_placed x xs) ≡ with_placed x (filter g xs)
-  placed_filtered yes =
+  placed_filtered holds =
       filter-append g (filter (is_below x) xs) (x ∷ filter (is_above x) xs)
-      ∙ (λ i. filter-swap g (is_below x) xs i ++ cond (yes i) (x ∷ filter g (filter (is_above x) xs)) (filter g (filter (is_above x) xs)))
+      ∙ (λ i. filter-swap g (is_below x) xs i ++ cond (holds i) (x ∷ filter g (filter (is_above x) xs)) (filter g (filter (is_above x) xs)))
       ∙ ap (λ ys. filter (is_below x) (filter g xs) ++ x ∷ ys) (filter-swap g (is_above x) xs)
 
   pub left_filtered : filter g (left_out x xs) ≡ left_out x (filter g xs)
@@ -187,12 +184,12 @@ module _ (s : set.Set (slice_cmp nat_cmp)) (x : List ℕ) where
       ∙ map-append (λ e. e.0) (lower x (entries s)) (upper x (entries s))
       ∙ (λ i. keys-filter (is_below x) (entries s) i ++ keys-filter (is_above x) (entries s) i)
 
-  module _ (g : List ℕ → Bool) (no : g x ≡ false) where
+  module _ (g : List ℕ → Bool) (fails : g x ≡ false) where
     pub passed-insert : filter g (set.items (set.insert s x)) ≡ filter g (set.items s)
-    passed-insert = ap (λ es. filter g (map (λ e. e.0) es)) (entries-insert nat_list_cmp_total s x tt) ∙ passed_put g x tt (entries s) no
+    passed-insert = ap (λ es. filter g (map (λ e. e.0) es)) (entries-insert nat_list_cmp_total s x tt) ∙ passed_put g x tt (entries s) fails
 
     pub passed-remove : filter g (set.items (set.remove s x)) ≡ filter g (set.items s)
-    passed-remove = ap (λ es. filter g (map (λ e. e.0) es)) (entries-remove s x) ∙ passed_others g x (entries s) no
+    passed-remove = ap (λ es. filter g (map (λ e. e.0) es)) (entries-remove s x) ∙ passed_others g x (entries s) fails
 
 -- ---- what holds of all names
 

@@ -58,15 +58,15 @@ module _ {A : Type 0} (f : Branch → List A) (byte : List ℕ) where
 
 module _ (ob nb : List Branch) (byte : List ℕ) (ys : List (List ℕ)) (after : (q : List ℕ) → find (slice_cmp nat_cmp) q nb ≡ cond (is q byte) (more_found None ys) (find (slice_cmp nat_cmp) q ob)) where
   other : (k : List ℕ) → is byte k ≡ false → find (slice_cmp nat_cmp) k nb ≡ find (slice_cmp nat_cmp) k ob
-  other k no = after k ∙ ap (λ t. cond t (more_found None ys) (find (slice_cmp nat_cmp) k ob)) ((eq_by_cmp_equiv nat_list_cmp_total).symm k byte ∙ no)
+  other k fails = after k ∙ ap (λ t. cond t (more_found None ys) (find (slice_cmp nat_cmp) k ob)) ((eq_by_cmp_equiv nat_list_cmp_total).symm k byte ∙ fails)
 
   here : find (slice_cmp nat_cmp) byte nb ≡ more_found None ys
   here = after byte ∙ ap (λ t. cond t (more_found None ys) (find (slice_cmp nat_cmp) byte ob)) (is_itself byte)
 
   -- a branch that stays is not written
   stays : (d : Direction) (b : Branch) → find (slice_cmp nat_cmp) b.0 nb ≡ Some b.1 → is byte b.0 ≡ false → child_write d ob b ≡ []
-  stays d b found no =
-      ap (λ o. if has_child b.0 b.1 && not (are_found o b.1) then child_entry d b ∷ [] else []) (sym (other b.0 no) ∙ found)
+  stays d b found fails =
+      ap (λ o. if has_child b.0 b.1 && not (are_found o b.1) then child_entry d b ∷ [] else []) (sym (other b.0 fails) ∙ found)
       ∙ ap (λ t. if has_child b.0 b.1 && not t then child_entry d b ∷ [] else []) (pointwise-refl (pointwise nat_eq) bytes-refl b.1)
       ∙ none_then (has_child b.0 b.1) (child_entry d b ∷ [])
 
@@ -80,13 +80,13 @@ module _ (ob nb : List Branch) (byte : List ℕ) (ys : List (List ℕ)) (after :
   pub writes_one : (d : Direction) → T (is_sorted (slice_cmp nat_cmp) nb) → AllByRecursion (λ b. find (slice_cmp nat_cmp) b.0 nb ≡ Some b.1) nb → flat_map (child_write d ob) nb ≡ child_write d ob (byte, ys)
   writes_one d sorted found =
       only_at (child_write d ob) byte nb sorted
-      (each (λ b. find (slice_cmp nat_cmp) b.0 nb ≡ Some b.1) (λ b. is byte b.0 ≡ false → child_write d ob b ≡ []) (λ b f no. stays d b f no) nb found)
+      (each (λ b. find (slice_cmp nat_cmp) b.0 nb ≡ Some b.1) (λ b. is byte b.0 ≡ false → child_write d ob b ≡ []) (λ b f fails. stays d b f fails) nb found)
       ∙ ap (at_found (child_write d ob) byte) here ∙ written_here d
 
   -- nor is it deleted
   stands_on : (d : Direction) (b : Branch) → find (slice_cmp nat_cmp) b.0 ob ≡ Some b.1 → is byte b.0 ≡ false → child_delete d nb b ≡ []
-  stands_on d b found no =
-      ap (λ o. if has_child b.0 b.1 && not (has_chain_found b.0 o) then child_chain d b.0 ∷ [] else []) (other b.0 no ∙ found)
+  stands_on d b found fails =
+      ap (λ o. if has_child b.0 b.1 && not (has_chain_found b.0 o) then child_chain d b.0 ∷ [] else []) (other b.0 fails ∙ found)
       ∙ never_both (has_child b.0 b.1) (child_chain d b.0 ∷ [])
 
   chain_here : has_chain nb byte ≡ has_child byte ys
@@ -103,7 +103,7 @@ module _ (ob nb : List Branch) (byte : List ℕ) (ys : List (List ℕ)) (after :
   pub deletes_one : (d : Direction) → T (is_sorted (slice_cmp nat_cmp) ob) → AllByRecursion (λ b. find (slice_cmp nat_cmp) b.0 ob ≡ Some b.1) ob → flat_map (child_delete d nb) ob ≡ delete_at d ob byte ys
   deletes_one d sorted found =
       only_at (child_delete d nb) byte ob sorted
-      (each (λ b. find (slice_cmp nat_cmp) b.0 ob ≡ Some b.1) (λ b. is byte b.0 ≡ false → child_delete d nb b ≡ []) (λ b f no. stands_on d b f no) ob found)
+      (each (λ b. find (slice_cmp nat_cmp) b.0 ob ≡ Some b.1) (λ b. is byte b.0 ≡ false → child_delete d nb b ≡ []) (λ b f fails. stands_on d b f fails) ob found)
       ∙ deleted_here d (find (slice_cmp nat_cmp) byte ob)
 
 -- ---- the root

@@ -55,7 +55,7 @@ found_names (y ∷ ys) = refl
 module _ (shared byte : List ℕ) (os ns ys : List (List ℕ)) (here : going_on shared byte ns ≡ ys) (there : (q : List ℕ) → is q byte ≡ false → going_on shared q ns ≡ going_on shared q os) where
   found_after : (q : List ℕ) → find (slice_cmp nat_cmp) q (branches shared ns) ≡ cond (is q byte) (more_found None ys) (find (slice_cmp nat_cmp) q (branches shared os))
   found_after q =
-      let other = λ (no : is q byte ≡ false). ap (more_found None) (there q no) ∙ sym (branches-find shared os q) in
+      let other = λ (fails : is q byte ≡ false). ap (more_found None) (there q fails) ∙ sym (branches-find shared os q) in
       branches-find shared ns q
       ∙ elim (slice_cmp nat_cmp q byte) as (λ r. slice_cmp nat_cmp q byte ≡ r → more_found None (going_on shared q ns) ≡ cond (is_eq r) (more_found None ys) (find (slice_cmp nat_cmp) q (branches shared os))) [
         | Less ↦ λ p. other (ap is_eq p)
@@ -106,7 +106,7 @@ module _ (tree : Tree) (s : Names) (x : List ℕ) (held : IsTreeOf tree (set.ite
           regrouped tree.shared byte (set.items s) (set.items (set.insert s x)) (with_placed x found)
           (ap (λ ys. going_on tree.shared byte ys) (items-insert s x)
           ∙ placed_filtered (λ y. is byte (next_byte tree.shared y)) x (set.items s) (is_itself byte) ∙ ap (with_placed x) found_is)
-          (λ q no. passed-insert s x (λ y. is q (next_byte tree.shared y)) no)
+          (λ q fails. passed-insert s x (λ y. is q (next_byte tree.shared y)) fails)
           tree.branches are
 
       itself : Starts tree.shared x
@@ -130,7 +130,7 @@ module _ (tree : Tree) (s : Names) (x : List ℕ) (held : IsTreeOf tree (set.ite
           regrouped tree.shared byte (set.items s) (set.items (set.remove s x)) (left_out x found)
           (ap (λ ys. going_on tree.shared byte ys) (items-remove s x)
           ∙ left_filtered (λ y. is byte (next_byte tree.shared y)) x (set.items s) ∙ ap (left_out x) found_is)
-          (λ q no. passed-remove s x (λ y. is q (next_byte tree.shared y)) no)
+          (λ q fails. passed-remove s x (λ y. is q (next_byte tree.shared y)) fails)
           tree.branches are
 
       begin : AllByRecursion (Starts tree.shared) (set.items (set.remove s x))
@@ -157,26 +157,26 @@ module _ (tree : Tree) (s : Names) (x : List ℕ) (held : IsTreeOf tree (set.ite
       (went (ap (λ (zs : List (List ℕ)). nat_lt (too_few zs) (maps.len tree.branches)) (sym g) ∙ fits)))
 
 -- where there are no names at a byte, none are left there
-pub none_left : (m : BranchMap) (byte x : List ℕ) (ys : List (List ℕ)) → ys ≡ left_out x (names_found (maps.get m byte)) → maps.get m byte ≡ None → ys ≡ []
-none_left m byte x ys e none = e ∙ ap (λ o. left_out x (names_found o)) none
+pub none_left : (m : BranchMap) (k x : List ℕ) (ys : List (List ℕ)) → ys ≡ left_out x (names_found (maps.get m k)) → maps.get m k ≡ None → ys ≡ []
+none_left m k x ys e none = e ∙ ap (λ o. left_out x (names_found o)) none
 
 -- names of which one was placed are some
-pub placed_some : (m : BranchMap) (byte x : List ℕ) (xs ys : List (List ℕ)) → ys ≡ with_placed x xs → with_branch byte ys m ≡ maps.insert m byte ys
-placed_some m byte x xs ys e = subst (λ (zs : List (List ℕ)). with_branch byte zs m ≡ maps.insert m byte zs) (sym e) (with_some byte (filter (is_below x) xs) x (filter (is_above x) xs) m)
+pub placed_some : (m : BranchMap) (k x : List ℕ) (xs ys : List (List ℕ)) → ys ≡ with_placed x xs → with_branch k ys m ≡ maps.insert m k ys
+placed_some m k x xs ys e = subst (λ (zs : List (List ℕ)). with_branch k zs m ≡ maps.insert m k zs) (sym e) (with_some k (filter (is_below x) xs) x (filter (is_above x) xs) m)
 
 -- ---- a byte that is there is given names, or taken away
 
-pub none_with : (m : BranchMap) (byte : List ℕ) (names : List (List ℕ)) → (length names == 0) ≡ true → with_branch byte names m ≡ maps.remove m byte
-none_with m byte [] e = refl
-none_with m byte (name ∷ names) e = let wrong : false ≡ true = e in cc
+pub none_with : (m : BranchMap) (k : List ℕ) (names : List (List ℕ)) → (length names == 0) ≡ true → with_branch k names m ≡ maps.remove m k
+none_with m k [] e = refl
+none_with m k (name ∷ names) e = grind (arith, nat_tests, e)
 
-pub these_with : (m : BranchMap) (byte : List ℕ) (names : List (List ℕ)) → (length names == 0) ≡ false → with_branch byte names m ≡ maps.insert m byte names
-these_with m byte [] e = let wrong : true ≡ false = e in cc
-these_with m byte (name ∷ names) e = refl
+pub these_with : (m : BranchMap) (k : List ℕ) (names : List (List ℕ)) → (length names == 0) ≡ false → with_branch k names m ≡ maps.insert m k names
+these_with m k [] e = let wrong : true ≡ false = e in cc
+these_with m k (name ∷ names) e = refl
 
-pub some_there : (m : BranchMap) (byte : List ℕ) (names : List (List ℕ)) → (maps.get m byte ≡ None → names ≡ []) → (length names == 0) ≡ false → IsSome (maps.get m byte)
-some_there m byte names h some = by_found (maps.get m byte) refl
+pub some_there : (m : BranchMap) (k : List ℕ) (names : List (List ℕ)) → (maps.get m k ≡ None → names ≡ []) → (length names == 0) ≡ false → IsSome (maps.get m k)
+some_there m k names h some = by_found (maps.get m k) refl
   where
-    by_found : (o : Option (List (List ℕ))) → maps.get m byte ≡ o → IsSome o
+    by_found : (o : Option (List (List ℕ))) → maps.get m k ≡ o → IsSome o
     by_found None e = let wrong : true ≡ false = sym (ap (λ (ns : List (List ℕ)). length ns == 0) (h e)) ∙ some in cc
     by_found (Some before) e = refl

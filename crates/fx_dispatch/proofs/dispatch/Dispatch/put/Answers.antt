@@ -1,5 +1,6 @@
 use Rattle.std.proofs.Common.{List, ℕ, ap, sym, subst, ◌∙◌}
 use Rattle.fx_base.specs.Set as set
+use Rattle.fx_tables.proofs.Exchanged.{on_err}
 use Rattle.fx_dispatch.specs.declared.laid.Laid.{Laid}
 use Rattle.fx_dispatch.specs.Laid.{IsLaid, IsPlan}
 use Rattle.fx_dispatch.specs.Plans.{Names, AreWritable}
@@ -14,11 +15,8 @@ pub returns-then-contains-clause-writable : goal.returns-then-contains-clause-wr
 returns-then-contains-clause-writable c = subst (λ (s : Names). AreWritable s s c.no_plan.result.writes) c.self.view_is c.no_plan.ensures.writable
 
 -- where there is no memory, names and tree are as they were
-pub invariant_of-self-in_err-plan : goal.invariant_of-self-in_err-plan
-invariant_of-self-in_err-plan c = subst (λ (l : Laid). IsLaid l) (sym c.in_err-plan.ensures.err) c.self.invariant
-
 pub returns-in_err-plan-clause-err : goal.returns-in_err-plan-clause-err
-returns-in_err-plan-clause-err c = ap (λ (l : Laid). l.names) c.in_err-plan.ensures.err ∙ c.self.view_is
+returns-in_err-plan-clause-err c = on_err c.from_residual.result (ap (λ (l : Laid). l.names) c.in_err-plan.ensures.err ∙ c.self.view_is)
 
 -- the plan has all that differs, and so keeps each promise
 pub returns-clause-written : goal.returns-clause-written
