@@ -1,8 +1,8 @@
-use Rattle.std.proofs.Common.{List, ℕ, ap, sym, subst, ◌∙◌}
+use Rattle.std.proofs.Common.{ap, subst, ◌∙◌}
 use Rattle.fx_base.specs.Set as set
 use Rattle.fx_tables.proofs.Exchanged.{on_err}
 use Rattle.fx_dispatch.specs.declared.laid.Laid.{Laid}
-use Rattle.fx_dispatch.specs.Laid.{IsLaid, IsPlan}
+use Rattle.fx_dispatch.specs.Laid.{IsPlan}
 use Rattle.fx_dispatch.specs.Plans.{Names, AreWritable}
 use Rattle.fx_dispatch.proofs.Planned.{insert_there}
 use Rattle.fx_dispatch.proofs.Promised.{promised_replaces, promised_changes, promised_exact, promised_writable, promised_deletable}
