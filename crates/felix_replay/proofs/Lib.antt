@@ -5,4 +5,5 @@ pub mod Served
 pub mod Policing
 pub mod KubernetesKept
 pub mod SoakLemmas
+pub mod SoakBounds
 pub mod StoppingLemmas

@@ -22,7 +22,8 @@ pub record SoakRan (dg : Digest) (node : List ℕ) (soak : Soak) (before now : S
   pub bounded : IsTicked (soak_least dg node soak) (soak_most dg node soak) 0 ticks
   pub status : refused ≡ is_soak_refused dg node soak
 
--- The run ended early. What was written is a prefix of the line.
+-- The run ended early. What was written is a prefix of the line, with a number of ticks within the same bounds.
 pub record SoakStopped (dg : Digest) (node : List ℕ) (soak : Soak) (before now : SinkState) : Type 0 where
   pub ticks : ℕ
   pub output : AppendsPrefix before.held now.held (soak_output dg node soak ticks)
+  pub bounded : IsTicked (soak_least dg node soak) (soak_most dg node soak) 0 ticks

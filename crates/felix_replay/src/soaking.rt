@@ -26,7 +26,7 @@ struct Summary {
 }
 
 /// Answers the lines of a seed and flushes behind the last. Nothing is written but the line that sums up, and whether a line was
-/// refused is told.
+/// refused is told. A run that ends early has written a prefix of that line, with a number of ticks within the same bounds.
 pub fn soak<K: Sink, R: DigestRule, F: DigestFunction<R> + Drop>(
     alloc: Global,
     node: &Text,
