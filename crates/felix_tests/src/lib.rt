@@ -2,7 +2,11 @@
 #![tactic(auto)]
 
 #[cfg(test)]
+mod clash_tests;
+#[cfg(test)]
 mod endpoint_rows;
+#[cfg(test)]
+mod failing_tests;
 #[cfg(test)]
 mod flush_rows;
 #[cfg(test)]

@@ -19,6 +19,36 @@ fn bytes_that_are_not_utf8_are_no_json(rt: HostRuntime) -> Result<(), Fail> {
     Ok(())
 }
 
+// A line of so many opening brackets and as many closing ones.
+fn push_nested(input: &mut Vec<u8>, depth: usize) -> Result<(), Fail> {
+    push_many(input, b'[', depth)?;
+    push_many(input, b']', depth)?;
+    input.push(b'\n')?;
+    Ok(())
+}
+
+fn push_many(input: &mut Vec<u8>, byte: u8, count: usize) -> Result<(), Fail> {
+    for _ in 0..count {
+        input.push(byte)?;
+    }
+    Ok(())
+}
+
+#[test]
+fn json_is_read_127_deep(rt: HostRuntime) -> Result<(), Fail> {
+    let alloc = rt.alloc();
+    let mut input = Vec::from_slice(alloc, b"\xff\n")?;
+    push_nested(&mut input, 128)?;
+    push_nested(&mut input, 127)?;
+    let (status, held) = replayed(alloc, input)?;
+    assert_eq!(rt; status, Status::Refused);
+    assert_eq!(rt;
+        held.as_slice(),
+        b"refused 1 21 BadJson\nrefused 2 21 BadJson\nrefused 3 22 BadLine\n".as_slice()
+    );
+    Ok(())
+}
+
 #[test]
 fn a_name_of_4_million_bytes_is_no_name(rt: HostRuntime) -> Result<(), Fail> {
     let alloc = rt.alloc();
@@ -26,9 +56,7 @@ fn a_name_of_4_million_bytes_is_no_name(rt: HostRuntime) -> Result<(), Fail> {
         alloc,
         b"{\"put\":{\"apiVersion\":\"projectcalico.org/v3\",\"kind\":\"Profile\",\"metadata\":{\"name\":\"",
     )?;
-    for _ in 0..4_000_000 {
-        line.push(b'a')?;
-    }
+    push_many(&mut line, b'a', 4_000_000)?;
     line.extend_from_slice(b"\"}}}")?;
     let (refused, held) = answered(alloc, line.as_slice())?;
     assert!(rt; refused);
@@ -42,9 +70,7 @@ fn a_name_of_4_million_bytes_is_no_name(rt: HostRuntime) -> Result<(), Fail> {
 // A line of so many spaces.
 fn spaces(alloc: Global, count: usize) -> Result<Vec<u8>, Fail> {
     let mut line = Vec::new(alloc);
-    for _ in 0..count {
-        line.push(b' ')?;
-    }
+    push_many(&mut line, b' ', count)?;
     line.push(b'\n')?;
     Ok(line)
 }

@@ -486,4 +486,8 @@ pub const RUNS: &str = r#"
 < egress cali1 profile kns.prod 1
 < ingress cali2 policy knp/prod/db 1
 < verdict allow
+= a selector is nested 64 deep at most
+> {"put":{"apiVersion":"projectcalico.org/v3","kind":"GlobalNetworkPolicy","metadata":{"name":"x"},"spec":{"selector":"!!!!!!!!!!!!!!!!!!!!!!!!!!!!!!!!!!!!!!!!!!!!!!!!!!!!!!!!!!!!!!!!!all()"}}}
+> {"put":{"apiVersion":"projectcalico.org/v3","kind":"GlobalNetworkPolicy","metadata":{"name":"x"},"spec":{"selector":"!!!!!!!!!!!!!!!!!!!!!!!!!!!!!!!!!!!!!!!!!!!!!!!!!!!!!!!!!!!!!!!!all()"}}}
+< refused 1 4 BadSelector spec.selector 64
 "#;

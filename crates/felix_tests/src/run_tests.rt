@@ -1,16 +1,17 @@
 //! Whole runs, from the bytes of a source to the bytes of a sink.
 use crate::{endpoint_rows, flush_rows, run_rows};
 use felix_replay::{Status, felix_replay};
-use fx_base::{MemSink, MemSource, SureSource, Text};
+use fx_base::{MemSink, SureSource, Text};
 use fx_names::{Namer, PlainRule};
 use std::alloc::Global;
 use std::test::Fail;
 
-fn node_words(alloc: Global) -> Result<Vec<Text>, Fail> {
+/// The words of a run on the node `n1`.
+pub fn node_words(alloc: Global) -> Result<Vec<Text>, Fail> {
     Ok(vec![in alloc; Text::new(alloc, b"--node")?, Text::new(alloc, b"n1")?]?)
 }
 
-// The status of a run on these bytes, and what was written.
+/// The status of a run on these bytes, and what was written.
 pub fn replayed(alloc: Global, input: Vec<u8>) -> Result<(Status, Vec<u8>), Fail> {
     let mut source = SureSource::new(input, 4096);
     let mut sink = MemSink::new(alloc, 1_048_576, Vec::new(alloc))?;
@@ -19,8 +20,8 @@ pub fn replayed(alloc: Global, input: Vec<u8>) -> Result<(Status, Vec<u8>), Fail
     Ok((status, sink.held().to_vec(alloc)?))
 }
 
-// The lines of a run that begin so, without what they begin with.
-fn lines_behind(alloc: Global, run: &str, mark: &str) -> Result<Vec<u8>, Fail> {
+/// The lines of a run that begin so, without what they begin with.
+pub fn lines_behind(alloc: Global, run: &str, mark: &str) -> Result<Vec<u8>, Fail> {
     let mut lines = Vec::new(alloc);
     for line in run.lines() {
         if let Some(text) = line.strip_prefix(mark) {
@@ -64,40 +65,5 @@ fn flushes_go_in_portions(rt: HostRuntime) -> Result<(), Fail> {
     for run in flush_rows::RUNS.split("\n= ") {
         assert!(rt; is_stored(rt.alloc(), run)?, "{run}");
     }
-    Ok(())
-}
-
-// Two flushes of nothing, so that there are two puts.
-const TWO_PUTS: &[u8] = b"{\"flush\":{}}\n{\"flush\":{}}\n";
-
-#[test]
-fn a_failing_read_ends_the_run(rt: HostRuntime) -> Result<(), Fail> {
-    let alloc = rt.alloc();
-    let mut source = MemSource::new(TWO_PUTS.to_vec(alloc)?, 10, vec![in alloc; 2]?);
-    let mut sink = MemSink::new(alloc, 1000, Vec::new(alloc))?;
-    let words = node_words(alloc)?;
-    let status = felix_replay(alloc, &words, &mut source, &mut sink, Namer::new(PlainRule));
-    assert_eq!(rt; status, Status::ReadFault);
-    assert_eq!(rt; sink.held(), b"".as_slice());
-    Ok(())
-}
-
-fn written(alloc: Global, room: u32, failing: Vec<u64>) -> Result<(Status, Vec<u8>), Fail> {
-    let mut source = SureSource::new(TWO_PUTS.to_vec(alloc)?, 4096);
-    let mut sink = MemSink::new(alloc, room, failing)?;
-    let words = node_words(alloc)?;
-    let status = felix_replay(alloc, &words, &mut source, &mut sink, Namer::new(PlainRule));
-    Ok((status, sink.held().to_vec(alloc)?))
-}
-
-#[test]
-fn a_failing_put_ends_the_run(rt: HostRuntime) -> Result<(), Fail> {
-    let alloc = rt.alloc();
-    let (status, held) = written(alloc, 1000, vec![in alloc; 2]?)?;
-    assert_eq!(rt; status, Status::WriteFault);
-    assert_eq!(rt; held.as_slice(), b"flushed 0\n".as_slice());
-    let (status, held) = written(alloc, 10, Vec::new(alloc))?;
-    assert_eq!(rt; status, Status::WriteFault);
-    assert_eq!(rt; held.as_slice(), b"flushed 0\n".as_slice());
     Ok(())
 }

@@ -1,4 +1,4 @@
-//! Runs of updates that selectors are tested for.
+//! Runs of updates that selectors are tested for, and one whose messages are pulled.
 use crate::lines::{IN_SYNC, OPEN};
 
 // It has the role `a`.
@@ -37,6 +37,17 @@ pub const STEPS: [(&str, u64); 8] = [
     (IN_SYNC, 3),
     (FROM_C, 3),
     (SECOND_C, 4),
+];
+
+/// The same without the last two: a policy whose rule's set has the one address of two endpoints.
+pub const SHARED: [&str; 6] = [OPEN, FIRST_A, SECOND_B, THIRD_B, FROM_B, IN_SYNC];
+
+/// The texts of the messages to which they lead.
+pub const SHARED_TOLD: [&str; 4] = [
+    "set-add cali40s:cm9sZSA9PSAiYiIAAAAAAAA hash:net 10.0.0.9/32\n",
+    "policy gnp/g gnp/g in 1 out 0\n",
+    "profile open open in 1 out 1\n",
+    "endpoint cali1 a/w1 in default(gnp/g) out - profiles open\n",
 ];
 
 /// Selectors of each kind of need, then items, the datastore in sync, labels that change, stay and come back, and
