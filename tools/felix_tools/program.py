@@ -34,6 +34,14 @@ def find(path=None):
     return LAUNCHER
 
 
+def find_built(path=None):
+    """As `find`, but never the launcher: whoever measures a run, or what it asks for, wants the program by itself."""
+    found = path or os.environ.get(VARIABLE) or (BUILT if is_built() else None)
+    if not found:
+        raise ProgramError("the program isn't built from these sources: ./felix-replay proves and builds it")
+    return found
+
+
 def is_built():
     """Whether the built program is there, and none of its sources is newer: what ./felix-replay asks, too."""
     if not os.access(BUILT, os.X_OK):
@@ -53,10 +61,15 @@ def sources():
 
 def run(path, node, text):
     """What the program at this path answers for a node to an input."""
-    try:
-        done = subprocess.run([path, "--node", node], input=text.encode("utf-8"), stdout=subprocess.PIPE)
-    except OSError as fault:
-        raise ProgramError("%s: %s" % (path, fault.strerror))
+    done = run_bytes(path, node, text.encode("utf-8"))
     if done.returncode not in (0, 1):
         raise ProgramError("%s ended with %d: %s" % (path, done.returncode, ENDINGS.get(done.returncode, "no status of its own")))
     return done.stdout.decode("utf-8")
+
+
+def run_bytes(path, node, given):
+    """How the program ended, and what it wrote."""
+    try:
+        return subprocess.run([path, "--node", node], input=given, stdout=subprocess.PIPE)
+    except OSError as fault:
+        raise ProgramError("%s: %s" % (path, fault.strerror))

@@ -77,7 +77,7 @@ def number(text):
 def refuse(options):
     inputs = inputs_of(options)
     with tempfile.TemporaryDirectory(prefix="refuse-memory-") as room:
-        runner = Checked() if options.checked else Refusing(room, built(options.program))
+        runner = Checked() if options.checked else Refusing(room, program.find_built(options.program))
         swept = [tell(path or "soak", sweep(runner, words_of(options), path, options)) for path in inputs]
     return 0 if all(swept) else 1
 
@@ -100,14 +100,6 @@ def inputs_of(options):
 def words_of(options):
     words = ["--node", options.node]
     return words if options.soak is None else words + ["--soak", str(options.soak), "--count", str(options.count)]
-
-
-def built(path):
-    """The built program: a launcher's own growths would be refused, too."""
-    found = path or os.environ.get(program.VARIABLE) or (program.BUILT if program.is_built() else None)
-    if not found:
-        raise ProgramError("the program isn't built from these sources: ./felix-replay proves and builds it")
-    return found
 
 
 # ---- runs
