@@ -32,7 +32,7 @@ class Documents(unittest.TestCase):
         self.assertLessEqual(len(text_of("README.md").split()), MOST_WORDS)
 
     def test_links_lead_to_files(self):
-        for page in ("README.md", "docs/OPERATORS.md", "docs/SPEED.md"):
+        for page in ("README.md", "docs/OPERATORS.md", "docs/SPEED.md", "docs/HOSTILE.md"):
             for link in re.findall(r"\]\(([^)#]+)(?:#[^)]*)?\)", text_of(page)):
                 path = os.path.join(TOP, os.path.dirname(page), link)
                 self.assertTrue(os.path.exists(path), "%s links to %s" % (page, link))
