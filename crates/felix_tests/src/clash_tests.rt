@@ -6,8 +6,8 @@ use fx_names::{Namer, ZeroRule};
 use std::alloc::Global;
 use std::test::Fail;
 
-// All sets of nets have one name. That of the role `b` takes it, and that of the role `c` is refused until the first policy
-// gives the other up for it; a second policy may use it too. A rule with two other sets is refused.
+// All sets of nets have one name. That of the role `b` takes it, and that of the role `c` is refused until the first
+// policy gives the other up for it; a second policy may use it too. A rule with two other sets is refused.
 const SETS: &str = r#"
 > {"put":{"apiVersion":"projectcalico.org/v3","kind":"GlobalNetworkPolicy","metadata":{"name":"g"},"spec":{"ingress":[{"action":"Allow","source":{"selector":"role == 'b'"}}]}}}
 > {"put":{"apiVersion":"projectcalico.org/v3","kind":"GlobalNetworkPolicy","metadata":{"name":"h"},"spec":{"ingress":[{"action":"Allow","source":{"selector":"role == 'c'"}}]}}}
