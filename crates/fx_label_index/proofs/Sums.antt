@@ -161,17 +161,6 @@ module _ (f : Changing) (g : Standing) (a : Inputs) where
         before None = zero_more left
         before (Some counted) = ap (λ n. n + left) (no_weight counted) ∙ zero_more left
 
-    -- nor does one that stands still
-    pub selector_kept : (counted : Counted) → get b.selectors t ≡ Some counted → nat_lt 1 counted.uses ≡ true → between f g a (record b { selectors = lowered b.selectors t }) ≡ between f g a b
-    selector_kept counted there again =
-        let fewer : Counted = record counted { uses = counted.uses - 1 } in
-        let left = sum_over weight (entries (remove b.selectors t)) in
-        let is : lowered b.selectors t ≡ insert b.selectors t fewer = ap (λ o. put_or_removed b.selectors t (lowered_in o)) there ∙ ap (λ c. put_or_removed b.selectors t (cond c (Some fewer) None)) again in
-        ap (λ n. of_items + n) (
-        over (lowered b.selectors t) ∙ ap (λ s. sum_over weight (entries s)) is ∙ sum-insert nat_list_cmp_total bytes_exact weight b.selectors t fewer
-        ∙ ap (λ o. sum_at weight t o + left) (sym there)
-        ∙ sym (over b.selectors ∙ sum-remove nat_list_cmp_total bytes_exact weight b.selectors t))
-
 -- ---- steps
 later_same : (a b : Bool) (n : ℕ) → (a ≡ true → b ≡ true) → cond b 0 (cond a 0 n) ≡ cond b 0 n
 later_same true b n h = ap (λ c. cond c 0 0) (h refl) ∙ sym (ap (λ c. cond c 0 n) (h refl))
@@ -190,18 +179,12 @@ module _ (a b : Inputs) (t : List ℕ) (tree : Tree) (m k n : ℕ) (before : IsT
       (IsTicked-sum (least_between a b) (most_between a b) (at_put holds_on b t tree) (at_put met_on b t tree) m k n before put))
 
 module _ (a b : Inputs) (t : List ℕ) (m k : ℕ) (before : IsTested a b m k) where
-  -- one that is removed, with no test, stood at first or stands still
+  -- one that is removed, with no test, stood at first
   pub then_lowered : contains_key a.selectors t ≡ true → IsTested a (record b { selectors = lowered b.selectors t }) m k
   then_lowered old =
       let c : Inputs = record b { selectors = lowered b.selectors t } in
       subst (λ l. IsTicked l (most_between a c) m k) (sym (selector_lowered comes holds_on a b t old))
       (subst (λ h. IsTicked (least_between a b) h m k) (sym (selector_lowered either met_on a b t old)) before)
-
-  pub then_kept : (counted : Counted) → get b.selectors t ≡ Some counted → nat_lt 1 counted.uses ≡ true → IsTested a (record b { selectors = lowered b.selectors t }) m k
-  then_kept counted there again =
-      let c : Inputs = record b { selectors = lowered b.selectors t } in
-      subst (λ l. IsTicked l (most_between a c) m k) (sym (selector_kept comes holds_on a b t counted there again))
-      (subst (λ h. IsTicked (least_between a b) h m k) (sym (selector_kept either met_on a b t counted there again)) before)
 
 -- an item that is put
 pub item_tested : (a : Inputs) (i : ItemKey) (h : Held) (m n : ℕ) → IsTicked (at_item comes a (get a.parents) (i, h)) (at_item either a (get a.parents) (i, h)) m n → IsTested a (record a { items = insert a.items i h }) m n

@@ -1,5 +1,5 @@
 -- How the tests of several calls add up, from the inputs before the first to those after the last.
-use Rattle.std.proofs.Common.{◌≡◌, ℕ, ◌+◌, true, false, nat_lt, cond, List, Some, is_some, refl, ap, ◌∙◌, subst, arith}
+use Rattle.std.proofs.Common.{◌≡◌, ℕ, ◌+◌, true, false, cond, List, Some, is_some, refl, ap, ◌∙◌, subst, arith}
 use Rattle.std.specs.FinMap.{get, contains_key}
 use Rattle.fx_base.specs.Ticks.{IsTicked}
 use Rattle.fx_selector.specs.Tree.{Tree}
@@ -8,7 +8,7 @@ use Rattle.fx_label_index.specs.Matched.{labels_of, holds_on}
 use Rattle.fx_label_index.specs.Tested.{Changing, Standing, either, comes, met_on, on_items, between, at_put, least_between, IsTested}
 use Rattle.fx_label_index.specs.declared.counted.Counted.{Counted}
 use Rattle.fx_label_index.specs.declared.held.Inputs.{Inputs}
-use Rattle.fx_label_index.proofs.Sums.{none_between, selector_raised, then_raised, then_lowered, then_kept}
+use Rattle.fx_label_index.proofs.Sums.{none_between, selector_raised, then_raised, then_lowered}
 
 no_less : (n : ℕ) → 0 + n ≡ n
 no_less n = omega arith
@@ -33,14 +33,6 @@ module _ (b : Inputs) (t : List ℕ) (tree : Tree) (one : (counted : Counted) �
   pub raise_then_raise : (a : Inputs) (m k n : ℕ) → IsTested a b m k → (contains_key a.selectors t ≡ true → contains_key b.selectors t ≡ true) → IsTested b (record b { selectors = raised b.selectors t tree }) k n → IsTested a (record b { selectors = raised b.selectors t tree }) m n
   raise_then_raise a m k n before kept it = then_raised a b t tree m k n before kept one (as_put k n it)
 
-  -- and after labels
-  pub labels_then_raise : (a : Inputs) (m k n : ℕ) → IsTested a b m k → b.selectors ≡ a.selectors → IsTested b (record b { selectors = raised b.selectors t tree }) k n → IsTested a (record b { selectors = raised b.selectors t tree }) m n
-  labels_then_raise a m k n before same it = raise_then_raise a m k n before (λ h. ap (λ s. contains_key s t) same ∙ h) it
-
 -- a selector that is removed last, with no test, stood at first
 pub then_lower : (a b : Inputs) (t : List ℕ) (m k : ℕ) → IsTested a b m k → contains_key a.selectors t ≡ true → IsTested a (record b { selectors = lowered b.selectors t }) m k
 then_lower a b t m k before old = then_lowered a b t m k before old
-
--- or stands still
-pub then_lower_once : (a b : Inputs) (t : List ℕ) (m k : ℕ) → IsTested a b m k → (counted : Counted) → get b.selectors t ≡ Some counted → nat_lt 1 counted.uses ≡ true → IsTested a (record b { selectors = lowered b.selectors t }) m k
-then_lower_once a b t m k before counted there again = then_kept a b t m k before counted there again
