@@ -1,3 +1,4 @@
 pub mod InvariantLemmas
+pub mod Swapped
 pub mod Exchanged
 pub mod Filled

@@ -2,7 +2,9 @@
 #![tactic(auto)]
 
 pub use hook::{first_chain_name, is_first_chain};
+pub use places::{insert_at, remove_at};
 pub use tables::Tables;
 
 mod hook;
+mod places;
 mod tables;

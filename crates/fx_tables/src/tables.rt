@@ -1,9 +1,11 @@
 //! The tables, and the operations on them.
-ghost use Rattle.std.specs.Prelude.{◌≡◌, OnOk, OnErr, IsSome, true, false};
+ghost use Rattle.std.specs.Prelude.{◌≡◌, ◌<◌, length, OnOk, OnErr, IsSome, true, false};
+ghost use Rattle.std.specs.List.{insert, remove};
 ghost use Rattle.std.specs.Option.{option_copied};
 ghost use Rattle.std.specs.FinMap as map;
 ghost use Rattle.fx_base.specs.Set as set;
 ghost use Rattle.fx_base.specs.Ticks.{ticked};
+ghost use Rattle.fx_model.specs.Machine.{rules_in};
 ghost use Rattle.fx_model.specs.Messages.{members_of};
 ghost use Rattle.fx_model.specs.Ranks.{AllLeadBelow, IsRanked, rank_of};
 ghost use Rattle.fx_model.specs.Closed.{AllLeadThere, AllNameThere, AreClosedTables};
@@ -11,6 +13,7 @@ ghost use Rattle.fx_model.specs.Shapes.{have_shape, is_member_of, AreShaped, Are
 ghost use Rattle.fx_tables.specs.Leads.{NoneLeadsTo};
 ghost use Rattle.fx_tables.specs.Names.{NoneNames};
 
+use crate::places::{insert_at, remove_at};
 use fx_base::{ChainMap, ChainName, Memory, Seq, SetMap, SetName, Ticker};
 use fx_model::{ChainRule, Member, MemberSet};
 use std::alloc::Global;
@@ -131,6 +134,47 @@ impl Tables {
         Ok(())
     }
 
+    /// Puts a rule into a chain, in front of the one at this place: the chain is written with one rule more. Counts as one
+    /// operation, also if memory runs out.
+    pub fn insert_rule<O: Ticker>(
+        &mut self,
+        name: ChainName,
+        place: usize,
+        rule: ChainRule,
+        operations: &mut O,
+    ) -> Result<(), Memory>
+        requires within { place < length (rules_in self.old.chains name) }
+        requires there { AllLeadThere self.old.chains (insert (rules_in self.old.chains name) place rule) }
+        requires below { AllLeadBelow (rank_of name) (insert (rules_in self.old.chains name) place rule) }
+        requires named { AllNameThere self.old.sets (insert (rules_in self.old.chains name) place rule) }
+        requires shaped { have_shape (insert (rules_in self.old.chains name) place rule) ≡ true }
+        ensures ok { OnOk result (self.new ≡ record self.old {
+          chains = map.insert self.old.chains name (insert (rules_in self.old.chains name) place rule);
+        }) }
+        ensures err { OnErr result (self.new ≡ self.old) }
+        ensures counted { O.number operations.new ≡ ticked 1 (O.number operations.old) }
+    {
+        operations.tick();
+        insert_into_chain(self.alloc, &mut self.chains, name, place, rule)?;
+        Ok(())
+    }
+
+    /// Takes the rule at a place out of a chain: the chain is written with one rule less. Counts as one operation.
+    pub fn remove_rule<O: Ticker>(&mut self, name: ChainName, place: usize, operations: &mut O)
+        requires within { place < length (rules_in self.old.chains name) }
+        requires there { AllLeadThere self.old.chains (remove (rules_in self.old.chains name) place) }
+        requires below { AllLeadBelow (rank_of name) (remove (rules_in self.old.chains name) place) }
+        requires named { AllNameThere self.old.sets (remove (rules_in self.old.chains name) place) }
+        requires shaped { have_shape (remove (rules_in self.old.chains name) place) ≡ true }
+        ensures gone { self.new ≡ record self.old {
+          chains = map.insert self.old.chains name (remove (rules_in self.old.chains name) place);
+        } }
+        ensures counted { O.number operations.new ≡ ticked 1 (O.number operations.old) }
+    {
+        operations.tick();
+        remove_from_chain(self.alloc, &mut self.chains, name, place);
+    }
+
     /// Deletes a chain. Counts as one operation.
     pub fn delete_chain<O: Ticker>(&mut self, name: ChainName, operations: &mut O)
         requires { NoneLeadsTo self.old.chains name }
@@ -209,4 +253,42 @@ fn remove_from(alloc: Global, sets: &mut SetMap<MemberSet>, name: SetName, membe
     sets.swap(&name, &mut members);
     members.remove(member);
     sets.swap(&name, &mut members);
+}
+
+// Puts a rule into the chain of this name, which has a rule at the place.
+#[tactic(auto, using(crate::proofs::Swapped::swapped))]
+fn insert_into_chain(
+    alloc: Global,
+    chains: &mut ChainMap<Seq<ChainRule>>,
+    name: ChainName,
+    place: usize,
+    rule: ChainRule,
+) -> Result<(), Memory>
+    requires { place < length (rules_in chains.old name) }
+    ensures ok { OnOk result (chains.new ≡ map.insert chains.old name (insert (rules_in chains.old name) place rule)) }
+    ensures err { OnErr result (chains.new ≡ chains.old) }
+{
+    let mut rules = Seq::new(alloc);
+    chains.swap(&name, &mut rules);
+    let added = insert_at(alloc, &mut rules, place, rule);
+    chains.swap(&name, &mut rules);
+    added?;
+    Ok(())
+}
+
+// Takes the rule at a place out of the chain of this name, which has one there.
+#[tactic(auto, using(crate::proofs::Swapped::swapped))]
+fn remove_from_chain(
+    alloc: Global,
+    chains: &mut ChainMap<Seq<ChainRule>>,
+    name: ChainName,
+    place: usize,
+)
+    requires { place < length (rules_in chains.old name) }
+    ensures { chains.new ≡ map.insert chains.old name (remove (rules_in chains.old name) place) }
+{
+    let mut rules = Seq::new(alloc);
+    chains.swap(&name, &mut rules);
+    remove_at(alloc, &mut rules, place);
+    chains.swap(&name, &mut rules);
 }
