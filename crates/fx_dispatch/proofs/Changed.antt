@@ -36,7 +36,7 @@ use Rattle.fx_dispatch.proofs.Written.{ob, nb, writes_between, deletes_between, 
 
 -- ---- equal rules are of equal names
 
-ways-refl : (w : Way) → way.eq-value.it w w ≡ true
+pub ways-refl : (w : Way) → way.eq-value.it w w ≡ true
 ways-refl (Own name) = bytes-refl name
 ways-refl (Shared prefix byte) = ap (λ t. t && pointwise nat_eq byte byte) (bytes-refl prefix) ∙ bytes-refl byte
 

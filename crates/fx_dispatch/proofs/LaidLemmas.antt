@@ -50,13 +50,13 @@ module _ (tree : Tree) (os ns : List (List ℕ)) (byte : List ℕ) (ys : List (L
       sym (ways_one p byte tree.branches ys) ∙ ap (flat_map (branch_ways p)) moved.parts
       ∙ ap (λ q. flat_map (branch_ways q) (branches q ns)) (sym moved.shares)
 
-  written_one : (d : Direction) → child_write d (entries tree.branches) (byte, ys) ≡ flat_map (child_write d (branches_of os)) (branches_of ns)
+  pub written_one : (d : Direction) → child_write d (entries tree.branches) (byte, ys) ≡ flat_map (child_write d (branches_of os)) (branches_of ns)
   written_one d =
       ap (λ bs. child_write d bs (byte, ys)) before
       ∙ sym (writes_one (branches p os) (branches p ns) byte ys after d (branches-sorted p ns) (each_found p ns))
       ∙ (λ i. flat_map (child_write d (old_is i)) (new_is i))
 
-  deleted_one : (d : Direction) → delete_at d (entries tree.branches) byte ys ≡ flat_map (child_delete d (branches_of ns)) (branches_of os)
+  pub deleted_one : (d : Direction) → delete_at d (entries tree.branches) byte ys ≡ flat_map (child_delete d (branches_of ns)) (branches_of os)
   deleted_one d =
       ap (λ bs. delete_at d bs byte ys) before
       ∙ sym (deletes_one (branches p os) (branches p ns) byte ys after d (branches-sorted p os) (each_found p os))

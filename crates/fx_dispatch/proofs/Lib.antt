@@ -14,4 +14,7 @@ pub mod Beginnings
 pub mod Regrouped
 pub mod OneBranch
 pub mod LaidLemmas
+pub mod OneMore
+pub mod OneRule
 pub mod Promised
+pub mod HeldEdits

@@ -23,7 +23,7 @@ use Rattle.fx_dispatch.specs.Differences.{are_found, child_write, child_delete, 
 use Rattle.fx_dispatch.specs.Ways.{branch_ways}
 use Rattle.fx_dispatch.proofs.EntryParts.{lower, upper, put_parts, others_parts, entries-remove}
 
-none_then : {A : Type 0} (t : Bool) (xs : List A) → (if t && false then xs else []) ≡ []
+pub none_then : {A : Type 0} (t : Bool) (xs : List A) → (if t && false then xs else []) ≡ []
 none_then true xs = refl
 none_then false xs = refl
 
@@ -31,7 +31,7 @@ never_both : {A : Type 0} (t : Bool) (xs : List A) → (if t && not t then xs el
 never_both true xs = refl
 never_both false xs = refl
 
-no_child : (byte : List ℕ) → has_child byte [] ≡ false
+pub no_child : (byte : List ℕ) → has_child byte [] ≡ false
 no_child [] = refl
 no_child (n ∷ byte) = refl
 

@@ -21,6 +21,7 @@ use Rattle.fx_dispatch.specs.Beside.{BranchMap, is_below, is_above, with_placed,
 use Rattle.fx_dispatch.specs.Laid.{IsTreeOf, IsRegrouped}
 use Rattle.fx_dispatch.specs.Plans.{Names}
 use Rattle.fx_dispatch.proofs.Beginnings.{Starts, common_second, all_start, shared_with}
+use Rattle.fx_dispatch.proofs.Planned.{insert_there, remove_absent}
 use Rattle.fx_dispatch.proofs.EntryParts.{placed_filtered, left_filtered, items-insert, items-remove, passed-insert, passed-remove, all_filter}
 
 -- ---- branches with these names at a byte
@@ -155,6 +156,24 @@ module _ (tree : Tree) (s : Names) (x : List ℕ) (held : IsTreeOf tree (set.ite
       subst (λ k. IsRegrouped tree k ys (set.items (set.remove s x))) (sym e)
       (subst (λ (zs : List (List ℕ)). IsRegrouped tree byte zs (set.items (set.remove s x))) (sym g)
       (went (ap (λ (zs : List (List ℕ)). nat_lt (too_few zs) (maps.len tree.branches)) (sym g) ∙ fits)))
+
+  -- ---- the byte's names around the place of this one
+
+  absent_parts : set.contains s x ≡ false → found ≡ left_out x found
+  absent_parts h =
+      sym found_is ∙ ap (λ ys. going_on tree.shared byte ys) (ap set.items (remove_absent s x (sym h)) ∙ items-remove s x)
+      ∙ left_filtered (λ y. is byte (next_byte tree.shared y)) x (set.items s) ∙ ap (left_out x) found_is
+
+  there_parts : set.contains s x ≡ true → found ≡ with_placed x found
+  there_parts h =
+      sym found_is ∙ ap (λ ys. going_on tree.shared byte ys) (ap set.items (insert_there s x (sym h)) ∙ items-insert s x)
+      ∙ placed_filtered (λ y. is byte (next_byte tree.shared y)) x (set.items s) (is_itself byte) ∙ ap (with_placed x) found_is
+
+  pub found_absent : (b : List ℕ) → b ≡ byte → set.contains s x ≡ false → names_found (maps.get tree.branches b) ≡ left_out x (names_found (maps.get tree.branches b))
+  found_absent b e h = subst (λ k. names_found (maps.get tree.branches k) ≡ left_out x (names_found (maps.get tree.branches k))) (sym e) (absent_parts h)
+
+  pub found_there : (b : List ℕ) → b ≡ byte → set.contains s x ≡ true → names_found (maps.get tree.branches b) ≡ with_placed x (names_found (maps.get tree.branches b))
+  found_there b e h = subst (λ k. names_found (maps.get tree.branches k) ≡ with_placed x (names_found (maps.get tree.branches k))) (sym e) (there_parts h)
 
 -- where there are no names at a byte, none are left there
 pub none_left : (m : BranchMap) (k x : List ℕ) (ys : List (List ℕ)) → ys ≡ left_out x (names_found (maps.get m k)) → maps.get m k ≡ None → ys ≡ []

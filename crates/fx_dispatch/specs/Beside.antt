@@ -1,11 +1,11 @@
 -- Names and branches beside one: those below it and those above it, by their bytes.
-use Rattle.std.specs.Prelude.{ℕ, Bool, List, [], ◌∷◌, ◌++◌, filter, nat_eq}
+use Rattle.std.specs.Prelude.{ℕ, suc, Bool, false, cond, ◌&&◌, List, [], ◌∷◌, ◌++◌, filter, length, nat_eq, nat_lt, Option, Some, None}
 use Rattle.std.specs.List.{flat_map}
 use Rattle.std.specs.Ordering.{nat_cmp, is_lt}
 use Rattle.std.specs.Cmp.Lexicographic.{slice_cmp, pointwise}
 use Rattle.std.specs.FinMap as maps
 use Rattle.fx_dispatch.specs.declared.way.Way.{Way}
-use Rattle.fx_model.specs.Tree.{Branch, common_prefix}
+use Rattle.fx_model.specs.Tree.{Branch, common_prefix, has_child}
 use Rattle.fx_dispatch.specs.Ways.{branch_ways}
 
 abbrev pub is_below : List ℕ → List ℕ → Bool
@@ -23,6 +23,11 @@ with_placed x names = filter (is_below x) names ++ x ∷ filter (is_above x) nam
 -- these names without one
 abbrev pub left_out : List ℕ → List (List ℕ) → List (List ℕ)
 left_out x names = filter (is_below x) names ++ filter (is_above x) names
+
+-- the place of a name among names in order: behind those below it
+abbrev pub place_in : List ℕ → List (List ℕ) → ℕ
+place_in x [] = 0
+place_in x (y ∷ names) = cond (is_below x y) (suc (place_in x names)) 0
 
 -- the name begins so
 abbrev pub begins : List ℕ → List ℕ → Bool
@@ -43,6 +48,14 @@ with_branch byte (name ∷ names) branches = maps.insert branches byte (name ∷
 abbrev pub too_few : List (List ℕ) → ℕ
 too_few [] = 2
 too_few (name ∷ names) = 1
+
+-- a byte has a chain of more names than this, beside other branches
+abbrev pub more_than : ℕ → List ℕ → Option (List (List ℕ)) → ℕ → Bool
+more_than few byte None branches = false
+more_than few byte (Some names) branches = has_child byte names && (nat_lt few (length names) && nat_lt 1 branches)
+
+abbrev pub has_more : ℕ → List ℕ → BranchMap → Bool
+has_more few byte branches = more_than few byte (maps.get branches byte) (maps.len branches)
 
 -- the ways of the branches below a byte, and of those above it
 abbrev pub ways_below : List ℕ → List ℕ → List Branch → List Way

@@ -4,4 +4,5 @@ pub mod Differences
 pub mod Narrowing
 pub mod Plans
 pub mod Beside
+pub mod Edits
 pub mod Laid

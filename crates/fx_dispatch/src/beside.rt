@@ -1,6 +1,6 @@
 //! Names in order, with one more or without one.
-ghost use Rattle.std.specs.Prelude.{◌≡◌, ◌++◌, filter, IfOk, OnOk};
-ghost use Rattle.fx_dispatch.specs.Beside.{is_above, is_below, left_out, with_placed};
+ghost use Rattle.std.specs.Prelude.{◌≡◌, ◌≤◌, ◌++◌, filter, length, IfOk, OnOk};
+ghost use Rattle.fx_dispatch.specs.Beside.{is_above, is_below, left_out, place_in, with_placed};
 
 use crate::interfaces::Interface;
 use fx_base::{Memory, Seq};
@@ -55,4 +55,16 @@ pub fn without_name(
     push_below(all, name, &mut names)?;
     push_above(all, name, &mut names)?;
     Ok(names)
+}
+
+/// The place of a name among names in order: behind those below it.
+pub fn place_in(all: &[Interface], name: &Interface) -> usize
+    ensures within { result ≤ length all.now }
+    ensures found { result ≡ place_in name.now all.now }
+{
+    let mut place = 0;
+    while place < all.len() && all[place].cmp(name).is_lt() {
+        place += 1;
+    }
+    place
 }

@@ -1,14 +1,16 @@
 //! The names of interfaces by the byte that follows what they share.
-ghost use Rattle.std.specs.Prelude.{◌≡◌, ◌++◌, [], ◌∷◌, IfOk, OnOk, None, nat_lt};
+ghost use Rattle.std.specs.Prelude.{◌≡◌, ◌<◌, ◌≤◌, ◌++◌, [], ◌∷◌, length, IfOk, OnOk, OnErr, IsSome, None, nat_lt};
+ghost use Rattle.std.specs.List.{insert, remove};
 ghost use Rattle.std.specs.FinMap as map;
 ghost use Rattle.fx_base.specs.Set as set;
 ghost use Rattle.fx_model.specs.Tree.{branches, has_child, names_found};
-ghost use Rattle.fx_dispatch.specs.Beside.{too_few, with_branch};
+ghost use Rattle.fx_dispatch.specs.Beside.{has_more, too_few, with_branch};
 
 use crate::interfaces::{Interface, Interfaces};
 use crate::shared::next_byte;
 use crate::way::NextByte;
 use fx_base::{FixedMap, Memory, Seq};
+use fx_tables::{insert_at, remove_at};
 use std::alloc::Global;
 
 /// Names by the byte that follows in them.
@@ -95,4 +97,51 @@ pub fn replace_names(branches: &mut Branches, byte: &NextByte, names: Seq<Interf
     } else {
         branches.swap(byte, &mut names);
     }
+}
+
+/// Whether a byte has a chain of more names than this, beside other branches.
+pub fn has_more(few: usize, byte: &NextByte, branches: &Branches) -> bool
+    ensures { result ≡ has_more few byte.now branches.now }
+{
+    match branches.get(byte) {
+        Some(names) => has_child(byte, names) && few < names.as_slice().len() && 1 < branches.len(),
+        None => false,
+    }
+}
+
+/// Puts a name at a place among those of a byte that is there. On want of memory nothing changes.
+#[tactic(auto, using(crate::proofs::OneMore::swapped))]
+pub fn insert_name(
+    alloc: Global,
+    branches: &mut Branches,
+    byte: &NextByte,
+    place: usize,
+    name: Interface,
+) -> Result<(), Memory>
+    requires there { IsSome (map.get branches.old byte.now) }
+    requires within { place ≤ length (names_found (map.get branches.old byte.now)) }
+    ensures ok { OnOk result (branches.new ≡ map.insert branches.old byte.now
+        (insert (names_found (map.get branches.old byte.now)) place name)) }
+    ensures err { OnErr result (branches.new ≡ branches.old) }
+{
+    let mut names = Seq::new(alloc);
+    branches.swap(byte, &mut names);
+    let added = insert_at(alloc, &mut names, place, name);
+    branches.swap(byte, &mut names);
+    added?;
+    Ok(())
+}
+
+/// Takes the name at a place from those of a byte that is there. Takes no memory.
+#[tactic(auto, using(crate::proofs::OneMore::swapped))]
+pub fn remove_name(alloc: Global, branches: &mut Branches, byte: &NextByte, place: usize)
+    requires there { IsSome (map.get branches.old byte.now) }
+    requires within { place < length (names_found (map.get branches.old byte.now)) }
+    ensures { branches.new ≡ map.insert branches.old byte.now
+        (remove (names_found (map.get branches.old byte.now)) place) }
+{
+    let mut names = Seq::new(alloc);
+    branches.swap(byte, &mut names);
+    remove_at(alloc, &mut names, place);
+    branches.swap(byte, &mut names);
 }

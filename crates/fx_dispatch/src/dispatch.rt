@@ -2,8 +2,10 @@
 ghost use Rattle.std.specs.Prelude.{◌≡◌, ◌≤◌, [], length, IfOk, OnOk, OnErr};
 ghost use Rattle.fx_base.specs.Set as set;
 ghost use Rattle.fx_model.specs.Tree.{dispatch_chains_of};
-ghost use Rattle.fx_dispatch.specs.Plans.{Replaces, ChangesOnly, IsExact, AreWritable, AreDeletable};
+ghost use Rattle.fx_dispatch.specs.Edits.{HasPlaces, deletes_in, writes_in};
+ghost use Rattle.fx_dispatch.specs.Plans.{Replaces, ChangesOnly, IsExact, AreWritable, AreDeletable, tree_of};
 
+use crate::edit::Edit;
 use crate::interfaces::{Interface, Interfaces};
 use crate::laid::Laid;
 use crate::names::root_chain_name;
@@ -69,41 +71,43 @@ impl Dispatch {
         }
     }
 
-    /// Adds an interface. Nothing is planned where it is there.
-    pub fn put(&mut self, iface: &Text) -> Result<Plan, Memory>
+    /// Adds an interface. Nothing is to do where it is there.
+    pub fn put(&mut self, iface: &Text) -> Result<Edit, Memory>
         requires { length iface.now ≤ 15 }
         ensures interfaces { OnOk result (self.new ≡ set.insert self.old iface.now) }
         ensures err { OnErr result (self.new ≡ self.old) }
-        ensures written { IfOk result (λ plan. Replaces self.old self.new plan.writes plan.deletes) }
-        ensures changed { IfOk result (λ plan. ChangesOnly self.old self.new plan.writes plan.deletes) }
-        ensures exact { IfOk result (λ plan. IsExact self.old self.new plan.writes plan.deletes) }
-        ensures writable { IfOk result (λ plan. AreWritable self.old self.new plan.writes) }
-        ensures deletable { IfOk result (λ plan. AreDeletable self.old plan.writes plan.deletes) }
+        ensures written { IfOk result (λ edit. Replaces self.old self.new (writes_in (tree_of self.old) edit) (deletes_in edit)) }
+        ensures changed { IfOk result (λ edit. ChangesOnly self.old self.new (writes_in (tree_of self.old) edit) (deletes_in edit)) }
+        ensures exact { IfOk result (λ edit. IsExact self.old self.new (writes_in (tree_of self.old) edit) (deletes_in edit)) }
+        ensures writable { IfOk result (λ edit. AreWritable self.old self.new (writes_in (tree_of self.old) edit)) }
+        ensures deletable { IfOk result (λ edit. AreDeletable self.old (writes_in (tree_of self.old) edit) (deletes_in edit)) }
+        ensures places { IfOk result (λ edit. HasPlaces (tree_of self.old) edit) }
     {
         let name = Interface::join(b"", iface.bytes());
         if self.laid.names.contains(&name) {
-            return Ok(no_plan(self.alloc, &self.laid.names));
+            return Ok(Edit::Chains(no_plan(self.alloc, &self.laid.names)));
         }
-        let plan = self.laid.add(self.alloc, name)?;
-        Ok(plan)
+        let edit = self.laid.add(self.alloc, name)?;
+        Ok(edit)
     }
 
-    /// Removes an interface. Nothing is planned where it isn't there.
-    pub fn remove(&mut self, iface: &Text) -> Result<Plan, Memory>
+    /// Removes an interface. Nothing is to do where it isn't there.
+    pub fn remove(&mut self, iface: &Text) -> Result<Edit, Memory>
         requires { length iface.now ≤ 15 }
         ensures interfaces { OnOk result (self.new ≡ set.remove self.old iface.now) }
         ensures err { OnErr result (self.new ≡ self.old) }
-        ensures written { IfOk result (λ plan. Replaces self.old self.new plan.writes plan.deletes) }
-        ensures changed { IfOk result (λ plan. ChangesOnly self.old self.new plan.writes plan.deletes) }
-        ensures exact { IfOk result (λ plan. IsExact self.old self.new plan.writes plan.deletes) }
-        ensures writable { IfOk result (λ plan. AreWritable self.old self.new plan.writes) }
-        ensures deletable { IfOk result (λ plan. AreDeletable self.old plan.writes plan.deletes) }
+        ensures written { IfOk result (λ edit. Replaces self.old self.new (writes_in (tree_of self.old) edit) (deletes_in edit)) }
+        ensures changed { IfOk result (λ edit. ChangesOnly self.old self.new (writes_in (tree_of self.old) edit) (deletes_in edit)) }
+        ensures exact { IfOk result (λ edit. IsExact self.old self.new (writes_in (tree_of self.old) edit) (deletes_in edit)) }
+        ensures writable { IfOk result (λ edit. AreWritable self.old self.new (writes_in (tree_of self.old) edit)) }
+        ensures deletable { IfOk result (λ edit. AreDeletable self.old (writes_in (tree_of self.old) edit) (deletes_in edit)) }
+        ensures places { IfOk result (λ edit. HasPlaces (tree_of self.old) edit) }
     {
         let name = Interface::join(b"", iface.bytes());
         if !self.laid.names.contains(&name) {
-            return Ok(no_plan(self.alloc, &self.laid.names));
+            return Ok(Edit::Chains(no_plan(self.alloc, &self.laid.names)));
         }
-        let plan = self.laid.take(self.alloc, &name)?;
-        Ok(plan)
+        let edit = self.laid.take(self.alloc, &name)?;
+        Ok(edit)
     }
 }

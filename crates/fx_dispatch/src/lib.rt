@@ -2,6 +2,7 @@
 #![tactic(auto)]
 
 pub use dispatch::{Dispatch, first_chains};
+pub use edit::Edit;
 pub use names::{child_chain_name, root_chain_name};
 pub use plan::{Plan, Writes};
 pub use way::NextByte;
@@ -9,6 +10,7 @@ pub use way::NextByte;
 mod beside;
 mod branches;
 mod dispatch;
+mod edit;
 mod interfaces;
 mod laid;
 mod names;

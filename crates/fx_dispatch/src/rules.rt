@@ -15,7 +15,8 @@ use fx_model::{ChainRule, End, Match, Reason, Target};
 use fx_rules::{one, plain, tagged};
 use std::alloc::Global;
 
-fn own_rule(alloc: Global, ingress: bool, name: &Interface) -> Result<ChainRule, Memory>
+/// The rule that leads to an interface's endpoint.
+pub fn own_rule(alloc: Global, ingress: bool, name: &Interface) -> Result<ChainRule, Memory>
     ensures { IfOk result (λ rule. rule ≡ own_rule (direction_of ingress) name.now) }
 {
     let end = if ingress { End::Dest } else { End::Source };

@@ -4,10 +4,10 @@ ghost use Rattle.std.specs.List.{flat_map};
 ghost use Rattle.std.specs.FinMap as maps;
 ghost use Rattle.fx_base.specs.Set as set;
 ghost use Rattle.fx_model.specs.Tree.{branches, shared_prefix};
-ghost use Rattle.fx_dispatch.specs.Beside.{begins, too_few, ways_above, ways_below, ways_with};
+ghost use Rattle.fx_dispatch.specs.Beside.{begins, has_more, too_few, ways_above, ways_below, ways_with};
 ghost use Rattle.fx_dispatch.specs.Ways.{branch_ways, root_ways};
 
-use crate::branches::{Branches, are_parted, branches_of, has_child};
+use crate::branches::{Branches, are_parted, branches_of, has_child, has_more};
 use crate::interfaces::{Interface, Interfaces};
 use crate::shared::{begins, shared_prefix};
 use crate::way::{NextByte, Prefix, Way};
@@ -131,6 +131,13 @@ impl Tree {
             && nat_lt (too_few branch.now) (maps.len self.now.branches)) }
     {
         begins(name, &self.shared) && are_parted(&self.branches, branch)
+    }
+
+    /// Whether a name changes the chain of its byte alone: it begins as all do, and the byte has a chain.
+    pub fn has_room(&self, name: &Interface, byte: &NextByte) -> bool
+        ensures { result ≡ (begins name.now self.now.shared && has_more 1 byte.now self.now.branches) }
+    {
+        begins(name, &self.shared) && has_more(1, byte, &self.branches)
     }
 
     /// The root's ways where one byte has these names.

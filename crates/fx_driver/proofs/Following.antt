@@ -19,6 +19,7 @@ use Rattle.fx_model.specs.Messages.{members_of, Change, SetAdd, SetDelta, Policy
 use Rattle.fx_model.specs.Tables.{ChainName, Chains, Tables, policy_chain, profile_chain, endpoint_chain}
 use Rattle.fx_model.specs.ViewTables.{policy_chains, profile_chains, endpoint_chains}
 use Rattle.fx_model.specs.Writing.{CanBeWritten}
+use Rattle.fx_model.specs.Tree.{HoldsTree}
 use Rattle.fx_tables.specs.Leads.{NoneLeadsTo}
 use Rattle.fx_laws.proofs.Removing.{found_passes}
 use Rattle.fx_laws.proofs.StepClosed.{step-closed}
@@ -134,6 +135,13 @@ module _ (driver : Driver) (s w : View) (drives : Drives driver s) (k : List ℕ
   abbrev written : Chains
   written = extended (driven_chains s) (endpoint_chains (k, e))
 
+  -- the tables with the endpoint's chains hold the tree as it was
+  pub put_holds : (t : Tables) → t ≡ record driver.tables { chains = extended driver.tables.chains (endpoint_chains (k, e)) } → HoldsTree (set.items driver.dispatch) t.chains
+  put_holds t first =
+      subst (λ (u : Tables). HoldsTree (set.items driver.dispatch) u.chains)
+      (sym (first ∙ ap (λ (u : Tables). record u { chains = extended u.chains (endpoint_chains (k, e)) }) drives.tables))
+      (holds_tree s after after_closed written (endpoint_written s w k e wanted) driver.dispatch drives.interfaces)
+
   module _ (t : Tables) (first : t ≡ record driver.tables { chains = extended driver.tables.chains (endpoint_chains (k, e)) }) (new : Names) (more : new ≡ set.insert driver.dispatch k) (writes : plans.Writes) (deletes : List ChainName) where
     written_is : t ≡ record { sets = s.sets; chains = written }
     written_is = first ∙ ap (λ (u : Tables). record u { chains = extended u.chains (endpoint_chains (k, e)) }) drives.tables
@@ -181,6 +189,11 @@ module _ (driver : Driver) (s w : View) (drives : Drives driver s) (k : List ℕ
   keys_after_gone j =
       keys_gone driver.dispatch s.endpoints w.endpoints k drives.interfaces gone j
       ∙ ap (λ (v : View). maps.contains_key v.endpoints j) (sym (stepped s w (EndpointGone k) is.next))
+
+  pub gone_holds : HoldsTree (set.items driver.dispatch) driver.tables.chains
+  gone_holds =
+      of_driven (λ t. HoldsTree (set.items driver.dispatch) t.chains) driver s drives
+      (holds_tree s s is.from.closed (driven_chains s) (own_tree s) driver.dispatch drives.interfaces)
 
   module _ (new : Names) (fewer : new ≡ set.remove driver.dispatch k) (writes : plans.Writes) (deletes : List ChainName) where
     left_names : HasKeys new left.endpoints

@@ -12,3 +12,4 @@ pub mod Bare
 pub mod Counts
 pub mod MessageCosts
 pub mod OneNumber
+pub mod RuleSteps

@@ -221,8 +221,8 @@ impl Driver {
         ensures first { HasFirst self.old.tables.chains → HasFirst self.new.tables.chains }
     {
         write_endpoint(self.alloc, iface, endpoint, &mut self.tables, operations)?;
-        let plan = self.dispatch.put(iface)?;
-        carry_out(plan, &mut self.tables, operations)?;
+        let edit = self.dispatch.put(iface)?;
+        carry_out(edit, &mut self.tables, operations)?;
         Ok(())
     }
 
@@ -235,10 +235,10 @@ impl Driver {
             (O.number operations.old) (O.number operations.new)) }
         ensures first { HasFirst self.old.tables.chains → HasFirst self.new.tables.chains }
     {
-        let plan = self.dispatch.remove(iface)?;
+        let edit = self.dispatch.remove(iface)?;
         let to = endpoint_chain_name(true, iface);
         let from = endpoint_chain_name(false, iface);
-        carry_out(plan, &mut self.tables, operations)?;
+        carry_out(edit, &mut self.tables, operations)?;
         delete_both(to, from, &mut self.tables, operations);
         Ok(())
     }
