@@ -19,7 +19,7 @@ from felix_tools.start import answered
 DESCRIPTION = """\
 Runs the proved program on each input as often as it asks for memory, and refuses one growth each time: the first, the
 second, and so on. Each run must end with status 5, having written a prefix of what the program writes where no growth is
-refused, or end as though none had been.
+refused.
 
   tools/refuse-memory crates/examples/data/*.jsonl
   tools/refuse-memory --soak 7 --count 200
@@ -43,9 +43,8 @@ SHOWN_FAULTS = 10
 
 # How a run ended, what it wrote, and how often it asked for memory, where that is known.
 Ended = collections.namedtuple("Ended", "status output growths")
-# What became of the runs on an input: how many lines each wrote that ended for want of memory, how many ended as though
-# nothing had been refused, and in words what else happened.
-Sweep = collections.namedtuple("Sweep", "lines_written unharmed faults")
+# What became of the runs on an input: how many lines each wrote that ended for want of memory, and in words what else happened.
+Sweep = collections.namedtuple("Sweep", "lines_written faults")
 
 
 def main(words):
@@ -190,18 +189,18 @@ def is_as(ended, whole):
 
 
 def judged(whole, ends):
-    lines_written, unharmed, faults = collections.Counter(), 0, []
+    lines_written, faults = collections.Counter(), []
     for refused, ended in ends:
         if ended.status == MEMORY and whole.output.startswith(ended.output):
             lines_written[ended.output.count(b"\n")] += 1
-        elif is_as(ended, whole):
-            unharmed += 1
         else:
             faults.append("growth %d: %s" % (refused, fault_words(whole, ended)))
-    return Sweep(lines_written, unharmed, faults)
+    return Sweep(lines_written, faults)
 
 
 def fault_words(whole, ended):
+    if is_as(ended, whole):
+        return "status %d, as though nothing had been refused" % ended.status
     kept = len(os.path.commonprefix([whole.output, ended.output]))
     how = "status %d" % ended.status if ended.status >= 0 else "signal %d" % -ended.status
     if kept < len(ended.output):
@@ -218,8 +217,6 @@ def tell(name, swept):
     print("%s: %s refused in turn, %d of them with status 5" % (name, many(count, "growth"), ended))
     if ended:
         print("    written by then, of %s: %s" % (many(whole.output.count(b"\n"), "line"), written_words(found.lines_written)))
-    if found.unharmed:
-        print("    ended as though nothing had been refused: %d" % found.unharmed)
     for fault in found.faults[:SHOWN_FAULTS]:
         print("    WRONG: %s" % fault)
     if len(found.faults) > SHOWN_FAULTS:

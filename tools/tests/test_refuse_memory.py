@@ -78,11 +78,11 @@ class Sweeps(unittest.TestCase):
         good, _ = told(Stand([(0, WHOLE), (5, b"on")], growths=1))
         self.assertTrue(good)
 
-    def test_a_run_that_does_without_is_told(self):
+    def test_a_run_that_does_without_is_wrong(self):
         runner = Stand([(1, WHOLE), (1, WHOLE), (5, b"one\n")], growths=2)
-        self.assertEqual(told(runner), (True, "input: 2 growths refused in turn, 1 of them with status 5\n"
-                                              "    written by then, of 3 lines: 1 (1 time)\n"
-                                              "    ended as though nothing had been refused: 1\n"))
+        self.assertEqual(told(runner), (False, "input: 2 growths refused in turn, 1 of them with status 5\n"
+                                               "    written by then, of 3 lines: 1 (1 time)\n"
+                                               "    WRONG: growth 1: status 1, as though nothing had been refused\n"))
 
     def test_what_is_wrong(self):
         for end, words in [
