@@ -3,6 +3,7 @@ import argparse
 import collections
 import os
 import re
+import subprocess
 import sys
 import tempfile
 import time
@@ -29,7 +30,8 @@ NAME_LIMIT = 253
 TEXT_LIMIT = 65536
 NESTING = 64
 # A tenth and all of what makes work.
-POLICIES = (10000, 100000)
+# Each policy that comes to an endpoint makes its list of them anew, so more of these take minutes (docs/HOSTILE.md).
+POLICIES = (1000, 10000)
 PROFILES = (1000, 10000)
 NETS = (100, 1000)
 MEMBERS = (20000, 200000)
@@ -205,26 +207,39 @@ def run_all(options):
     return 1 if wrong else 0
 
 
+# Runs a program and tells its end and its memory. What a child is said to have used is never less than what its parent did when it
+# began, so this stands between.
+ALONE = """\
+import os, sys
+child = os.posix_spawn(sys.argv[1], sys.argv[1:], os.environ)
+_, ended, usage = os.wait4(child, 0)
+sys.stderr.write("%d %d" % (ended, usage.ru_maxrss))
+"""
+
+
 def run(path, it):
     """Runs a case by itself, so that its time and its memory are its own."""
+    if not os.access(path, os.X_OK):
+        raise ProgramError("%s: no program" % path)
     with tempfile.TemporaryFile() as given, tempfile.TemporaryFile() as taken:
         given.write(it.input)
         given.seek(0)
         begun = time.monotonic()
-        process = start(path, it.node, given, taken)
-        _, ended, usage = os.wait4(process, 0)
+        command = [sys.executable, "-S", "-c", ALONE, path, "--node", it.node]
+        done = subprocess.run(command, stdin=given, stdout=taken, stderr=subprocess.PIPE)
         seconds = time.monotonic() - begun
         taken.seek(0)
+        ended, kilobytes = end_words(path, done)
         status = os.WEXITSTATUS(ended) if os.WIFEXITED(ended) else -os.WTERMSIG(ended)
-        return Ran(status, taken.read().decode("utf-8", "replace"), seconds, usage.ru_maxrss / 1024)
+        return Ran(status, taken.read().decode("utf-8", "replace"), seconds, kilobytes / 1024)
 
 
-def start(path, node, given, taken):
-    moves = [(os.POSIX_SPAWN_DUP2, given.fileno(), 0), (os.POSIX_SPAWN_DUP2, taken.fileno(), 1)]
-    try:
-        return os.posix_spawn(path, [path, "--node", node], os.environ, file_actions=moves)
-    except OSError as fault:
-        raise ProgramError("%s: %s" % (path, fault.strerror))
+def end_words(path, done):
+    """How the program ended, and its memory."""
+    words = done.stderr.split()[-2:]
+    if done.returncode or not all(word.isdigit() for word in words):
+        raise ProgramError("%s: %s" % (path, done.stderr.decode("utf-8", "replace").strip().rpartition("\n")[2]))
+    return map(int, words)
 
 
 def tell(it, ran, most):

@@ -18,7 +18,7 @@ use Rattle.felix_replay.specs.Soak.{drawn_lines, tests_along, soak_least, soak_m
 answer_below : (R : Resources) (answer : Result Command Refusal) → tests_in least_tests R answer ≤ tests_in most_tests R answer
 answer_below R (Ok command.Blank) = omega arith
 answer_below R (Ok command.Tables) = omega arith
-answer_below R (Ok command.Flush) = omega arith
+answer_below R (Ok (command.Flush limit)) = omega arith
 answer_below R (Ok (command.Update u)) = least_below_most R u
 answer_below R (Ok (command.Packet a)) = omega arith
 answer_below R (Err r) = omega arith
