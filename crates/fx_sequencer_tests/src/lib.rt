@@ -1,5 +1,5 @@
 //! The tests of `fx_sequencer`: in which order messages come, and that they make the view that is wanted.
-#![tactic(auto, using(fx_base::proofs::AtKey::reads))]
+#![tactic(auto)]
 
 #[cfg(test)]
 mod bench;

@@ -11,6 +11,7 @@ use fx_sequencer::Sequencer;
 use std::alloc::Global;
 
 /// A set comes without members, and goes if it has none.
+#[tactic(auto, using(fx_base::proofs::AtKey::reads))]
 pub fn turn_set(
     alloc: Global,
     sequencer: &mut Sequencer,
@@ -34,6 +35,7 @@ pub fn turn_set(
 }
 
 /// A member of a set that is there.
+#[tactic(auto, using(fx_base::proofs::AtKey::reads))]
 pub fn turn_member(
     alloc: Global,
     sequencer: &mut Sequencer,
@@ -58,6 +60,7 @@ pub fn turn_member(
 }
 
 /// This policy comes, or the one that is there goes.
+#[tactic(auto, using(fx_base::proofs::AtKey::reads))]
 pub fn turn_policy(
     sequencer: &mut Sequencer,
     wanted: &mut View,
@@ -76,6 +79,7 @@ pub fn turn_policy(
 }
 
 /// This policy is the wanted one.
+#[tactic(auto, using(fx_base::proofs::AtKey::reads))]
 pub fn put_policy(
     sequencer: &mut Sequencer,
     wanted: &mut View,
@@ -91,6 +95,7 @@ pub fn put_policy(
 }
 
 /// This profile comes, or the one that is there goes.
+#[tactic(auto, using(fx_base::proofs::AtKey::reads))]
 pub fn turn_profile(
     sequencer: &mut Sequencer,
     wanted: &mut View,
@@ -111,6 +116,7 @@ pub fn turn_profile(
 }
 
 /// This endpoint comes, or the one that is there goes.
+#[tactic(auto, using(fx_base::proofs::AtKey::reads))]
 pub fn turn_endpoint(
     sequencer: &mut Sequencer,
     wanted: &mut View,
