@@ -1,3 +1,4 @@
+pub mod Exchanging
 pub mod ItemLemmas
 pub mod Meeting
 pub mod TextLemmas

@@ -1,6 +1,7 @@
 //! Items by the keys and the values of their labels.
-ghost use Rattle.std.specs.Prelude.{◌≡◌, ◌&&◌, ◌||◌, ℕ, List, Some, OnOk, IfOk, cond};
+ghost use Rattle.std.specs.Prelude.{◌≡◌, ◌&&◌, ◌||◌, ℕ, List, Some, OnOk, IfOk, cond, not, nat_eq};
 ghost use Rattle.std.specs.Option.{option_copied};
+ghost use Rattle.std.specs.Cmp.Lexicographic.{pointwise};
 ghost use Rattle.std.specs.FinMap as map;
 ghost use Rattle.fx_base.specs.Set as set;
 ghost use Rattle.fx_base.specs.Grouped.{same_text};
@@ -39,6 +40,23 @@ impl ItemsByLabel {
             (has_both (map.get self.old.by_key k) p)) }
     {
         change_all(self.alloc, &mut self.by_key, labels, item, standing)?;
+        Ok(())
+    }
+
+    /// Moves the item from under the labels that it had to those that it has. Under a label of both it stays.
+    pub fn exchange(
+        &mut self,
+        before: &Labels,
+        after: &Labels,
+        item: &ItemKey,
+    ) -> Result<(), Memory>
+        requires { (k : List ℕ) (v : List ℕ) → has_both (map.get self.old.by_key k) (v, item.now)
+            ≡ has_label (Some before.now) k v }
+        ensures { OnOk result ((k : List ℕ) (p : List ℕ × ItemKey) → has_both (map.get self.new.by_key k) p
+            ≡ cond (same_item p.1 item.now) (has_label (Some after.now) k p.0) (has_both (map.get self.old.by_key k) p)) }
+    {
+        change_others(self.alloc, &mut self.by_key, before, after, item, false)?;
+        change_others(self.alloc, &mut self.by_key, after, before, item, true)?;
         Ok(())
     }
 
@@ -107,6 +125,62 @@ fn change_all(
         change_one(alloc, by_key, &key, value, item, standing)?;
     }
     Ok(())
+}
+
+// Makes the item stand under each of the labels that the others haven't, or under none of these.
+fn change_others(
+    alloc: Global,
+    by_key: &mut TextMap<ItemRows>,
+    labels: &Labels,
+    others: &Labels,
+    item: &ItemKey,
+    standing: bool,
+) -> Result<(), Memory>
+    ensures { OnOk result ((k : List ℕ) (p : List ℕ × ItemKey) → has_both (map.get by_key.new k) p
+        ≡ cond ((has_label (Some labels.now) k p.0 && not (has_label (Some others.now) k p.0)) && same_item p.1 item.now)
+        standing (has_both (map.get by_key.old k) p)) }
+{
+    for (key, value) in labels.iter() {
+        change_unless(alloc, by_key, others, key.as_slice(), value, item, standing)?;
+    }
+    Ok(())
+}
+
+// Makes the item stand under the label, or not, unless the others have it.
+fn change_unless(
+    alloc: Global,
+    by_key: &mut TextMap<ItemRows>,
+    others: &Labels,
+    key: &[u8],
+    value: &Text,
+    item: &ItemKey,
+    standing: bool,
+) -> Result<(), Memory>
+    ensures { OnOk result ((k : List ℕ) (p : List ℕ × ItemKey) → has_both (map.get by_key.new k) p
+        ≡ cond (((same_text k key.now && same_text p.0 value.now) && not (has_label (Some others.now) k p.0))
+        && same_item p.1 item.now) standing (has_both (map.get by_key.old k) p)) }
+{
+    if has_value(others, key, value) {
+        return Ok(());
+    }
+    let key = Text::new(alloc, key)?;
+    change_one(alloc, by_key, &key, value, item, standing)?;
+    Ok(())
+}
+
+fn has_value(labels: &Labels, key: &[u8], value: &Text) -> bool
+    ensures { result ≡ has_label (Some labels.now) key.now value.now }
+{
+    match labels.get(key) {
+        Some(found) => is_value(value, found),
+        None => false,
+    }
+}
+
+fn is_value(value: &Text, found: &[u8]) -> bool
+    ensures { result ≡ pointwise nat_eq value.now found.now }
+{
+    value.bytes() == found
 }
 
 fn change_one(

@@ -36,7 +36,7 @@ const PROFILE: &str =
 "egress":[{"action":"Log","protocol":1,"icmp":{"type":8},"destination":{"notNets":["::","1.2.3.4"]}}],"labelsToApply":{"a":"b"}}}"#;
 
 const READ_PROFILE: &str =
-    "Put { key: Profile { name: Text { held: [112] } }, item: Profile(Profile { labels: Labels { alloc: Global, held: {[97]: Text { held: [98] }} }, \
+    "Put { key: Profile { name: Text { held: [112] } }, item: Profile(Profile { labels: Labels { alloc: Global, held: [([97], Text { held: [98] })] }, \
 ingress: Seq { held: [Rule { action: Deny, never: false, protocol: Some(Proto(6)), not_protocol: Some(Proto(17)), icmp: None, not_icmp: None, \
 source: Side { nets: Seq { held: [Net { addr: Ipv4(167772160), len: 8 }] }, not_nets: Seq { held: [] }, selector: None, not_selector: None, \
 ports: Seq { held: [Number(PortRange { low: 80, high: 80 }), Number(PortRange { low: 1, high: 9 }), Named(Text { held: [100, 110, 115] })] }, \
@@ -56,8 +56,8 @@ const ENDPOINT: &str =
 const READ_ENDPOINT: &str =
     "Put { key: Item(Endpoint { ns: Text { held: [97] }, name: Text { held: [119] } }), \
 item: Endpoint(Endpoint { node: Text { held: [110] }, iface: Text { held: [99, 97, 108, 105] }, \
-labels: Labels { alloc: Global, held: {[112, 114, 111, 106, 101, 99, 116, 99, 97, 108, 105, 99, 111, 46, 111, 114, 103, 47, \
-110, 97, 109, 101, 115, 112, 97, 99, 101]: Text { held: [97] }} }, \
+labels: Labels { alloc: Global, held: [([112, 114, 111, 106, 101, 99, 116, 99, 97, 108, 105, 99, 111, 46, 111, 114, 103, 47, \
+110, 97, 109, 101, 115, 112, 97, 99, 101], Text { held: [97] })] }, \
 addresses: Seq { held: [Ipv4(167772161), Ipv4(167772162)] }, \
 profiles: Seq { held: [Text { held: [112] }, Text { held: [113] }] }, \
 ports: Seq { held: [EndpointPort { name: Text { held: [98] }, proto: Proto(6), number: 80 }, \
@@ -69,15 +69,15 @@ const NET_SET: &str =
 
 const READ_NET_SET: &str =
     "Put { key: Item(NetSet { ns: Some(Text { held: [97] }), name: Text { held: [115] } }), \
-item: NetSet(NetSet { labels: Labels { alloc: Global, held: {[112, 114, 111, 106, 101, 99, 116, 99, 97, 108, 105, 99, 111, 46, \
-111, 114, 103, 47, 110, 97, 109, 101, 115, 112, 97, 99, 101]: Text { held: [97] }} }, \
+item: NetSet(NetSet { labels: Labels { alloc: Global, held: [([112, 114, 111, 106, 101, 99, 116, 99, 97, 108, 105, 99, 111, 46, \
+111, 114, 103, 47, 110, 97, 109, 101, 115, 112, 97, 99, 101], Text { held: [97] })] }, \
 nets: Seq { held: [Net { addr: Ipv4(167772160), len: 8 }] } }) }";
 
 const GLOBAL_SET: &str =
     r#"{"apiVersion":"projectcalico.org/v3","kind":"GlobalNetworkSet","metadata":{"name":"s","namespace":"a","labels":{"a":"b"}}}"#;
 
 const READ_GLOBAL_SET: &str = "Put { key: Item(NetSet { ns: None, name: Text { held: [115] } }), \
-item: NetSet(NetSet { labels: Labels { alloc: Global, held: {[97]: Text { held: [98] }} }, nets: Seq { held: [] } }) }";
+item: NetSet(NetSet { labels: Labels { alloc: Global, held: [([97], Text { held: [98] })] }, nets: Seq { held: [] } }) }";
 
 const TIER: &str =
     r#"{"apiVersion":"projectcalico.org/v3","kind":"Tier","metadata":{"name":"t"},"spec":{"order":-9223372036854775808,"defaultAction":"Pass"}}"#;

@@ -19,6 +19,7 @@ pub mod Sets
 pub mod Spelling
 pub mod Places
 pub mod LabelEntries
+pub mod LabelPlaces
 pub mod SameTree
 pub mod Others
 pub mod Between

@@ -1,43 +1,51 @@
 //! The labels of an item, seen as a finite map from texts to texts.
-ghost use Rattle.std.specs.Prelude.{◌≡◌, ◌&&◌, ◌++◌, IfOk, OnOk, nat_eq};
+ghost use Rattle.std.specs.Prelude.{◌≡◌, ◌&&◌, ◌++◌, IfOk, IfErr, OnOk, nat_eq};
 ghost use Rattle.std.specs.Option.{option_copied};
+ghost use Rattle.std.specs.Slice.Iter.{iter_rest};
 ghost use Rattle.std.specs.FinMap as map;
 ghost use Rattle.std.specs.Cmp.{on_per, and_per, on_equiv, and_equiv, partial_equiv_from_equiv};
-ghost use Rattle.std.specs.Cmp.Lexicographic.{pointwise, lists_per, lists_equiv, nat_list_eq_equiv};
+ghost use Rattle.std.specs.Ordering.{nat_cmp};
+ghost use Rattle.std.specs.Cmp.Lexicographic.{slice_cmp, pointwise, lists_per, lists_equiv, nat_list_eq_equiv};
 ghost use Rattle.fx_base.specs.Extended.{extended};
 ghost use Rattle.fx_base.specs.Keyed.{keyed};
 ghost use Rattle.fx_base.specs.Same.{same_bytes, same_finite};
+ghost use Rattle.fx_selector.specs.LabelPlaces.{Ascends, StandsAt, BelongsAt};
 ghost use Rattle.fx_selector.specs.Prefixed.{prefixed};
 
 use fx_base::{Exact, Memory, Text};
 use std::alloc::{AllocError, Global};
-use std::collections::BTreeMap;
-use std::collections::btree_map::Iter;
+use std::cmp::Ordering;
 use std::marker::Model;
+use std::slice::Iter;
+
+/// A label: its key and its value.
+type Label = (Vec<u8>, Text);
 
 /// Label values by their keys, both texts of any bytes.
+///
+/// An item has few labels, so they are a list in the order of their keys, which takes a tenth of the memory of a tree.
 #[derive(Debug, Drop)]
 pub struct Labels {
     alloc: Global,
-    held: BTreeMap<Vec<u8>, Text>,
+    held: Vec<Label>,
 }
 
 impl Model for Labels {
     ghost use Rattle.std.specs.Prelude.{ℕ, List};
     ghost use Rattle.std.specs.Ordering.{nat_cmp};
     ghost use Rattle.std.specs.Cmp.Lexicographic.{slice_cmp};
-    ghost use Rattle.std.specs.BTreeMap.{IsOrdered};
     ghost use Rattle.std.specs.FinMap as map;
     ghost use Rattle.std.specs.Coded.{coded_ℕ, coded_list};
     ghost use Rattle.fx_base.specs.Keyed.{keyed};
+    ghost use Rattle.fx_selector.specs.LabelPlaces.{Ascends};
 
     ghost Value = { map.FinMap (slice_cmp nat_cmp) (List ℕ) };
 
     ghost coded = { map.code (coded_list coded_ℕ) (coded_list coded_ℕ) };
 
-    ghost view = { λ a. map.from_entries (keyed (λ k. k.items) a.held.entries) };
+    ghost view = { λ a. map.from_entries (keyed (λ k. k.items) a.held.items) };
 
-    ghost invariant = { λ a. IsOrdered (λ x y. slice_cmp nat_cmp x.items y.items) a.held };
+    ghost invariant = { λ a. Ascends a.held.items };
 }
 
 impl Labels {
@@ -46,7 +54,7 @@ impl Labels {
     {
         Labels {
             alloc,
-            held: BTreeMap::new(alloc),
+            held: Vec::new(alloc),
         }
     }
 
@@ -54,9 +62,14 @@ impl Labels {
     pub fn put(&mut self, key: &[u8], value: &[u8]) -> Result<(), Memory>
         ensures { OnOk result (self.new ≡ map.insert self.old key.now value.now) }
     {
-        let key = Vec::from_slice(self.alloc, key)?;
         let value = Text::new(self.alloc, value)?;
-        self.held.insert(key, value)?;
+        match place(&self.held, key) {
+            Ok(at) => self.held[at].1 = value,
+            Err(at) => {
+                let key = Vec::from_slice(self.alloc, key)?;
+                self.held.insert(at, (key, value))?;
+            }
+        }
         Ok(())
     }
 
@@ -83,8 +96,8 @@ impl Labels {
     }
 
     /// The labels, by ascending keys.
-    pub fn iter(&self) -> Iter<'_, Vec<u8>, Text>
-        ensures { keyed (λ k. k.items) result ≡ map.entries self.now }
+    pub fn iter(&self) -> Iter<'_, (Vec<u8>, Text)>
+        ensures { keyed (λ k. k.items) (iter_rest result) ≡ map.entries self.now }
     {
         self.held.iter()
     }
@@ -92,11 +105,24 @@ impl Labels {
     pub fn get(&self, key: &[u8]) -> Option<&[u8]>
         ensures { option_copied result ≡ map.get self.now key.now }
     {
-        match self.held.get(key) {
-            Some(value) => Some(value.bytes()),
-            None => None,
+        match place(&self.held, key) {
+            Ok(at) => Some(self.held[at].1.bytes()),
+            Err(_) => None,
         }
     }
+}
+
+// Where the key stands among labels in the order of their keys, or where it would.
+fn place(labels: &[Label], key: &[u8]) -> Result<usize, usize>
+    requires { Ascends labels.now }
+    ensures found { IfOk result (StandsAt key.now labels.now) }
+    ensures missing { IfErr result (BelongsAt key.now labels.now) }
+{
+    labels.binary_search_by(
+        |label| -> Ordering
+            ensures { result ≡ slice_cmp nat_cmp label.now.0.items key.entry.now }
+        { label.0.as_slice().cmp(key) },
+    )
 }
 
 fn with_prefix(alloc: Global, prefix: &[u8], key: &[u8]) -> Result<Vec<u8>, Memory>

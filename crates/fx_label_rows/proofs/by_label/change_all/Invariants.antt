@@ -1,3 +1,4 @@
+use Rattle.std.specs.Slice.Iter.{iter_rest}
 use Rattle.std.proofs.Common.{◌≡◌, ℕ, ◌&&◌, cond, List, Some}
 use Rattle.std.specs.FinMap as map
 use Rattle.fx_base.specs.Keyed.{keyed}
@@ -8,5 +9,5 @@ use Rattle.fx_label_rows.proofs.by_label.change_all.Given as goal
 -- with the labels that are left, the rows are as they are to be
 abbrev pub invariant-loop-key : goal.invariant-loop-key
 invariant-loop-key l = (k : List ℕ) (p : List ℕ × ItemKey) →
-    cond (has_entry (keyed (λ k. k.items) l.key-iterator) k p.0 && same_item p.1 l.item) l.standing (has_both (map.get l.by_key k) p)
+    cond (has_entry (keyed (λ k. k.items) (iter_rest l.key-iterator)) k p.0 && same_item p.1 l.item) l.standing (has_both (map.get l.by_key k) p)
     ≡ cond (has_label (Some l.fn.labels) k p.0 && same_item p.1 l.item) l.standing (has_both (map.get l.fn.by_key k) p)

@@ -11,6 +11,6 @@ use Rattle.fx_selector.proofs.labels.Labels.prefixed.Goals as goal
 
 pub loop-key-init : goal.loop-key-init
 loop-key-init c =
-    ap (λ (m : LabelMap). extended m (map (prefixed_entry c.args.prefix.now) (keyed (λ k. k.items) c.into_iter-key-iterator.result))) c.new-labels.ensures
-    ∙ ap (λ es. collected (map (prefixed_entry c.args.prefix.now) (keyed (λ k. k.items) es))) (c.into_iter-key-iterator.ensures.into_iter_gives ∙ c.iter-key-items.ensures.rest)
+    ap (λ (m : LabelMap). extended m (map (prefixed_entry c.args.prefix.now) (keyed (λ k. k.items) c.deref-key-items.result.now))) c.new-labels.ensures
+    ∙ ap (λ es. collected (map (prefixed_entry c.args.prefix.now) (keyed (λ k. k.items) es))) c.deref-key-items.ensures.value
     ∙ ap (λ es. collected (map (prefixed_entry c.args.prefix.now) es)) (walked nat_list_cmp_total _ _ c.self.view_is (sorted-keyed (slice_cmp nat_cmp) (λ k. k.items) _ c.self.invariant))

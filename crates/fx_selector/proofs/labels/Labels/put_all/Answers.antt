@@ -9,5 +9,5 @@ use Rattle.fx_selector.proofs.labels.Labels.put_all.Goals as goal
 
 pub loop-key-init : goal.loop-key-init
 loop-key-init c =
-    ap (λ es. extended c.args.self.now (keyed (λ k. k.items) es)) (c.into_iter-key-iterator.ensures.into_iter_gives ∙ c.iter-key-items.ensures.rest)
+    ap (λ es. extended c.args.self.now (keyed (λ k. k.items) es)) c.deref-key-items.ensures.value
     ∙ ap (extended c.args.self.now) (walked nat_list_cmp_total _ _ c.labels.view_is (sorted-keyed (slice_cmp nat_cmp) (λ k. k.items) _ c.labels.invariant))

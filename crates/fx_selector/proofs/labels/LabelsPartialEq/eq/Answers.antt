@@ -9,4 +9,4 @@ pub returns : goal.returns
 returns c =
     let left = walked nat_list_cmp_total _ _ c.self.view_is (sorted-keyed (slice_cmp nat_cmp) (λ k. k.items) _ c.self.invariant) in
     let right = walked nat_list_cmp_total _ _ c.other.view_is (sorted-keyed (slice_cmp nat_cmp) (λ k. k.items) _ c.other.invariant) in
-    rw (← left, ← right) (c.eq.ensures ∙ pointwise-keyed {K = Vec ℕ Global} (λ k. k.items) (pointwise nat_eq) (pointwise nat_eq) c.self.inside.held.entries c.other.inside.held.entries)
+    rw (← left, ← right) (c.eq.ensures ∙ pointwise-keyed {K = Vec ℕ Global} (λ k. k.items) (pointwise nat_eq) (pointwise nat_eq) c.self.inside.held.items c.other.inside.held.items)
