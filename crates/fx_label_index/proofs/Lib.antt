@@ -7,6 +7,7 @@ pub mod Labelling
 pub mod Meeting
 pub mod Moving
 pub mod Needing
+pub mod Staying
 pub mod Sums
 pub mod Tested
 pub mod Told

@@ -55,6 +55,10 @@ pub record AreKept (selectors : Selectors) (x : Indexes) : Type 0 where
   pub by_need : AreNeeded selectors x.by_need
   pub texts : (i : ItemKey) (t : List ℕ) → has_key (map.get x.texts i) t ≡ tests (map.get selectors t) (map.get x.labels i)
 
+-- the parents that an item lists
+abbrev pub parents_of : Held → List (List ℕ)
+parents_of held = held.parents
+
 -- the item lists the parent
 abbrev pub lists : Option Held → List ℕ → Bool
 lists None name = false

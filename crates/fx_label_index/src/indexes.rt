@@ -1,14 +1,14 @@
 //! What follows from the inputs, kept so that a call looks at what it may change alone.
-ghost use Rattle.std.specs.Prelude.{◌≡◌, ◌≤◌, ◌+◌, ◌-◌, ◌^◌, min, ℕ, List, Some, None, IfOk, OnOk};
+ghost use Rattle.std.specs.Prelude.{◌≡◌, ◌≤◌, ◌+◌, ◌-◌, ◌^◌, min, ℕ, List, Some, None, IfOk, OnOk, cond};
 ghost use Rattle.std.specs.Option.{option_copied};
 ghost use Rattle.std.specs.FinMap as map;
 ghost use Rattle.fx_base.specs.Set as set;
 ghost use Rattle.fx_base.specs.Ticks.{ticked, IsTicked};
-ghost use Rattle.fx_label_rows.specs.Labelled.{AreLabelled};
+ghost use Rattle.fx_label_rows.specs.Labelled.{AreLabelled, has_both, has_label};
 ghost use Rattle.fx_model.specs.declared.ids.ItemKey.{ItemKey};
 ghost use Rattle.fx_label_index.specs.Canonicals.{Selectors};
 ghost use Rattle.fx_label_index.specs.Counts.{raised, lowered, last_of};
-ghost use Rattle.fx_label_index.specs.Matched.{tests, holds_on};
+ghost use Rattle.fx_label_index.specs.Matched.{item_eq, tests, holds_on};
 ghost use Rattle.fx_label_index.specs.Indexed.{AreKept, AreTold, AreNeeded, AreLabelsOf, met_number};
 ghost use Rattle.fx_label_index.specs.Tested.{same_labels, met_on, comes, either, at_labels, on_items, gained};
 ghost use Rattle.fx_label_index.specs.declared.held.Inputs.{Inputs};
@@ -192,9 +192,28 @@ fn move_item(
     ensures labels { OnOk result (labels.new ≡ map.insert labels.old key.now after) }
     ensures by_label { OnOk result (AreLabelled labels.new by_label.new.by_key) }
 {
-    drop_item(labels, by_label, key)?;
-    by_label.change(&after, key, true)?;
+    let before = labels.remove(key);
+    put_under(by_label, &before, &after, key)?;
     labels.insert(key.clone()?, after)?;
+    Ok(())
+}
+
+/// Puts an item under its labels. From under those that it had, if it had any, it goes where it has them no more.
+fn put_under(
+    by_label: &mut ItemsByLabel,
+    before: &Option<Labels>,
+    after: &Labels,
+    key: &ItemKey,
+) -> Result<(), Memory>
+    requires { (k v : List ℕ) → has_both (map.get by_label.old.by_key k) (v, key.now) ≡ has_label before.now k v }
+    ensures { OnOk result ((k : List ℕ) (p : List ℕ × ItemKey) → has_both (map.get by_label.new.by_key k) p
+        ≡ cond (item_eq p.1 key.now) (has_label (Some after.now) k p.0) (has_both (map.get by_label.old.by_key k) p)) }
+{
+    if let Some(before) = before {
+        by_label.exchange(before, after, key)?;
+        return Ok(());
+    }
+    by_label.change(after, key, true)?;
     Ok(())
 }
 

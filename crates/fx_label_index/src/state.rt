@@ -1,5 +1,6 @@
 //! The inputs with the indexes over them.
-ghost use Rattle.std.specs.Prelude.{◌≡◌, ◌≤◌, ◌+◌, ◌-◌, ◌^◌, min, ℕ, List, Some, OnOk, IsSome, true, false};
+ghost use Rattle.std.specs.Prelude.{◌≡◌, ◌≤◌, ◌+◌, ◌-◌, ◌^◌, min, ℕ, List, Some, OnOk, IsSome, IsTrue, option_map, true, false};
+ghost use Rattle.std.specs.Option.{option_copied};
 ghost use Rattle.std.specs.List.{sum_by};
 ghost use Rattle.std.specs.FinMap as map;
 ghost use Rattle.fx_base.specs.Set as set;
@@ -10,7 +11,7 @@ ghost use Rattle.fx_selector.specs.Canonical.{canonical_text};
 ghost use Rattle.fx_model.specs.declared.ids.ItemKey.{ItemKey};
 ghost use Rattle.fx_label_index.specs.Counts.{raised, lowered};
 ghost use Rattle.fx_label_index.specs.Matched.{IsMatched, labels_of, holds_on};
-ghost use Rattle.fx_label_index.specs.Indexed.{AreIndexed, AreKept, AreTold, AreListed, AreLabelsOf, lists, at_key};
+ghost use Rattle.fx_label_index.specs.Indexed.{AreIndexed, AreKept, AreTold, AreListed, AreLabelsOf, lists, parents_of, at_key};
 ghost use Rattle.fx_label_index.specs.Tested.{comes, either, met_on, at_put, gained, IsTested};
 ghost use Rattle.fx_label_index.specs.declared.counted.Counted.{Counted};
 ghost use Rattle.fx_label_index.specs.declared.held.Inputs.{Inputs};
@@ -19,7 +20,7 @@ use crate::counted::SelectorMap;
 use crate::effective::effective;
 use crate::held::{Held, Inputs};
 use crate::indexes::Indexes;
-use fx_base::{Memory, Seq, Text, TextMap, Ticker};
+use fx_base::{Memory, Seq, Text, TextMap, Ticker, same};
 use fx_label_rows::ItemRows;
 use fx_model::{ItemKey, ItemMap, MatchSink};
 use fx_selector::{Labels, Selector};
@@ -226,8 +227,35 @@ impl State {
     }
 }
 
-/// Puts an item under the parents that it lists, in the place of those that it listed.
+/// Puts an item under the parents that it lists, in place of those that it listed. Where these are the same, it stays.
 fn relist(
+    by_parent: &mut ItemRows,
+    items: &mut ItemMap<Held>,
+    key: &ItemKey,
+    held: Held,
+) -> Result<(), Memory>
+    requires { AreListed items.old by_parent.old }
+    ensures items { OnOk result (items.new ≡ map.insert items.old key.now held) }
+    ensures listed { OnOk result (AreListed items.new by_parent.new) }
+{
+    if lists_same(items.get(key), &held) {
+        items.insert(key.clone()?, held)?;
+        return Ok(());
+    }
+    list_anew(by_parent, items, key, held)?;
+    Ok(())
+}
+
+fn lists_same(found: Option<&Held>, held: &Held) -> bool
+    ensures { IsTrue result → option_map parents_of (option_copied found.entry) ≡ Some held.now.parents }
+{
+    match found {
+        Some(found) => same(&found.parents, &held.parents),
+        None => false,
+    }
+}
+
+fn list_anew(
     by_parent: &mut ItemRows,
     items: &mut ItemMap<Held>,
     key: &ItemKey,

@@ -6,5 +6,6 @@ pub mod Passed
 pub mod WalkLemmas
 pub mod MemberLemmas
 pub mod NodeLemmas
+pub mod GivenLemmas
 pub mod UseLemmas
 pub mod ListLemmas

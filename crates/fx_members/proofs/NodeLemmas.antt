@@ -69,6 +69,12 @@ module _ (items : Items) (matched : Pairs) (k : ItemKey) (texts : Option Texts) 
       ∙ ap (λ b. cond b g 0 + others (Some u) m) (sym (by (text_of u)))
 
   module _ (uses : Uses) (counts : Counts) (are : (q : List ℕ) (m : Member) → count_at counts q m ≡ due items matched (map.get uses q) m) where
+    -- one that gives what was given
+    pub item_kept : (x : Item) → ((o : Option SetUse) (m : Member) → gives o (map.get items k) m ≡ gives o (Some x) m) → (q : List ℕ) (m : Member) → count_at counts q m ≡ due (map.insert items k x) matched (map.get uses q) m
+    item_kept x same q m =
+        let o = map.get uses q in
+        are q m ∙ due_apart o m ∙ ap (λ g. cond (has_text_of texts o) g 0 + others o m) (same o m) ∙ sym (due_put x o m)
+
     -- what was there can be taken away
     pub item_within : (q : List ℕ) (m : Member) → given (map.get uses q) (map.get items k) m ≤ count_at counts q m
     item_within q m = subst (λ n. given (map.get uses q) (map.get items k) m ≤ n) (sym (are q m ∙ due_apart (map.get uses q) m)) (part_within _ _)

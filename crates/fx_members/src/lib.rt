@@ -5,6 +5,7 @@ pub use members::Members;
 
 mod changes;
 mod counts;
+mod giving;
 mod groups;
 mod inputs;
 mod matches;

@@ -1,10 +1,14 @@
 //! All that the node holds.
-ghost use Rattle.std.specs.Prelude.{◌≡◌, OnOk, None, true, false};
+ghost use Rattle.std.specs.Prelude.{◌≡◌, OnOk, Option, Some, None, true, false};
 ghost use Rattle.std.specs.FinMap as map;
 ghost use Rattle.fx_base.specs.Set as key_sets;
+ghost use Rattle.fx_model.specs.Tables.{Sets};
+ghost use Rattle.fx_model.specs.declared.member.Member.{Member};
+ghost use Rattle.fx_members.specs.Counts.{gives};
 ghost use Rattle.fx_members.specs.Kept.{IsKept, IsTold};
 
 use crate::counts::MemberCounts;
+use crate::giving::gives_same;
 use crate::groups::{add_name, add_text, remove_name, remove_text};
 use crate::inputs::Inputs;
 use crate::walks::{change_named, change_set, change_with_texts};
@@ -87,8 +91,47 @@ impl State {
         Ok(())
     }
 
-    /// Puts an item in the place of what was there. What both contribute stays in the sets.
+    /// Puts an item in the place of what was there. What both contribute stays in the sets, and if it is all, none is counted.
     pub fn put_item<S: SetSink>(
+        &mut self,
+        alloc: Global,
+        key: &ItemKey,
+        item: Item,
+        sink: &mut S,
+    ) -> Result<(), Memory>
+        requires kept { IsKept self.old }
+        requires told { IsTold self.old (S.sets sink.old) }
+        ensures inputs { OnOk result (self.new.inputs ≡ record self.old.inputs {
+          items = map.insert self.old.inputs.items key.now item;
+        }) }
+        ensures kept { OnOk result (IsKept self.new) }
+        ensures told { OnOk result (IsTold self.new (S.sets sink.new)) }
+    {
+        if gives_same(self.inputs.items.get(key), &item) {
+            self.keep_given(key, item)?;
+            return Ok(());
+        }
+        self.exchange_given(alloc, key, item, sink)?;
+        Ok(())
+    }
+
+    // Puts an item that gives each set what it is given already.
+    fn keep_given(&mut self, key: &ItemKey, item: Item) -> Result<(), Memory>
+        requires same { (set : Option SetUse) (m : Member)
+            → gives set (map.get self.old.inputs.items key.now) m ≡ gives set (Some item) m }
+        requires kept { IsKept self.old }
+        ensures inputs { OnOk result (self.new.inputs ≡ record self.old.inputs {
+          items = map.insert self.old.inputs.items key.now item;
+        }) }
+        ensures kept { OnOk result (IsKept self.new) }
+        ensures told { OnOk result ((sets : Sets) → IsTold self.old sets → IsTold self.new sets) }
+    {
+        self.inputs.items.insert(key.clone()?, item)?;
+        Ok(())
+    }
+
+    // Counts all that an item gives once more, and then all that was given in its place once less.
+    fn exchange_given<S: SetSink>(
         &mut self,
         alloc: Global,
         key: &ItemKey,

@@ -1,5 +1,5 @@
 -- A set's members stay noted by their flags, and its sides change as a member's flags do.
-use Rattle.std.proofs.Common.{◌≡◌, Bool, true, false, not, ◌||◌, Option, Some, None, is_some, IsSome, refl, sym, ap, ◌∙◌}
+use Rattle.std.proofs.Common.{◌≡◌, Bool, true, false, not, ◌&&◌, ◌||◌, Option, Some, None, is_some, IsSome, refl, sym, ap, ◌∙◌}
 use Rattle.std.specs.Option.{option_and_then}
 use Rattle.std.specs.FinMap as maps
 use Rattle.fx_base.specs.Same.{same_truths}
@@ -11,7 +11,7 @@ use Rattle.fx_model.specs.declared.member.Member.{Member}
 use Rattle.fx_model.specs.declared.member_flags.Flags.{Flags}
 use Rattle.fx_model.specs.contracts.member.MemberOrd.TheImpl as member_cmp
 use Rattle.fx_model.proofs.Orders.{member_total, exact_member}
-use Rattle.fx_sequencer.specs.Flagged.{FlagMap, AreFlagged, marked, side, sent_members, wanted_members, is_held, differs, is_sent, is_wanted}
+use Rattle.fx_sequencer.specs.Flagged.{FlagMap, AreFlagged, marked, side, sent_members, wanted_members, is_held, differs, is_added, is_gone, is_sent, is_wanted}
 use Rattle.fx_sequencer.proofs.AtOne.{IsBut, IsButIn, all_at, told_at, part_put, part_gone, part_still}
 use mathlib.Core.Bool.{beq}
 
@@ -25,7 +25,7 @@ wanted_mark : (o : Option Flags) → option_and_then (λ f. marked f.now) o ≡ 
 wanted_mark None = refl
 wanted_mark (Some f) = refl
 
-is_marked : (b : Bool) → is_some (marked b) ≡ b
+pub is_marked : (b : Bool) → is_some (marked b) ≡ b
 is_marked true = refl
 is_marked false = refl
 
@@ -49,6 +49,54 @@ sent_kept (Some f) h = refl
 pub flags_alike : (o : Option Flags) → differs o ≡ false → is_sent o ≡ is_wanted o
 flags_alike None h = refl
 flags_alike (Some f) h = same_truths f.sent f.now (alike (beq f.sent f.now) h)
+
+-- ---- a member of one side alone
+
+and_off : (b : Bool) → (b && false) ≡ false
+and_off true = refl
+and_off false = refl
+
+off_and_on : (b : Bool) → (not b && b) ≡ false
+off_and_on true = refl
+off_and_on false = refl
+
+on_and_off : (b : Bool) → (b && not b) ≡ false
+on_and_off true = refl
+on_and_off false = refl
+
+-- one that isn't wanted wasn't added, and one that was sent neither
+pub unwanted_added : (o : Option Flags) → is_wanted o ≡ false → is_added o ≡ false
+unwanted_added None off = refl
+unwanted_added (Some f) off = ap (λ b. not f.sent && b) off ∙ and_off (not f.sent)
+
+pub sent_added : (o : Option Flags) → is_sent o ≡ true → is_added o ≡ false
+sent_added None on = refl
+sent_added (Some f) on = ap (λ b. not b && f.now) on
+
+-- one that wasn't sent isn't gone
+pub unsent_gone : (o : Option Flags) → is_sent o ≡ false → is_gone o ≡ false
+unsent_gone None off = refl
+unsent_gone (Some f) off = ap (λ b. b && not f.now) off
+
+-- one whose flags are alike is neither
+pub alike_added : (o : Option Flags) → is_sent o ≡ is_wanted o → is_added o ≡ false
+alike_added None same = refl
+alike_added (Some f) same = ap (λ b. not b && f.now) same ∙ off_and_on f.now
+
+pub alike_gone : (o : Option Flags) → is_sent o ≡ is_wanted o → is_gone o ≡ false
+alike_gone None same = refl
+alike_gone (Some f) same = ap (λ b. b && not f.now) same ∙ on_and_off f.now
+
+-- and of one that is neither they are
+neither : (s n : Bool) → (not s && n) ≡ false → (s && not n) ≡ false → not (beq s n) ≡ false
+neither true true a g = refl
+neither true false a g = g
+neither false true a g = a
+neither false false a g = refl
+
+pub neither_differs : (o : Option Flags) → is_added o ≡ false → is_gone o ≡ false → differs o ≡ false
+neither_differs None a g = refl
+neither_differs (Some f) a g = neither f.sent f.now a g
 
 -- ---- the members of each side
 
@@ -110,12 +158,13 @@ of_side b s m on = ap (λ c. set.contains (members_of (side c s)) m) on
 
 -- ---- one member's flags are changed
 
-module _ {sent wanted : Bool} {flags : FlagMap} {differing : Members} (was : AreFlagged sent wanted flags differing) {m : Member} {now : FlagMap} {here : Option Flags} (but : IsBut flags now m here) where
-  pub flagged_at : (others : Members) (b : Bool) → IsButIn differing others m b → b ≡ differs here → is_held here ≡ true
-      → (sent ≡ false → differs here ≡ false) → (wanted ≡ false → is_wanted here ≡ false) → AreFlagged sent wanted now others
-  flagged_at others b put is held none off = record {
+module _ {sent wanted : Bool} {flags : FlagMap} {added gone : Members} (was : AreFlagged sent wanted flags added gone) {m : Member} {now : FlagMap} {here : Option Flags} (but : IsBut flags now m here) where
+  pub flagged_at : (noted left : Members) (a g : Bool) → IsButIn added noted m a → a ≡ is_added here → IsButIn gone left m g → g ≡ is_gone here → is_held here ≡ true
+      → (sent ≡ false → differs here ≡ false) → (wanted ≡ false → is_wanted here ≡ false) → AreFlagged sent wanted now noted left
+  flagged_at noted left a g in_noted adds in_left goes held none off = record {
     held = all_at is_held flags now m here but true held was.held;
-    differ = told_at differs flags now m here but differing others b put is was.differ;
+    adds = told_at is_added flags now m here but added noted a in_noted adds was.adds;
+    goes = told_at is_gone flags now m here but gone left g in_left goes was.goes;
     unsent = λ h. all_at differs flags now m here but false (none h) (was.unsent h);
     unwanted = λ h. all_at is_wanted flags now m here but false (off h) (was.unwanted h);
   }

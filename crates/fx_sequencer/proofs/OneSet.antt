@@ -1,5 +1,5 @@
 -- The two sides of one set, as each call looks them up and changes them.
-use Rattle.std.proofs.Common.{◌≡◌, Bool, true, false, not, Option, Some, None, is_some, IsSome, refl, sym, ap, ◌∙◌}
+use Rattle.std.proofs.Common.{◌≡◌, Bool, true, false, not, ◌||◌, Some, None, is_some, IsSome, refl, sym, ap, ◌∙◌}
 use Rattle.std.specs.List.{slice_get}
 use Rattle.std.specs.FinMap as maps
 use Rattle.fx_base.specs.Same.{same_set}
@@ -11,15 +11,13 @@ use Rattle.fx_model.specs.SameMember.{same_member}
 use Rattle.fx_model.specs.contracts.member.MemberOrd.TheImpl as member_cmp
 use Rattle.fx_model.specs.contracts.member.MemberSetEq.TheImpl.Laws as members_laws
 use Rattle.fx_model.specs.declared.member.Member.{Member}
-use Rattle.fx_model.specs.declared.member_flags.Flags.{Flags}
 use Rattle.fx_model.proofs.Orders.{member_total}
-use Rattle.fx_sequencer.specs.Flagged.{FlagMap, AreFlagged, side, sent_members, wanted_members, is_held, differs, is_sent, is_wanted}
+use Rattle.fx_sequencer.specs.Flagged.{FlagMap, AreFlagged, side, sent_members, wanted_members, is_held, differs, is_added, is_gone, is_sent, is_wanted}
 use Rattle.fx_sequencer.specs.Pending.{SetSides, same_sets, comes, alters}
-use Rattle.fx_sequencer.proofs.FlagLists.{all_members, added_members, removed_members}
-use Rattle.fx_sequencer.proofs.Flagging.{sent_there, wanted_there, none_in, same_sides, none_wanted, same_wanted, on_there, off_there, on_as, of_side}
+use Rattle.fx_sequencer.proofs.FlagLists.{all_members, added_members, gone_members}
+use Rattle.fx_sequencer.proofs.Flagging.{flags_alike, alike_added, alike_gone, neither_differs, sent_there, wanted_there, none_in, same_sides, none_wanted, same_wanted, on_there, off_there, on_as, of_side}
 use Rattle.fx_sequencer.proofs.Settling.{no_first, none_first}
 use Rattle.fx_sequencer.proofs.SetKeeping.{unsent_same}
-use mathlib.Core.Bool.{beq}
 
 -- ---- sides
 
@@ -39,33 +37,43 @@ alters_on true false s t h = cc
 alters_on false true s t h = cc
 alters_on false false s t h = cc
 
-itself : (b : Bool) → not (beq b b) ≡ false
-itself true = refl
-itself false = refl
-
-same_flags : (o : Option Flags) → is_sent o ≡ is_wanted o → differs o ≡ false
-same_flags None h = refl
-same_flags (Some f) h = ap (λ b. not (beq b f.now)) h ∙ itself f.now
+-- there is a first of what one side alone has
+abbrev some_noted : Members → Members → Bool
+some_noted added gone = is_some (slice_get (set.items added) 0) || is_some (slice_get (set.items gone) 0)
 
 -- where some member is of one side alone, the sides are not one
-other_members : (flags : FlagMap) (differing : Members) → ((m : Member) → set.contains differing m ≡ differs (maps.get flags m))
-    → is_some (slice_get (set.items differing) 0) ≡ not (same_sets (sent_members flags) (wanted_members flags))
-other_members flags differing differ =
-    elim (same_sets (sent_members flags) (wanted_members flags)) as (λ b. same_sets (sent_members flags) (wanted_members flags) ≡ b → is_some (slice_get (set.items differing) 0) ≡ not b) [
-      | true ↦ λ e.
-          let same : sent_members flags ≡ wanted_members flags = same_set _ same_member (sent_members flags) (wanted_members flags) e in
-          let none : (m : Member) → set.contains differing m ≡ false = λ m.
-          differ m ∙ same_flags (maps.get flags m) (sym (sent_there flags m) ∙ ap (λ (s : Members). set.contains s m) same ∙ wanted_there flags m) in
-          sym (ap is_some (no_first member_total differing none))
-      | false ↦ λ e.
-          elim (slice_get (set.items differing) 0) as (λ o. slice_get (set.items differing) 0 ≡ o → is_some o ≡ true) [
-            | Some x ↦ λ is. refl
-            | None ↦ λ is.
-                let same : sent_members flags ≡ wanted_members flags = same_sides flags (λ m. sym (differ m) ∙ none_first member_total differing (sym is) m) in
-                let one : same_sets (sent_members flags) (wanted_members flags) ≡ true = ap (same_sets (sent_members flags)) (sym same) ∙ members_laws.laws-law.refl (sent_members flags) in
-                cc
-          ] refl
-    ] refl
+module _ (flags : FlagMap) (added gone : Members) (adds : (m : Member) → set.contains added m ≡ is_added (maps.get flags m)) (goes : (m : Member) → set.contains gone m ≡ is_gone (maps.get flags m)) where
+  none_noted : sent_members flags ≡ wanted_members flags → some_noted added gone ≡ false
+  none_noted same =
+      let alike : (m : Member) → is_sent (maps.get flags m) ≡ is_wanted (maps.get flags m) = λ m.
+      sym (sent_there flags m) ∙ ap (λ (s : Members). set.contains s m) same ∙ wanted_there flags m in
+      let first = no_first member_total added (λ m. adds m ∙ alike_added (maps.get flags m) (alike m)) in
+      let second = no_first member_total gone (λ m. goes m ∙ alike_gone (maps.get flags m) (alike m)) in
+      λ i. is_some (sym first i) || is_some (sym second i)
+
+  without_noted : None ≡ slice_get (set.items added) 0 → None ≡ slice_get (set.items gone) 0 → sent_members flags ≡ wanted_members flags
+  without_noted no_added no_gone = same_sides flags (λ m.
+      neither_differs (maps.get flags m)
+      (sym (adds m) ∙ none_first member_total added no_added m)
+      (sym (goes m) ∙ none_first member_total gone no_gone m))
+
+  other_members : some_noted added gone ≡ not (same_sets (sent_members flags) (wanted_members flags))
+  other_members =
+      elim (same_sets (sent_members flags) (wanted_members flags)) as (λ b. same_sets (sent_members flags) (wanted_members flags) ≡ b → some_noted added gone ≡ not b) [
+        | true ↦ λ e. none_noted (same_set _ same_member (sent_members flags) (wanted_members flags) e)
+        | false ↦ λ e.
+            elim (slice_get (set.items added) 0) as (λ o. slice_get (set.items added) 0 ≡ o → (is_some o || is_some (slice_get (set.items gone) 0)) ≡ true) [
+              | Some x ↦ λ is. refl
+              | None ↦ λ no_added.
+                  elim (slice_get (set.items gone) 0) as (λ o. slice_get (set.items gone) 0 ≡ o → is_some o ≡ true) [
+                    | Some x ↦ λ is. refl
+                    | None ↦ λ no_gone.
+                        let same = without_noted (sym no_added) (sym no_gone) in
+                        let one : same_sets (sent_members flags) (wanted_members flags) ≡ true = ap (same_sets (sent_members flags)) (sym same) ∙ members_laws.laws-law.refl (sent_members flags) in
+                        cc
+                  ] refl
+            ] refl
+      ] refl
 
 -- without members
 module _ {flags : FlagMap} (empty : flags ≡ maps.empty) where
@@ -75,10 +83,11 @@ module _ {flags : FlagMap} (empty : flags ≡ maps.empty) where
   pub no_members : wanted_members flags ≡ set.empty
   no_members = none_wanted flags (λ m. ap is_wanted (none_here m))
 
-  pub no_flags : (wanted : Bool) {differing : Members} → differing ≡ set.empty → AreFlagged false wanted flags differing
-  no_flags wanted {differing} none = record {
+  pub no_flags : (wanted : Bool) {added gone : Members} → added ≡ set.empty → gone ≡ set.empty → AreFlagged false wanted flags added gone
+  no_flags wanted {added} {gone} none_added none_gone = record {
     held = λ m. ap is_held (none_here m);
-    differ = λ m. ap (λ (s : Members). set.contains s m) none ∙ none_in m ∙ sym (ap differs (none_here m));
+    adds = λ m. ap (λ (s : Members). set.contains s m) none_added ∙ none_in m ∙ sym (ap is_added (none_here m));
+    goes = λ m. ap (λ (s : Members). set.contains s m) none_gone ∙ none_in m ∙ sym (ap is_gone (none_here m));
     unsent = λ h m. ap differs (none_here m);
     unwanted = λ h m. ap is_wanted (none_here m);
   }
@@ -87,7 +96,7 @@ module _ {flags : FlagMap} (empty : flags ≡ maps.empty) where
 abbrev pub set_sides : Bool → Bool → FlagMap → SetSides
 set_sides sent wanted flags = record { sent = side sent (sent_members flags); wanted = side wanted (wanted_members flags) }
 
-module _ {sent wanted : Bool} {flags : FlagMap} {differing : Members} (was : AreFlagged sent wanted flags differing) {v : SetSides} (is : set_sides sent wanted flags ≡ v) where
+module _ {sent wanted : Bool} {flags : FlagMap} {added gone : Members} (was : AreFlagged sent wanted flags added gone) {v : SetSides} (is : set_sides sent wanted flags ≡ v) where
   sent_is : side sent (sent_members flags) ≡ v.sent
   sent_is = ap (λ (u : SetSides). u.sent) is
 
@@ -109,11 +118,18 @@ module _ {sent wanted : Bool} {flags : FlagMap} {differing : Members} (was : Are
       sym (ap (λ b. alters same_sets (side sent (sent_members flags)) (side b (wanted_members flags))) off)
       ∙ ap (λ (u : SetSides). alters same_sets u.sent u.wanted) is
 
-  pub both_other : sent ≡ true → wanted ≡ true → {r : Bool} → r ≡ is_some (slice_get (set.items differing) 0) → r ≡ alters same_sets v.sent v.wanted
+  both_other : sent ≡ true → wanted ≡ true → {r : Bool} → r ≡ some_noted added gone → r ≡ alters same_sets v.sent v.wanted
   both_other on_sent on found =
-      found ∙ other_members flags differing was.differ
+      found ∙ other_members flags added gone was.adds was.goes
       ∙ (λ i. alters same_sets (side (sym on_sent i) (sent_members flags)) (side (sym on i) (wanted_members flags)))
       ∙ ap (λ (u : SetSides). alters same_sets u.sent u.wanted) is
+
+  -- where a member was added, and where none was
+  pub added_other : sent ≡ true → wanted ≡ true → is_some (slice_get (set.items added) 0) ≡ true → true ≡ alters same_sets v.sent v.wanted
+  added_other on_sent on some = both_other on_sent on (ap (λ b. b || is_some (slice_get (set.items gone) 0)) (sym some))
+
+  pub gone_other : sent ≡ true → wanted ≡ true → is_some (slice_get (set.items added) 0) ≡ false → {r : Bool} → r ≡ is_some (slice_get (set.items gone) 0) → r ≡ alters same_sets v.sent v.wanted
+  gone_other on_sent on none found = both_other on_sent on (found ∙ ap (λ b. b || is_some (slice_get (set.items gone) 0)) (sym none))
 
   pub told_member : (m : Member) → sent ≡ true → is_sent (maps.get flags m) ≡ set.contains (members_of v.sent) m
   told_member m on = sym (sent_there flags m) ∙ sym (of_side sent (sent_members flags) m on) ∙ ap (λ s. set.contains (members_of s) m) sent_is
@@ -130,23 +146,23 @@ module _ {sent wanted : Bool} {flags : FlagMap} {differing : Members} (was : Are
     on_both : (sent ≡ true) × (wanted ≡ true)
     on_both = alters_on sent wanted (sent_members flags) (wanted_members flags) (ap (λ (u : SetSides). alters same_sets u.sent u.wanted) is ∙ other)
 
-    pub lent_adds : flagged (record { sent = false; now = true }) (maps.entries flags) ≡ set.items_minus (members_of v.wanted) (members_of v.sent)
+    pub lent_adds : set.items added ≡ set.items_minus (members_of v.wanted) (members_of v.sent)
     lent_adds =
-        added_members flags
+        added_members flags added was.adds
         ∙ (λ i. set.items_minus (members_of (side (sym on_both.1 i) (wanted_members flags))) (members_of (side (sym on_both.0 i) (sent_members flags))))
         ∙ (λ i. set.items_minus (members_of (wanted_is i)) (members_of (sent_is i)))
 
-    pub lent_removes : flagged (record { sent = true; now = false }) (maps.entries flags) ≡ set.items_minus (members_of v.sent) (members_of v.wanted)
+    pub lent_removes : set.items gone ≡ set.items_minus (members_of v.sent) (members_of v.wanted)
     lent_removes =
-        removed_members flags
+        gone_members flags gone was.goes
         ∙ (λ i. set.items_minus (members_of (side (sym on_both.0 i) (sent_members flags))) (members_of (side (sym on_both.1 i) (wanted_members flags))))
         ∙ (λ i. set.items_minus (members_of (sent_is i)) (members_of (wanted_is i)))
 
   -- ---- the set is wanted, or not
 
   module _ (none : v.wanted ≡ None) where
-    pub on_flagged : AreFlagged sent true flags differing
-    on_flagged = record { held = was.held; differ = was.differ; unsent = was.unsent; unwanted = λ h. true_false h }
+    pub on_flagged : AreFlagged sent true flags added gone
+    on_flagged = record { held = was.held; adds = was.adds; goes = was.goes; unsent = was.unsent; unwanted = λ h. true_false h }
 
     pub on_sides : set_sides sent true flags ≡ record v { wanted = Some set.empty }
     on_sides =
@@ -154,10 +170,10 @@ module _ {sent wanted : Bool} {flags : FlagMap} {differing : Members} (was : Are
         λ i. record { sent = sent_is i; wanted = Some (none_wanted flags (was.unwanted off) i) }
 
   module _ (empty : v.wanted ≡ Some set.empty) where
-    pub off_flagged : AreFlagged sent false flags differing
+    pub off_flagged : AreFlagged sent false flags added gone
     off_flagged =
         let on = on_as wanted (wanted_members flags) set.empty (wanted_is ∙ empty) in
-        record { held = was.held; differ = was.differ; unsent = was.unsent; unwanted = λ h m. sym (wanted_there flags m) ∙ ap (λ (s : Members). set.contains s m) on.1 ∙ none_in m }
+        record { held = was.held; adds = was.adds; goes = was.goes; unsent = was.unsent; unwanted = λ h m. sym (wanted_there flags m) ∙ ap (λ (s : Members). set.contains s m) on.1 ∙ none_in m }
 
     pub off_sides : set_sides sent false flags ≡ record v { wanted = None }
     off_sides i = record { sent = sent_is i; wanted = None }
@@ -168,10 +184,17 @@ module _ {sent wanted : Bool} {flags : FlagMap} {differing : Members} (was : Are
     on_wanted : wanted ≡ true
     on_wanted = on_there wanted (wanted_members flags) (ap is_some wanted_is ∙ there)
 
-    module _ (now : FlagMap) (others : Members) (held : (m : Member) → is_held (maps.get now m) ≡ true) (same : (m : Member) → differs (maps.get now m) ≡ false)
-        (none : (m : Member) → set.contains others m ≡ false) (still : (m : Member) → is_wanted (maps.get now m) ≡ is_wanted (maps.get flags m)) where
-      pub settled_flagged : AreFlagged true wanted now others
-      settled_flagged = record { held = held; differ = λ m. none m ∙ sym (same m); unsent = λ h. true_false h; unwanted = λ h m. still m ∙ was.unwanted h m }
+    module _ (now : FlagMap) (noted left : Members) (held : (m : Member) → is_held (maps.get now m) ≡ true) (same : (m : Member) → differs (maps.get now m) ≡ false)
+        (none_added : (m : Member) → set.contains noted m ≡ false) (none_gone : (m : Member) → set.contains left m ≡ false)
+        (still : (m : Member) → is_wanted (maps.get now m) ≡ is_wanted (maps.get flags m)) where
+      pub settled_flagged : AreFlagged true wanted now noted left
+      settled_flagged = record {
+        held = held;
+        adds = λ m. none_added m ∙ sym (alike_added (maps.get now m) (flags_alike (maps.get now m) (same m)));
+        goes = λ m. none_gone m ∙ sym (alike_gone (maps.get now m) (flags_alike (maps.get now m) (same m)));
+        unsent = λ h. true_false h;
+        unwanted = λ h m. still m ∙ was.unwanted h m;
+      }
 
       pub settled_sides : set_sides true wanted now ≡ record { sent = v.wanted; wanted = v.wanted }
       settled_sides =

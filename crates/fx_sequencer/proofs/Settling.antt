@@ -1,18 +1,21 @@
--- The members that differ are told of one after another.
-use Rattle.std.proofs.Common.{◌≡◌, ◌<◌, ◌-◌, true, false, cond, [], ◌∷◌, length, map, suc, Option, Some, None, is_some, refl, sym, ap, ◌∙◌, subst, arith}
+-- The members of one side alone are told of one after another.
+use Rattle.std.proofs.Common.{◌≡◌, ◌<◌, ◌-◌, Bool, true, false, cond, ◌||◌, [], ◌∷◌, length, map, suc, Option, Some, None, is_some, refl, sym, ap, ◌∙◌, subst, arith}
 use Rattle.std.specs.List.{slice_get}
 use Rattle.std.specs.Cmp.{IsTotalOrder}
 use Rattle.std.specs.declared.cmp.Ordering.{Ordering}
+use Rattle.std.specs.Ordering.{eq_by_cmp}
 use Rattle.std.specs.FinMap as maps
 use Rattle.fx_base.specs.Set as set
 use Rattle.fx_base.specs.Set.{Set}
+use Rattle.fx_base.proofs.Keyed.{at_key}
 use Rattle.fx_base.proofs.Walk.{found}
 use Rattle.fx_model.specs.Messages.{Members}
 use Rattle.fx_model.specs.declared.member.Member.{Member}
 use Rattle.fx_model.specs.declared.member_flags.Flags.{Flags}
+use Rattle.fx_model.specs.contracts.member.MemberOrd.TheImpl as member_cmp
 use Rattle.fx_model.proofs.Orders.{member_total, exact_member}
-use Rattle.fx_sequencer.specs.Flagged.{FlagMap, is_held, differs, is_wanted, told}
-use Rattle.fx_sequencer.proofs.AtOne.{IsBut, but_insert, but_remove, in_remove, all_at, still_at, told_at}
+use Rattle.fx_sequencer.specs.Flagged.{FlagMap, is_held, differs, is_added, is_gone, is_wanted, told}
+use Rattle.fx_sequencer.proofs.AtOne.{IsBut, but_insert, but_remove, in_remove}
 
 -- ---- the first of a set
 
@@ -59,18 +62,6 @@ module _ {K : Type 0} {R : K → K → Ordering} (o : IsTotalOrder R) (s : Set R
 
 -- ---- what is kept of a member once it was told of
 
-told_differs : (o : Option Flags) → false ≡ differs (told o)
-told_differs None = refl
-told_differs (Some f) = elim f.now as (λ b. false ≡ differs (cond b (Some (record { sent = true; now = true })) None)) [ true ↦ refl | false ↦ refl ]
-
-told_held : (o : Option Flags) → is_held (told o) ≡ true
-told_held None = refl
-told_held (Some f) = elim f.now as (λ b. is_held (cond b (Some (record { sent = true; now = true })) None) ≡ true) [ true ↦ refl | false ↦ refl ]
-
-told_wanted : (o : Option Flags) → is_wanted (told o) ≡ is_wanted o
-told_wanted None = refl
-told_wanted (Some f) = elim f.now as (λ b. is_wanted (cond b (Some (record { sent = true; now = true })) None) ≡ b) [ true ↦ refl | false ↦ refl ]
-
 told_on : (o : Option Flags) → is_wanted o ≡ true → told o ≡ Some (record { sent = true; now = true })
 told_on None on = cc
 told_on (Some f) on = ap (λ b. cond b (Some (record { sent = true; now = true })) None) on
@@ -95,22 +86,85 @@ module _ (flags now : FlagMap) (m : Member) where
   pub told_goes : is_wanted (maps.get flags m) ≡ false → now ≡ maps.remove flags m → IsBut flags now m (told (maps.get flags m))
   told_goes off is = one_told None (told_off (maps.get flags m) off) (but_remove member_total flags now m is)
 
--- of those at the start all that differ still are noted, and as many are wanted
-pub record IsSettling (start flags : FlagMap) (differing : Members) : Type 0 where
-  pub held : (m : Member) → is_held (maps.get flags m) ≡ true
-  pub differ : (m : Member) → set.contains differing m ≡ differs (maps.get flags m)
-  pub wanted : (m : Member) → is_wanted (maps.get start m) ≡ is_wanted (maps.get flags m)
+-- with those that are left told of, all is as with all of them told of at the start
+pub record IsSettling (start : FlagMap) (all : Members) (flags : FlagMap) (left : Members) : Type 0 where
+  pub ends : (m : Member) → cond (set.contains left m) (told (maps.get flags m)) (maps.get flags m) ≡ cond (set.contains all m) (told (maps.get start m)) (maps.get start m)
 
-module _ (start flags : FlagMap) (differing : Members) (was : IsSettling start flags differing) where
-  pub settling : (m : Member) (now : FlagMap) (others : Members) → IsBut flags now m (told (maps.get flags m)) → others ≡ set.remove differing m → IsSettling start now others
-  settling m now others but is =
-      let o = maps.get flags m in
+at_end : {A : Type 0} (tied there : Bool) (here : A) (f : A → A) (x : A) → cond (cond tied false there) (f (cond tied here x)) (cond tied here x) ≡ cond tied here (cond there (f x) x)
+at_end true there here f x = refl
+at_end false there here f x = refl
+
+module _ (start flags : FlagMap) (all left : Members) (was : IsSettling start all flags left) where
+  pub settling : (m : Member) → Some m ≡ slice_get (set.items left) 0 → (now : FlagMap) (others : Members) → IsBut flags now m (told (maps.get flags m)) → others ≡ set.remove left m → IsSettling start all now others
+  settling m first now others but is =
+      let less = in_remove member_total left others m is in
+      let here = told (maps.get flags m) in
+      let end = λ (q : Member). cond (set.contains left q) (told (maps.get flags q)) (maps.get flags q) in
+      let ends_here : end m ≡ here = ap (λ b. cond b here (maps.get flags m)) (first_in member_total left m first) in
       record {
-        held = all_at is_held flags now m (told o) but true (told_held o) was.held;
-        differ = told_at differs flags now m (told o) but differing others false (in_remove member_total differing others m is) (told_differs o) was.differ;
-        wanted = still_at is_wanted flags now m (told o) but exact_member (λ q. is_wanted (maps.get start q)) (told_wanted o) was.wanted;
+        ends = λ q.
+            (λ i. cond (less.at q i) (told (but.at q i)) (but.at q i))
+            ∙ at_end (eq_by_cmp member_cmp.cmp-value.it q m) (set.contains left q) here told (maps.get flags q)
+            ∙ at_key exact_member end m q here ends_here ∙ was.ends q;
       }
 
-  -- at the end none differs
-  pub settled_all : None ≡ slice_get (set.items differing) 0 → (m : Member) → differs (maps.get flags m) ≡ false
-  settled_all none m = sym (was.differ m) ∙ none_first member_total differing none m
+  -- at the end none is left
+  pub settled_all : None ≡ slice_get (set.items left) 0 → (m : Member) → maps.get flags m ≡ cond (set.contains all m) (told (maps.get start m)) (maps.get start m)
+  settled_all none m = sym (ap (λ b. cond b (told (maps.get flags m)) (maps.get flags m)) (none_first member_total left none m)) ∙ was.ends m
+
+-- ---- those that were added are told of, and then those that are gone
+
+abbrev with_added : Option Flags → Option Flags
+with_added o = cond (is_added o) (told o) o
+
+abbrev settled : Option Flags → Option Flags
+settled o = cond (is_gone o) (told (with_added o)) (with_added o)
+
+held_flags : (s n : Bool) → (s || n) ≡ true → is_held (settled (Some (record { sent = s; now = n }))) ≡ true
+held_flags true true h = refl
+held_flags true false h = refl
+held_flags false true h = refl
+held_flags false false h = h
+
+same_flags : (s n : Bool) → differs (settled (Some (record { sent = s; now = n }))) ≡ false
+same_flags true true = refl
+same_flags true false = refl
+same_flags false true = refl
+same_flags false false = refl
+
+wanted_flags : (s n : Bool) → is_wanted (settled (Some (record { sent = s; now = n }))) ≡ n
+wanted_flags true true = refl
+wanted_flags true false = refl
+wanted_flags false true = refl
+wanted_flags false false = refl
+
+settled_held : (o : Option Flags) → is_held o ≡ true → is_held (settled o) ≡ true
+settled_held None h = refl
+settled_held (Some f) h = held_flags f.sent f.now h
+
+settled_same : (o : Option Flags) → differs (settled o) ≡ false
+settled_same None = refl
+settled_same (Some f) = same_flags f.sent f.now
+
+settled_wanted : (o : Option Flags) → is_wanted (settled o) ≡ is_wanted o
+settled_wanted None = refl
+settled_wanted (Some f) = wanted_flags f.sent f.now
+
+module _ (flags : FlagMap) (added gone : Members) (adds : (m : Member) → set.contains added m ≡ is_added (maps.get flags m)) (goes : (m : Member) → set.contains gone m ≡ is_gone (maps.get flags m))
+    (half now : FlagMap)
+    (first : (m : Member) → maps.get half m ≡ cond (set.contains added m) (told (maps.get flags m)) (maps.get flags m))
+    (second : (m : Member) → maps.get now m ≡ cond (set.contains gone m) (told (maps.get half m)) (maps.get half m)) where
+  now_settled : (m : Member) → maps.get now m ≡ settled (maps.get flags m)
+  now_settled m =
+      let o = maps.get flags m in
+      let half_is : maps.get half m ≡ with_added o = first m ∙ ap (λ b. cond b (told o) o) (adds m) in
+      second m ∙ (λ i. cond (goes m i) (told (half_is i)) (half_is i))
+
+  pub all_held : ((m : Member) → is_held (maps.get flags m) ≡ true) → (m : Member) → is_held (maps.get now m) ≡ true
+  all_held held m = ap is_held (now_settled m) ∙ settled_held (maps.get flags m) (held m)
+
+  pub all_same : (m : Member) → differs (maps.get now m) ≡ false
+  all_same m = ap differs (now_settled m) ∙ settled_same (maps.get flags m)
+
+  pub all_wanted : (m : Member) → is_wanted (maps.get now m) ≡ is_wanted (maps.get flags m)
+  all_wanted m = ap is_wanted (now_settled m) ∙ settled_wanted (maps.get flags m)

@@ -1,5 +1,5 @@
 -- The members of a set by their flags: those that the dataplane was told of, and those that the set has now.
-use Rattle.std.specs.Prelude.{◌≡◌, Bool, true, false, cond, not, ◌||◌, Option, Some, None}
+use Rattle.std.specs.Prelude.{◌≡◌, Bool, true, false, cond, not, ◌&&◌, ◌||◌, Option, Some, None}
 use Rattle.std.specs.FinMap as maps
 use Rattle.fx_base.specs.Set as set
 use Rattle.fx_base.specs.Projected.{projected}
@@ -39,6 +39,15 @@ abbrev pub differs : Option Flags → Bool
 differs None = false
 differs (Some f) = not (beq f.sent f.now)
 
+-- the wanted side alone has it, or the sent side
+abbrev pub is_added : Option Flags → Bool
+is_added None = false
+is_added (Some f) = not f.sent && f.now
+
+abbrev pub is_gone : Option Flags → Bool
+is_gone None = false
+is_gone (Some f) = f.sent && not f.now
+
 abbrev pub is_sent : Option Flags → Bool
 is_sent None = false
 is_sent (Some f) = f.sent
@@ -52,9 +61,10 @@ abbrev pub told : Option Flags → Option Flags
 told None = None
 told (Some f) = cond f.now (Some (record { sent = true; now = true })) None
 
--- exactly the members of one side alone are noted; of a set that was not sent none is, and one that isn't wanted has none
-pub record AreFlagged (sent wanted : Bool) (flags : FlagMap) (differing : Members) : Type 0 where
+-- exactly the members of one side alone are noted, by the side; of a set that was not sent none is, and one that isn't wanted has none
+pub record AreFlagged (sent wanted : Bool) (flags : FlagMap) (added gone : Members) : Type 0 where
   pub held : (m : Member) → is_held (maps.get flags m) ≡ true
-  pub differ : (m : Member) → set.contains differing m ≡ differs (maps.get flags m)
+  pub adds : (m : Member) → set.contains added m ≡ is_added (maps.get flags m)
+  pub goes : (m : Member) → set.contains gone m ≡ is_gone (maps.get flags m)
   pub unsent : sent ≡ false → (m : Member) → differs (maps.get flags m) ≡ false
   pub unwanted : wanted ≡ false → (m : Member) → is_wanted (maps.get flags m) ≡ false

@@ -17,8 +17,10 @@ pub struct SetEntry {
     sent: bool,
     wanted: bool,
     members: MemberFlags,
-    /// The members of one side alone.
-    differing: MemberSet,
+    /// The members that are wanted and were not sent.
+    added: MemberSet,
+    /// The members that were sent and are wanted no more.
+    gone: MemberSet,
 }
 
 impl Model for SetEntry {
@@ -38,7 +40,7 @@ impl Model for SetEntry {
       wanted = side a.wanted (wanted_members a.members);
     } };
 
-    ghost invariant = { λ a. AreFlagged a.sent a.wanted a.members a.differing };
+    ghost invariant = { λ a. AreFlagged a.sent a.wanted a.members a.added a.gone };
 }
 
 impl SetEntry {
@@ -50,7 +52,8 @@ impl SetEntry {
             sent: false,
             wanted: false,
             members: MemberFlags::new(alloc),
-            differing: MemberSet::new(alloc),
+            added: MemberSet::new(alloc),
+            gone: MemberSet::new(alloc),
         }
     }
 
@@ -62,7 +65,8 @@ impl SetEntry {
             sent: false,
             wanted: true,
             members: MemberFlags::new(alloc),
-            differing: MemberSet::new(alloc),
+            added: MemberSet::new(alloc),
+            gone: MemberSet::new(alloc),
         }
     }
 
@@ -83,7 +87,10 @@ impl SetEntry {
         if !self.wanted {
             return false;
         }
-        first_member(&self.differing).is_some()
+        if first_member(&self.added).is_some() {
+            return true;
+        }
+        first_member(&self.gone).is_some()
     }
 
     /// The members of a set that is wanted and was not sent.
@@ -99,7 +106,7 @@ impl SetEntry {
         requires { alters same_sets self.now.sent self.now.wanted ≡ true }
         ensures { result ≡ set.items_minus (members_of self.now.wanted) (members_of self.now.sent) }
     {
-        MemberList::flagged(&self.members, false, true)
+        MemberList::all(&self.added)
     }
 
     /// The members that were sent and are wanted no more, of a set that is wanted.
@@ -107,7 +114,7 @@ impl SetEntry {
         requires { alters same_sets self.now.sent self.now.wanted ≡ true }
         ensures { result ≡ set.items_minus (members_of self.now.sent) (members_of self.now.wanted) }
     {
-        MemberList::flagged(&self.members, true, false)
+        MemberList::all(&self.gone)
     }
 
     /// Makes the set wanted again, without members.
@@ -135,11 +142,11 @@ impl SetEntry {
         ensures err { OnErr result (self.new ≡ self.old) }
     {
         if self.members.get(member).is_some() {
-            put_known(&mut self.members, &mut self.differing, member);
+            put_known(&mut self.members, &mut self.gone, member);
             return Ok(());
         }
         if self.sent {
-            put_new(&mut self.members, &mut self.differing, member)?;
+            put_new(&mut self.members, &mut self.added, member)?;
             return Ok(());
         }
         let flags = Flags {
@@ -159,11 +166,11 @@ impl SetEntry {
         ensures err { OnErr result (self.new ≡ self.old) }
     {
         if self.was_told(member) {
-            take_told(&mut self.members, &mut self.differing, member)?;
+            take_told(&mut self.members, &mut self.gone, member)?;
             return Ok(());
         }
         self.members.remove(member);
-        self.differing.remove(member);
+        self.added.remove(member);
         Ok(())
     }
 
@@ -173,7 +180,7 @@ impl SetEntry {
         ensures { self.new ≡ record { sent = self.old.wanted; wanted = self.old.wanted } }
     {
         self.sent = true;
-        settle(&mut self.members, &mut self.differing);
+        settle(&mut self.members, &mut self.added, &mut self.gone);
     }
 
     // Whether the dataplane was told of the member.

@@ -1,27 +1,16 @@
-use Rattle.std.proofs.Common.{cond, ◌&&◌, true, None, refl, ap, ◌∙◌}
-use Rattle.std.specs.Cmp.{tied_itself}
-use Rattle.std.specs.Ordering.{is_eq}
+use Rattle.std.proofs.Common.{sym, ap, ◌∙◌}
+use Rattle.std.specs.Prelude.{option_map}
 use Rattle.std.specs.FinMap as map
-use Rattle.fx_base.specs.Grouped.{has_key}
-use Rattle.fx_base.proofs.AtKey.{insert_removed}
-use Rattle.fx_selector.specs.Truth.{is_among}
 use Rattle.fx_model.specs.SameIds.{copies_item}
-use Rattle.fx_model.proofs.Orders.{item_total, exact_item}
-use Rattle.fx_label_index.specs.Indexed.{lists}
-use Rattle.fx_label_index.specs.Matched.{item_eq}
-use Rattle.fx_label_index.proofs.Moving.{come}
+use Rattle.fx_label_index.specs.Indexed.{parents_of}
+use Rattle.fx_label_index.proofs.Staying.{listed_again}
 use Rattle.fx_label_index.proofs.state.relist.Goals as goal
 
-pub returns-clause-items : goal.returns-clause-items
-returns-clause-items c =
-    c.in_ok-insert.ensures.ok ∙ (λ j. map.insert (c.in_ok-unlist.ensures.items j) (copies_item _ _ c.in_ok-clone.ensures.cases j) c.args.held)
-    ∙ insert_removed item_total exact_item c.args.items.now c.args.key.now c.args.held
+pub returns-then-lists_same-clause-items : goal.returns-then-lists_same-clause-items
+returns-then-lists_same-clause-items c = c.in_ok-insert.ensures.ok ∙ ap (λ k. map.insert c.args.items.now k c.args.held) (copies_item _ _ c.in_ok-clone.ensures.cases)
 
-pub returns-clause-listed : goal.returns-clause-listed
-returns-clause-listed c = λ name i.
-    come item_total exact_item lists (λ a. refl) c.unlist.new.items c.args.key.now c.args.held c.insert.new.self
-    (λ a k. has_key (map.get c.unlist.new.by_parent a) k) (λ a k. has_key (map.get c.change_all.new.self a) k)
-    (ap (λ m. map.get m c.args.key.now) c.in_ok-unlist.ensures.items ∙ map.get-remove item_total c.args.items.now c.args.key.now c.args.key.now ∙ ap (λ r. cond (is_eq r) None (map.get c.args.items.now c.args.key.now)) (tied_itself item_total c.args.key.now))
-    (c.in_ok-insert.ensures.ok ∙ ap (λ k. map.insert c.unlist.new.items k c.args.held) (copies_item _ _ c.in_ok-clone.ensures.cases))
-    c.in_ok-unlist.ensures.listed
-    (λ a k. c.in_ok-change_all.ensures a k ∙ ap (λ ns. cond (is_among ns a && item_eq k c.args.key.now) true (has_key (map.get c.unlist.new.by_parent a) k)) c.as_slice.ensures) name i
+pub returns-then-lists_same-clause-listed : goal.returns-then-lists_same-clause-listed
+returns-then-lists_same-clause-listed c =
+    listed_again c.args.items.now c.args.by_parent.now c.args.key.now c.args.held
+    (ap (option_map parents_of) (sym c.get.ensures) ∙ c.lists_same.ensures c.if-lists_same.true)
+    c.requires c.insert.new.self (returns-then-lists_same-clause-items c)

@@ -3,4 +3,4 @@ use Rattle.fx_sequencer.proofs.OneSet.{lent_removes}
 use Rattle.fx_sequencer.proofs.set_entry.SetEntry.removes.Goals as goal
 
 pub returns : goal.returns
-returns c = c.flagged.ensures ∙ lent_removes c.self.invariant c.self.view_is c.requires
+returns c = c.all.ensures ∙ lent_removes c.self.invariant c.self.view_is c.requires

@@ -6,7 +6,7 @@ pub take_told-requires : goal.take_told-requires
 take_told-requires c = told_there c.self.invariant c.self.view_is c.args.member c.requires.there (sym c.was_told.ensures ∙ c.if-was_told.true)
 
 pub invariant_of-self-then-was_told : goal.invariant_of-self-then-was_told
-invariant_of-self-then-was_told c = told_flagged c.self.invariant c.self.view_is c.args.member c.requires.there (sym c.was_told.ensures ∙ c.if-was_told.true) c.in_ok-take_told.ensures.members c.in_ok-take_told.ensures.differing
+invariant_of-self-then-was_told c = told_flagged c.self.invariant c.self.view_is c.args.member c.requires.there (sym c.was_told.ensures ∙ c.if-was_told.true) c.in_ok-take_told.ensures.members c.in_ok-take_told.ensures.gone
 
 pub returns-then-was_told-clause-ok : goal.returns-then-was_told-clause-ok
 returns-then-was_told-clause-ok c = told_sides c.self.invariant c.self.view_is c.args.member c.requires.there (sym c.was_told.ensures ∙ c.if-was_told.true) c.in_ok-take_told.ensures.members
