@@ -94,6 +94,7 @@ endpoint_put-formed d =
     takable named e key_formed fit = (
       both (is_formed_key (endpoint_key named)) (is_formed_endpoint e) key_formed fit.0,
       λ node. implied (bytes_eq e.node node) (is_workload e.iface) fit.1,
+      refl,
     )
 
 -- ---- network sets
@@ -103,10 +104,10 @@ unfolding net_set_put
 net_set_put-formed d =
     then-if IsTakable (metadata_in d) _ (λ about about_read.
     then-if IsTakable (nets_in d) _ (λ nets _.
-    (both (is_formed_namespace about.named.ns) true (in_namespace-formed d about about_read) refl, λ node. refl)))
+    (both (is_formed_namespace about.named.ns) true (in_namespace-formed d about about_read) refl, λ node. refl, refl)))
 
 pub global_set_put-formed : (d : Data) → IfOk (global_set_put d) IsTakable
 unfolding global_set_put
 global_set_put-formed d =
     then-if IsTakable (global_metadata_in d) _ (λ about _.
-    then-if IsTakable (nets_in d) _ (λ nets _. (refl, λ node. refl)))
+    then-if IsTakable (nets_in d) _ (λ nets _. (refl, λ node. refl, refl)))

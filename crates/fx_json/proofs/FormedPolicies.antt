@@ -9,6 +9,7 @@ use Rattle.fx_model.specs.declared.policy.Policy.{Policy}
 use Rattle.fx_model.specs.declared.resources.Update.{Update}
 use Rattle.fx_base.specs.Given.{is_given}
 use Rattle.fx_model.specs.Formed.{is_formed_rule, is_formed_policy, is_formed_namespace, is_formed, puts_workload_interface}
+use Rattle.fx_model.specs.Steps.{is_change}
 use Rattle.fx_fields.specs.Fields.{items, section}
 use Rattle.fx_fields.specs.declared.rule_form.RuleForm.{RuleForm}
 use Rattle.fx_fields.specs.declared.rule_form.RulePlace.TheVariants.{OfPolicy, OfNamespace}
@@ -25,9 +26,9 @@ use Rattle.fx_fields.proofs.SideTrees.{IsPlace}
 use Rattle.fx_json.proofs.FormedNames.{named_in-formed}
 use Rattle.fx_json.proofs.FormedRules.{policy_rule-formed}
 
--- an update that may be taken in
+-- an update that may be taken in, and that puts or deletes
 abbrev pub IsTakable : Update → Type 0
-IsTakable u = (is_formed u ≡ true) × ((node : List ℕ) → puts_workload_interface node u ≡ true)
+IsTakable u = (is_formed u ≡ true) × ((node : List ℕ) → puts_workload_interface node u ≡ true) × (is_change u ≡ true)
 
 -- ---- rules
 
@@ -83,7 +84,7 @@ pub tier_put-formed : (d : Data) → IfOk (tier_put d) IsTakable
 unfolding tier_put
 tier_put-formed d =
     then-if IsTakable (name_in d) _ (λ name _.
-    then-if IsTakable (tier_in d) _ (λ tier _. (refl, λ node. refl)))
+    then-if IsTakable (tier_in d) _ (λ tier _. (refl, λ node. refl, refl)))
 
 global_policy_in-formed : (services : Services) (d : Data) → IfOk (global_policy_in services d) IsFormedPolicy
 unfolding global_policy_in
@@ -95,7 +96,7 @@ unfolding global_policy_put
 global_policy_put-formed services d =
     then-if IsTakable (name_in d) _ (λ name _.
     then-if IsTakable (global_policy_in services d) _ (λ policy policy_read.
-    (read-if IsFormedPolicy (global_policy_in services d) policy (global_policy_in-formed services d) policy_read, λ node. refl)))
+    (read-if IsFormedPolicy (global_policy_in services d) policy (global_policy_in-formed services d) policy_read, λ node. refl, refl)))
 
 namespaced_policy_in-formed : (services : Services) (ns : List ℕ) → IsString ns → (d : Data) → IfOk (namespaced_policy_in services ns d) IsFormedPolicy
 unfolding namespaced_policy_in
@@ -111,4 +112,5 @@ namespaced_policy_put-formed services d =
           (named_in-formed d named named_read)
           (read-if IsFormedPolicy (namespaced_policy_in services named.ns d) policy (namespaced_policy_in-formed services named.ns (named_in_string d named named_read) d) policy_read),
       λ node. refl,
+      refl,
     )))

@@ -1,5 +1,5 @@
 -- Each update that is read is formed: a namespace holds no `/`, and an item is of its key's kind. It puts no endpoint on an
--- interface that isn't one of workloads, either.
+-- interface that isn't one of workloads, either, and it puts or deletes.
 use Rattle.std.proofs.Common.{◌≡◌, ℕ, List, true, Some, None, Result, Ok, Err, IfOk, refl}
 use Rattle.std.specs.Prelude.{codes}
 use Rattle.std.specs.List.{list_all}
@@ -9,6 +9,7 @@ use Rattle.fx_model.specs.declared.resources.Profile.{Profile}
 use Rattle.fx_model.specs.declared.resources.Update.{Update}
 use Rattle.fx_model.specs.declared.ids.Key.{Key}
 use Rattle.fx_model.specs.Formed.{is_formed_profile_rule, is_formed_profile, is_formed_key, is_formed, puts_workload_interface}
+use Rattle.fx_model.specs.Steps.{is_change}
 use Rattle.fx_fields.specs.declared.fault.ReadFault.{ReadFault}
 use Rattle.fx_fields.specs.Faults.{IsAnswerOf}
 use Rattle.fx_fields.specs.declared.kinds.Kind.{Kind}
@@ -59,7 +60,7 @@ unfolding profile_put
 profile_put-formed services d =
     then-if IsTakable (name_in d) _ (λ name _.
     then-if IsTakable (profile_in services d) _ (λ profile profile_read.
-    (read-if (λ (p : Profile). is_formed_profile p ≡ true) (profile_in services d) profile (profile_in-formed services d) profile_read, λ node. refl)))
+    (read-if (λ (p : Profile). is_formed_profile p ≡ true) (profile_in services d) profile (profile_in-formed services d) profile_read, λ node. refl, refl)))
 
 -- ---- keys
 
@@ -109,13 +110,13 @@ unfolding calico_delete
 calico_delete-takable d =
     then-if IsTakable (kind_of d) _ (λ kind _.
     then-if IsTakable (key_in kind d) _ (λ k k_read.
-    (read-if (λ (k : Key). is_formed_key k ≡ true) (key_in kind d) k (key_in-formed kind d) k_read, λ node. refl)))
+    (read-if (λ (k : Key). is_formed_key k ≡ true) (key_in kind d) k (key_in-formed kind d) k_read, λ node. refl, refl)))
 
 kubernetes_delete-takable : (kind : KubernetesKind) (d : Data) → IfOk (kubernetes_delete kind d) IsTakable
 unfolding kubernetes_delete
 kubernetes_delete-takable kind d =
     then-if IsTakable (kubernetes_key_in kind d) _ (λ k k_read.
-    (read-if IsFormedKey (kubernetes_key_in kind d) k (kubernetes_key_in-formed kind d) k_read, λ node. refl))
+    (read-if IsFormedKey (kubernetes_key_in kind d) k (kubernetes_key_in-formed kind d) k_read, λ node. refl, refl))
 
 pub delete_of-takable : (d : Data) → IfOk (delete_of d) IsTakable
 unfolding delete_of
@@ -133,6 +134,10 @@ second-if : (node : List ℕ) (answer : Result Update ReadFault) → IfOk answer
 second-if node (Ok u) is = is.1 node
 second-if node (Err fault) is = tt
 
+third-if : (answer : Result Update ReadFault) → IfOk answer IsTakable → IfOk answer (λ u. is_change u ≡ true)
+third-if (Ok u) is = is.2
+third-if (Err fault) is = tt
+
 -- a put that is read is formed, and is for an interface of workloads
 pub resource_with-formed : (services : Services) (d : Data) → IfOk (resource_with services d) (λ u. is_formed u ≡ true)
 resource_with-formed services d = first-if (resource_with services d) (resource_with-takable services d)
@@ -146,6 +151,10 @@ delete_of-formed d = first-if (delete_of d) (delete_of-takable d)
 
 pub delete_of-workload : (node : List ℕ) (d : Data) → IfOk (delete_of d) (λ u. puts_workload_interface node u ≡ true)
 delete_of-workload node d = second-if node (delete_of d) (delete_of-takable d)
+
+-- which is no mark that all is in sync
+pub delete_of-change : (d : Data) → IfOk (delete_of d) (λ u. is_change u ≡ true)
+delete_of-change d = third-if (delete_of d) (delete_of-takable d)
 
 -- what code answers of them
 pub answered-workload : (answer told : Result Update ReadFault) → ((node : List ℕ) → IfOk answer (λ u. puts_workload_interface node u ≡ true)) → IsAnswerOf answer told → IfOk told (λ u. (node : List ℕ) → puts_workload_interface node u ≡ true)

@@ -43,10 +43,9 @@ layer path d = do
   icmp_code ← defaulted 0 (whole 0 255) path (codes "icmpCode") d
   Ok (record { sport = sport; dport = dport; icmp_kind = icmp_kind; icmp_code = icmp_code })
 
-unfoldable pub packet_fields : Reader Packet
-packet_fields path d = do
-  iface_in ← required (text Interface) path (codes "in") d
-  iface_out ← required (text Interface) path (codes "out") d
+-- what it holds beside the interfaces between which it goes
+unfoldable pub packet_between : List ℕ → List ℕ → Reader Packet
+packet_between iface_in iface_out path d = do
   ip ← header path d
   behind ← layer path d
   connection ← defaulted New state path (codes "state") d
@@ -62,6 +61,12 @@ packet_fields path d = do
     icmp_code = behind.icmp_code;
     state = connection;
   })
+
+unfoldable pub packet_fields : Reader Packet
+packet_fields path d = do
+  iface_in ← required (text Interface) path (codes "in") d
+  iface_out ← required (text Interface) path (codes "out") d
+  packet_between iface_in iface_out path d
 
 -- the packet, or its first fault
 unfoldable pub packet_of : Data → Result Packet ReadFault

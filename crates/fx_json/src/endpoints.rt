@@ -128,8 +128,8 @@ fn read_holdings(alloc: Global, path: &Path<'_>, spec: &Value) -> Result<Holding
     })
 }
 
-// A port that an endpoint has under a name.
-struct EndpointPortForm;
+/// A port that an endpoint has under a name.
+pub struct EndpointPortForm;
 
 impl Form for EndpointPortForm {
     type Read = EndpointPort;

@@ -4,9 +4,9 @@ ghost use Rattle.serde_json.specs.Find.{as_str};
 ghost use Rattle.serde_json.specs.View.{view};
 ghost use Rattle.fx_fields.specs.Faults.{IsAnswerOf};
 ghost use Rattle.fx_fields.specs.Paths.{text_of};
-ghost use Rattle.fx_json.specs.Packets.{state_named, state, header, layer, packet_fields, packet_of};
+ghost use Rattle.fx_json.specs.Packets.{state_named, state, header, layer, packet_between, packet_fields, packet_of};
 
-use fx_base::{Ipv4, Proto};
+use fx_base::{Ipv4, Proto, Text};
 use fx_fields::{
     AddressForm, ByteForm, Form, Path, ProtocolForm, ReadFault, TextForm, WordForm, defaulted,
     formed, required,
@@ -29,6 +29,20 @@ fn packet(alloc: Global, path: &Path<'_>, value: &Value) -> Result<Packet, ReadF
 {
     let iface_in = required(alloc, &TextForm::Interface, path, "in", value)?;
     let iface_out = required(alloc, &TextForm::Interface, path, "out", value)?;
+    read_packet_between(alloc, iface_in, iface_out, path, value)
+}
+
+/// What a packet holds that goes from one interface to another.
+#[tactic(auto, unfolding(crate::specs::Packets::packet_between))]
+pub fn read_packet_between(
+    alloc: Global,
+    iface_in: Text,
+    iface_out: Text,
+    path: &Path<'_>,
+    value: &Value,
+) -> Result<Packet, ReadFault>
+    ensures { IsAnswerOf (packet_between iface_in iface_out (text_of path.now) (view value.now)) result }
+{
     let header = read_header(alloc, path, value)?;
     let layer = read_layer(alloc, path, value)?;
     let state = defaulted(alloc, &StateForm, State::New, path, "state", value)?;

@@ -1,8 +1,9 @@
--- Each update that is read is formed, and puts no endpoint on an interface that isn't one of workloads.
+-- Each update that is read is formed, puts no endpoint on an interface that isn't one of workloads, and puts or deletes.
 use Rattle.std.proofs.Common.{◌≡◌, ℕ, List, true, Some, None, Result, Ok, Err, IfOk, refl}
 use Rattle.serde_json.specs.Data.{Data}
 use Rattle.fx_model.specs.declared.resources.Update.{Update}
 use Rattle.fx_model.specs.Formed.{is_formed_policy_id, is_formed_policy, is_formed, puts_workload_interface}
+use Rattle.fx_model.specs.Steps.{is_change}
 use Rattle.fx_model.specs.declared.ids.PolicyId.TheVariants.{Kube}
 use Rattle.fx_fields.specs.declared.fault.ReadFault.{ReadFault}
 use Rattle.fx_fields.specs.declared.kinds.KubernetesKind.{KubernetesKind}
@@ -26,11 +27,11 @@ use Rattle.fx_k8s.proofs.FormedConversion.{policy-formed}
 
 namespace_put-takable : (d : Data) → IfOk (namespace_put d) IsTakable
 unfolding namespace_put
-namespace_put-takable d = then-if IsTakable (global_metadata_in d) _ (λ about _. (refl, λ node. refl))
+namespace_put-takable d = then-if IsTakable (global_metadata_in d) _ (λ about _. (refl, λ node. refl, refl))
 
 account_put-takable : (d : Data) → IfOk (account_put d) IsTakable
 unfolding account_put
-account_put-takable d = then-if IsTakable (metadata_in d) _ (λ about _. (refl, λ node. refl))
+account_put-takable d = then-if IsTakable (metadata_in d) _ (λ about _. (refl, λ node. refl, refl))
 
 policy_put-takable : (d : Data) → IfOk (policy_put d) IsTakable
 unfolding policy_put
@@ -40,6 +41,7 @@ policy_put-takable d =
       both (is_formed_policy_id (Kube named.ns named.name)) (is_formed_policy (converted_policy named.ns policy)) (named_in-formed d named named_read)
           (policy-formed named.ns (named_in_string d named named_read) policy (read-if IsFormedPolicy (policy_in d) policy (policy_in-formed d) policy_read)),
       λ node. refl,
+      refl,
     )))
 
 kubernetes_put-takable : (kind : KubernetesKind) (d : Data) → IfOk (kubernetes_put kind d) IsTakable
@@ -63,8 +65,15 @@ second-if : (node : List ℕ) (answer : Result Update ReadFault) → IfOk answer
 second-if node (Ok u) is = is.1 node
 second-if node (Err fault) is = tt
 
+third-if : (answer : Result Update ReadFault) → IfOk answer IsTakable → IfOk answer (λ u. is_change u ≡ true)
+third-if (Ok u) is = is.2
+third-if (Err fault) is = tt
+
 pub put_with-formed : (services : Services) (d : Data) → IfOk (put_with services d) (λ u. is_formed u ≡ true)
 put_with-formed services d = first-if (put_with services d) (put_with-takable services d)
 
 pub put_with-workload : (services : Services) (node : List ℕ) (d : Data) → IfOk (put_with services d) (λ u. puts_workload_interface node u ≡ true)
 put_with-workload services node d = second-if node (put_with services d) (put_with-takable services d)
+
+pub put_with-change : (services : Services) (d : Data) → IfOk (put_with services d) (λ u. is_change u ≡ true)
+put_with-change services d = third-if (put_with services d) (put_with-takable services d)

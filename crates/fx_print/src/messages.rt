@@ -5,12 +5,11 @@ ghost use Rattle.fx_model.specs.Lent.{change_of};
 ghost use Rattle.fx_model.specs.PolicyIdTexts.{policy_id_text};
 ghost use Rattle.fx_model.specs.MessageTexts.{each_member, behind, keys_text, pass_text, tier_text, later_tiers, tiers_text, counts_text, rules_text, sides_text, endpoint_text, named_line, message_line};
 
-use crate::members::{push_member, type_name};
-use crate::texts::{push_both, push_decimal, push_word};
 use fx_base::{Memory, NameKey, SetName, Text};
 use fx_model::{
     MemberList, Message, PolicyId, ViewEndpoint, ViewPolicy, ViewProfile, ViewRule, ViewTier,
 };
+use fx_rows::{push_both, push_decimal, push_member, push_word, type_name};
 use std::alloc::Global;
 
 /// The line of a message.

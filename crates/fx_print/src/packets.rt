@@ -6,9 +6,9 @@ ghost use Rattle.fx_model.specs.PolicyIdTexts.{policy_id_text};
 ghost use Rattle.fx_model.specs.PacketTexts.{hop_text, hops_text, path_line, reason_text, side_line, side_lines, verdict_line, packet_lines};
 
 use crate::messages::push_id;
-use crate::texts::{push_both, push_decimal};
 use fx_base::{Memory, Text};
 use fx_model::{Packet, PolicyId, Reason, Verdict};
+use fx_rows::{push_both, push_decimal};
 use fx_walk::Hop;
 use std::alloc::Global;
 
@@ -81,7 +81,8 @@ fn push_side(
     Ok(())
 }
 
-fn side_text(alloc: Global, side: &[u8], iface: &Text, why: &Reason) -> Result<Text, Memory>
+/// The line of a reason on a side.
+pub fn side_text(alloc: Global, side: &[u8], iface: &Text, why: &Reason) -> Result<Text, Memory>
     ensures { IfOk result (λ text. text ≡ side_line side.now iface.now why.now) }
 {
     let mut bytes = Vec::from_slice(alloc, side)?;
@@ -127,7 +128,8 @@ fn push_profile(line: &mut Vec<u8>, name: &Text, place: u64) -> Result<(), Memor
     Ok(())
 }
 
-fn verdict_bytes(verdict: Verdict) -> &'static [u8]
+/// The line of a verdict.
+pub fn verdict_bytes(verdict: Verdict) -> &'static [u8]
     ensures { result.now ≡ verdict_line verdict }
 {
     match verdict {

@@ -1,20 +1,12 @@
 //! Numbers and plain answers as text.
-ghost use Rattle.std.specs.Prelude.{◌≡◌, ◌++◌, ◌∷◌, OnOk, IfOk, decimal};
+ghost use Rattle.std.specs.Prelude.{◌≡◌, ◌++◌, OnOk, IfOk};
 ghost use Rattle.fx_fields.specs.Faults.{path_of};
 ghost use Rattle.fx_print.specs.Texts.{path_text, place_text, fault_text, detail_of, refusal_line, more_text, flushed_line, numbered, soak_line};
 
 use fx_base::{Memory, Text};
 use fx_fields::{ReadFault, Refusal};
-use itoa::Buffer;
+use fx_rows::{push_decimal, push_word};
 use std::alloc::Global;
-
-pub fn push_decimal(line: &mut Vec<u8>, number: u64) -> Result<(), Memory>
-    ensures { OnOk result (line.new.items ≡ line.old.items ++ decimal number) }
-{
-    let mut buffer = Buffer::new();
-    line.extend_from_slice(buffer.format(number).as_bytes())?;
-    Ok(())
-}
 
 /// The line of a refused line, whose number is from 1.
 pub fn refusal_text(alloc: Global, line: u64, refusal: &Refusal) -> Result<Text, Memory>
@@ -71,24 +63,6 @@ fn push_place(line: &mut Vec<u8>, place: Option<u32>) -> Result<(), Memory>
         }
         None => Ok(()),
     }
-}
-
-/// Two pieces, one behind the other.
-pub fn push_both(line: &mut Vec<u8>, first: &[u8], second: &[u8]) -> Result<(), Memory>
-    ensures { OnOk result (line.new.items ≡ line.old.items ++ (first.now ++ second.now)) }
-{
-    line.extend_from_slice(first)?;
-    line.extend_from_slice(second)?;
-    Ok(())
-}
-
-/// A space and a word.
-pub fn push_word(line: &mut Vec<u8>, word: &[u8]) -> Result<(), Memory>
-    ensures { OnOk result (line.new.items ≡ line.old.items ++ (32 ∷ word.now)) }
-{
-    line.extend_from_slice(b" ")?;
-    line.extend_from_slice(word)?;
-    Ok(())
 }
 
 /// The line at a flush's end: how many messages there were, and whether more are left.

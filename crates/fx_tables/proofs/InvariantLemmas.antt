@@ -20,7 +20,7 @@ use Rattle.fx_model.specs.Messages.{Members, members_of}
 use Rattle.fx_model.specs.Tables.{ChainName, Chains, Sets}
 use Rattle.fx_model.specs.Ranks.{AllLeadBelow, rank_of}
 use Rattle.fx_model.specs.Closed.{LeadsThere, AllLeadThere, NamesThere, MatchesNameThere, AllNameThere}
-use Rattle.fx_model.specs.Shapes.{have_shape, is_member_of}
+use Rattle.fx_model.specs.Shapes.{have_shape, is_member_of, AreOfKinds}
 use Rattle.fx_tables.specs.Leads.{LeadsElsewhere, AllLeadElsewhere, NoneLeadsTo}
 use Rattle.fx_tables.specs.Names.{NamesElse, MatchesNameElse, AllNameElse, NoneNames}
 use Rattle.fx_tables.specs.Invariant.{AreKept}
@@ -33,13 +33,21 @@ no_rules rules e = cc
 no_members : {A : Type 0} (members : Members) → None ≡ Some members → A
 no_members members e = cc
 
-pub kept-empty : AreKept (record { sets = map.empty; chains = map.empty })
-kept-empty = record {
+-- sets alone
+sets_alone : (sets : Sets) → AreOfKinds sets → AreKept (record { sets = sets; chains = map.empty })
+sets_alone sets kinds = record {
   ranked = ranked-empty;
-  closed = closed-empty map.empty;
+  closed = closed-empty sets;
   shaped = λ name rules e. no_rules rules (sym (get_empty name) ∙ e);
-  kinds = λ name members e. no_members members (sym (get_empty name) ∙ e);
+  kinds = kinds;
 }
+
+-- copies of sets alone
+pub kept_sets : (sets copies : Sets) (chains : Chains) → AreOfKinds sets → copies ≡ sets → chains ≡ map.empty → AreKept (record { sets = copies; chains = chains })
+kept_sets sets copies chains kinds copied none = rw (copied, none) (sets_alone sets kinds)
+
+pub kept-empty : AreKept (record { sets = map.empty; chains = map.empty })
+kept-empty = sets_alone map.empty (λ name members e. no_members members (sym (get_empty name) ∙ e))
 
 -- ---- chains
 

@@ -1,5 +1,5 @@
 //! The tables, and the operations on them.
-ghost use Rattle.std.specs.Prelude.{◌≡◌, ◌<◌, length, OnOk, OnErr, IsSome, true, false};
+ghost use Rattle.std.specs.Prelude.{◌≡◌, ◌<◌, length, IfOk, OnOk, OnErr, IsSome, true, false};
 ghost use Rattle.std.specs.List.{insert, remove};
 ghost use Rattle.std.specs.Option.{option_copied};
 ghost use Rattle.std.specs.FinMap as map;
@@ -54,6 +54,20 @@ impl Tables {
             sets: SetMap::new(alloc),
             chains: ChainMap::new(alloc),
         }
+    }
+
+    /// Copies of these sets, and no chains.
+    pub fn with_sets(alloc: Global, sets: &SetMap<MemberSet>) -> Result<Tables, Memory>
+        requires { AreOfKinds sets.now }
+        ensures { IfOk result (λ t. t ≡ record { sets = sets.now; chains = map.empty }) }
+    {
+        let copies = sets.clone()?;
+        let tables = Tables {
+            alloc,
+            sets: copies,
+            chains: ChainMap::new(alloc),
+        };
+        Ok(tables)
     }
 
     /// Creates a set without members; its name tells its kind. Counts as one operation, also if memory runs out.

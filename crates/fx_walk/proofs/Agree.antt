@@ -1,5 +1,5 @@
 -- One run, and what the policy reference says.
-use Rattle.std.proofs.Common.{◌≡◌, ℕ, List, [], Option, refl, sym, ap, subst, ◌∙◌}
+use Rattle.std.proofs.Common.{◌≡◌, ℕ, List, [], Option, sym, ap, subst, ◌∙◌}
 use Rattle.fx_model.specs.declared.packet.Packet.{Packet}
 use Rattle.fx_model.specs.declared.packet.Verdict.{Verdict}
 use Rattle.fx_model.specs.declared.chain.Reason.{Reason}
@@ -8,7 +8,7 @@ use Rattle.fx_model.specs.Tables.{ChainName, Tables, forward}
 use Rattle.fx_model.specs.ViewTables.{tables_of}
 use Rattle.fx_model.specs.Ranks.{IsRanked}
 use Rattle.fx_model.specs.Machine.{holds, Reasons, Trace, nothing_noted, last_reason, hops_and_reasons, Run, at_rule, Decides, Traces, RunHasOneEnd}
-use Rattle.fx_model.specs.Walk.{Ended, Accepted, Dropped, Left, Through, verdict_of, noted_in, over_chain}
+use Rattle.fx_model.specs.Walk.{Ended, verdict_of, noted_in, over_chain}
 use Rattle.fx_model.specs.Policy.{Outcome}
 use Rattle.fx_model.specs.ViewPolicy.{TablesAgree, IsPolicyAnswer, PolicyIsKept}
 use Rattle.fx_walk.specs.Serving.{IsServedApart}
@@ -17,7 +17,7 @@ use Rattle.fx_laws.proofs.FormedLemmas.{has_workload_interfaces-view_of}
 use Rattle.fx_laws.proofs.Leading.{ranked-tables}
 use Rattle.fx_laws.proofs.ViewClosed.{view_of-closed}
 use Rattle.fx_walk.proofs.Walks.{ended-run, one-end}
-use Rattle.fx_walk.proofs.Seen.{seen_by, traced_reasons}
+use Rattle.fx_walk.proofs.Seen.{seen_by, verdict-seen, noted-seen, traced_reasons}
 use Rattle.fx_walk.proofs.Families.{tables_render}
 use Rattle.fx_walk.proofs.FirstPackets.{machine_agrees}
 use Rattle.fx_walk.proofs.Servable.{served_apart}
@@ -48,22 +48,9 @@ tables_agree v a closed on formed new = machine_agrees a v (tables_of v).chains 
 
 pub policy_is_kept : PolicyIsKept
 policy_is_kept dg R a servable new =
-    let apart : IsServedApart dg R = served_apart dg R servable in
+    let apart : IsServedApart dg R = served_apart dg R servable.formed servable.clash_free in
     subst (λ (x : Outcome). Decides (tables_of (view_of dg R)) a x.verdict x.egress x.ingress) (view_is_policy dg R a apart)
     (tables_agree (view_of dg R) a (view_of-closed dg R) (has_workload_interfaces-view_of dg R servable.on_workloads) (formed_rules dg R apart) new)
-
-module _ {S T : Type 0} (f : S → T) where
-  verdict-seen : (e : Ended S) → verdict_of (seen_by f e) ≡ verdict_of e
-  verdict-seen (Accepted s) = refl
-  verdict-seen (Dropped s) = refl
-  verdict-seen (Left m s) = refl
-  verdict-seen (Through m s) = refl
-
-  noted-seen : (e : Ended S) → noted_in (seen_by f e) ≡ f (noted_in e)
-  noted-seen (Accepted s) = refl
-  noted-seen (Dropped s) = refl
-  noted-seen (Left m s) = refl
-  noted-seen (Through m s) = refl
 
 -- the run that writes its path decides as the run does
 pub traced_decides : (tables : Tables) (a : Packet) → IsRanked tables.chains → (before after : List (ChainName × ℕ)) (v : Verdict) (e i : Option Reason) → Traces tables a before after v e i → Decides tables a v e i

@@ -28,7 +28,7 @@ use Rattle.fx_walk.proofs.Sides.{Concludes, call, called, workload_met, root_dec
 module _ (a : Packet) (v : View) (chains : Chains) (given : Renders v chains) (formed : HasFormedRules v) where
   -- the rules of the first chain from here on
   abbrev first : ℕ → List ChainRule → Onward Reasons
-  first p rs = over_rules last_reason (holds v.sets a) (call a v chains given formed 4) forward p rs
+  first p rs = over_rules last_reason (holds v.sets a) (call a v chains given.rules formed 4) forward p rs
 
   abbrev turned : Direction → Reasons → Reasons
   turned d s = record s { side = Some d }
@@ -61,20 +61,20 @@ module _ (a : Packet) (v : View) (chains : Chains) (given : Renders v chains) (f
   abbrev from_side : Direction → List ChainRule → ℕ → Reasons → Ended Reasons
   from_side d rs m s = first (place_of d) (side_rule d ∷ rs) m s
 
-  side_reached : (d : Direction) (rs : List ChainRule) (m : ℕ) (s : Reasons) (o : Option ViewEndpoint) → a.state ≡ New → maps.get v.endpoints (iface_at (end_of d) a) ≡ o → is_workload (iface_at (end_of d) a) ≡ true → DecidedSide d (place_of d) rs (from_side d rs m s) s (root_decision a v chains given formed d o).verdict (root_decision a v chains given formed d o).why
+  side_reached : (d : Direction) (rs : List ChainRule) (m : ℕ) (s : Reasons) (o : Option ViewEndpoint) → a.state ≡ New → maps.get v.endpoints (iface_at (end_of d) a) ≡ o → is_workload (iface_at (end_of d) a) ≡ true → DecidedSide d (place_of d) rs (from_side d rs m s) s (root_decision a v chains given.rules formed d o).verdict (root_decision a v chains given.rules formed d o).why
   side_reached d rs m s o new e h =
-      subst (λ x. DecidedSide d (place_of d) rs x s (root_decision a v chains given formed d o).verdict (root_decision a v chains given formed d o).why) (sym hit)
-      (after_root d (place_of d) rs (call a v chains given formed 4 (root_of d) m (turned d s)) s _ _ (root_ends a v chains given formed 0 d new m (turned d s) o e))
+      subst (λ x. DecidedSide d (place_of d) rs x s (root_decision a v chains given.rules formed d o).verdict (root_decision a v chains given.rules formed d o).why) (sym hit)
+      (after_root d (place_of d) rs (call a v chains given.rules formed 4 (root_of d) m (turned d s)) s _ _ (root_ends a v chains given.rules formed given.ways 0 d new m (turned d s) o e))
     where
-      hit : from_side d rs m s ≡ onward (after_jump (call a v chains given formed 4 (root_of d) m (turned d s))) (first (suc (place_of d)) rs)
+      hit : from_side d rs m s ≡ onward (after_jump (call a v chains given.rules formed 4 (root_of d) m (turned d s))) (first (suc (place_of d)) rs)
       hit =
-          walk_hit last_reason (holds v.sets a) (call a v chains given formed 4) forward (place_of d) (side_rule d) rs m s (workload_met a v chains given formed m (end_of d) true h)
-          ∙ ap (λ t. onward (after_jump (call a v chains given formed 4 (root_of d) m t)) (first (suc (place_of d)) rs)) (turned_as d s)
+          walk_hit last_reason (holds v.sets a) (call a v chains given.rules formed 4) forward (place_of d) (side_rule d) rs m s (workload_met a v chains given.rules formed m (end_of d) true h)
+          ∙ ap (λ t. onward (after_jump (call a v chains given.rules formed 4 (root_of d) m t)) (first (suc (place_of d)) rs)) (turned_as d s)
 
   side_goes : (d : Direction) (rs : List ChainRule) (m : ℕ) (s : Reasons) → a.state ≡ New → ((x : ViewEndpoint) → maps.get v.endpoints (iface_at (end_of d) a) ≡ Some x → is_workload (iface_at (end_of d) a) ≡ true) → (o : Option ViewEndpoint) → maps.get v.endpoints (iface_at (end_of d) a) ≡ o → (b : Bool) → is_workload (iface_at (end_of d) a) ≡ b → SideGoes d (place_of d) rs (from_side d rs m s) s (side_verdict (view_verdict_at v d a o) (iface_at (end_of d) a))
   side_goes d rs m s new on (Some x) e b h = side_reached d rs m s (Some x) new e (on x e)
   side_goes d rs m s new on None e true h = subst (λ x. SideGoes d (place_of d) rs (from_side d rs m s) s (unknown_or_free x)) (sym h) (side_reached d rs m s None new e h)
-  side_goes d rs m s new on None e false h = subst (λ x. SideGoes d (place_of d) rs (from_side d rs m s) s (unknown_or_free x)) (sym h) (m, walk_miss last_reason (holds v.sets a) (call a v chains given formed 4) forward (place_of d) (side_rule d) rs m s (workload_met a v chains given formed m (end_of d) false h))
+  side_goes d rs m s new on None e false h = subst (λ x. SideGoes d (place_of d) rs (from_side d rs m s) s (unknown_or_free x)) (sym h) (m, walk_miss last_reason (holds v.sets a) (call a v chains given.rules formed 4) forward (place_of d) (side_rule d) rs m s (workload_met a v chains given.rules formed m (end_of d) false h))
 
   -- ---- the whole run
 
@@ -89,7 +89,7 @@ module _ (a : Packet) (v : View) (chains : Chains) (given : Renders v chains) (f
   to_end e f w egress ingress q h = subst (λ x. RunsTo x w egress ingress) (sym q) h
 
   through_end : (p m : ℕ) (s : Reasons) → RunsTo (first p [] m s) Allow s.egress s.ingress
-  through_end p m s = to_end _ _ Allow s.egress s.ingress (walk-end last_reason (holds v.sets a) (call a v chains given formed 4) forward p m s) (s.side, (refl, refl))
+  through_end p m s = to_end _ _ Allow s.egress s.ingress (walk-end last_reason (holds v.sets a) (call a v chains given.rules formed 4) forward p m s) (s.side, (refl, refl))
 
   -- the ingress side, after what the egress side left
   ingress_ends : (m : ℕ) (s : Reasons) (o : Option Decision) → s.ingress ≡ None → SideGoes Ingress 3 [] (from_side Ingress [] m s) s o → RunsAs (from_side Ingress [] m s) (with_ingress s.egress o)
@@ -122,13 +122,13 @@ module _ (a : Packet) (v : View) (chains : Chains) (given : Renders v chains) (f
     unfolding last_reason
     first_noted = refl
 
-    begins : call a v chains given formed 5 forward 0 nothing_noted ≡ from_side Egress (side_rule Ingress ∷ []) (marked 0 0 0xf0000) nothing_noted
+    begins : call a v chains given.rules formed 5 forward 0 nothing_noted ≡ from_side Egress (side_rule Ingress ∷ []) (marked 0 0 0xf0000) nothing_noted
     begins =
-        called a v chains given formed 4 forward forward_rules 0 nothing_noted given.at_forward
-        ∙ walk_hit last_reason (holds v.sets a) (call a v chains given formed 4) forward 1 (plain [] (target.Mark 0 0xf0000)) (side_rule Egress ∷ side_rule Ingress ∷ []) 0 nothing_noted refl
+        called a v chains given.rules formed 4 forward forward_rules 0 nothing_noted given.ways.at_forward
+        ∙ walk_hit last_reason (holds v.sets a) (call a v chains given.rules formed 4) forward 1 (plain [] (target.Mark 0 0xf0000)) (side_rule Egress ∷ side_rule Ingress ∷ []) 0 nothing_noted refl
         ∙ ap (λ t. from_side Egress (side_rule Ingress ∷ []) (marked 0 0 0xf0000) t) first_noted
 
-    whole : RunsAs (call a v chains given formed 5 forward 0 nothing_noted) (view_verdict v a)
+    whole : RunsAs (call a v chains given.rules formed 5 forward 0 nothing_noted) (view_verdict v a)
     whole = to_end _ _ _ _ _ begins (egress_side (marked 0 0 0xf0000) egress_verdict (side_goes Egress (side_rule Ingress ∷ []) (marked 0 0 0xf0000) nothing_noted new (on_workloads v on a.iface_in) (maps.get v.endpoints a.iface_in) refl (is_workload a.iface_in) refl))
 
     pub machine_agrees : IsRanked chains → Decides (record { sets = v.sets; chains = chains }) a (view_verdict v a).verdict (view_verdict v a).egress (view_verdict v a).ingress

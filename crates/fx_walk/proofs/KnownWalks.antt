@@ -18,7 +18,7 @@ unfoldable pub over_look : {S : Type 0} → Notes S → Test → (ChainName → 
 over_look note test look zero c m s = Through m s
 over_look note test look (suc n) c m s = over_rules note test (over_look note test look n) c 1 (look c) m s
 
-same_look : {S : Type 0} (note : Notes S) (test : Test) (chains : Chains) (look : ChainName → List ChainRule) → ((q : ChainName) → rules_in chains q ≡ look q) → (n : ℕ) (c : ChainName) (m : ℕ) (s : S) → over_chain note test chains n c m s ≡ over_look note test look n c m s
+pub same_look : {S : Type 0} (note : Notes S) (test : Test) (chains : Chains) (look : ChainName → List ChainRule) → ((q : ChainName) → rules_in chains q ≡ look q) → (n : ℕ) (c : ChainName) (m : ℕ) (s : S) → over_chain note test chains n c m s ≡ over_look note test look n c m s
 unfolding over_chain over_look
 same_look note test chains look h zero c m s = refl
 same_look note test chains look h (suc n) c m s = λ i. over_rules note test (λ d k t. same_look note test chains look h n d k t i) c 1 (h c i) m s

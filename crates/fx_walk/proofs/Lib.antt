@@ -18,7 +18,8 @@ pub mod WantedTiers
 pub mod Wanted
 pub mod Agree
 pub mod Whole
-mod KnownWalks
+pub mod FromRuns
+pub mod KnownWalks
 mod KnownPaths
 mod KnownTreePaths
 pub mod Servable

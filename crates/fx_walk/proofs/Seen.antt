@@ -5,7 +5,7 @@ use Rattle.fx_model.specs.declared.chain.Target.TheVariants as target
 use Rattle.fx_model.specs.declared.chain.ChainRule.{ChainRule}
 use Rattle.fx_model.specs.Tables.{ChainName, Chains}
 use Rattle.fx_model.specs.Machine.{Test, Notes, Trace, last_reason, hops_and_reasons, hold_all, rules_in}
-use Rattle.fx_model.specs.Walk.{Onward, Ended, Accepted, Dropped, Left, Through, onward, obeyed, after_jump, after_goto, over_rule, over_rules, over_chain}
+use Rattle.fx_model.specs.Walk.{Onward, Ended, Accepted, Dropped, Left, Through, verdict_of, noted_in, onward, obeyed, after_jump, after_goto, over_rule, over_rules, over_chain}
 use Rattle.fx_walk.proofs.Walks.{rule_hit, rule_miss}
 
 abbrev pub seen_by : {S T : Type 0} → (S → T) → Ended S → Ended T
@@ -13,6 +13,19 @@ seen_by f (Accepted s) = Accepted (f s)
 seen_by f (Dropped s) = Dropped (f s)
 seen_by f (Left m s) = Left m (f s)
 seen_by f (Through m s) = Through m (f s)
+
+module _ {S T : Type 0} (f : S → T) where
+  pub verdict-seen : (e : Ended S) → verdict_of (seen_by f e) ≡ verdict_of e
+  verdict-seen (Accepted s) = refl
+  verdict-seen (Dropped s) = refl
+  verdict-seen (Left m s) = refl
+  verdict-seen (Through m s) = refl
+
+  pub noted-seen : (e : Ended S) → noted_in (seen_by f e) ≡ f (noted_in e)
+  noted-seen (Accepted s) = refl
+  noted-seen (Dropped s) = refl
+  noted-seen (Left m s) = refl
+  noted-seen (Through m s) = refl
 
 module _ {S T : Type 0} (f : S → T) (note : Notes S) (note' : Notes T) (agree : (c : ChainName) (p : ℕ) (r : ChainRule) (s : S) → f (note c p r s) ≡ note' c p r (f s)) (a : Test) where
   jump-seen : (x : Ended S) → seen_by f (after_jump x) ≡ after_jump (seen_by f x)
@@ -49,7 +62,7 @@ module _ {S T : Type 0} (f : S → T) (note : Notes S) (note' : Notes T) (agree 
       by_test true e = ap (seen_by f) (rule_hit note a call c p r m s e) ∙ obeyed-seen call call' h r.target m (note c p r s) ∙ ap (obeyed call' r.target m) (agree c p r s) ∙ sym (rule_hit note' a call' c p r m (f s) e)
       by_test false e = ap (seen_by f) (rule_miss note a call c p r m s e) ∙ sym (rule_miss note' a call' c p r m (f s) e)
 
-  rules-seen : (call : ChainName → Onward S) (call' : ChainName → Onward T) → ((c : ChainName) (m : ℕ) (s : S) → seen_by f (call c m s) ≡ call' c m (f s)) → (c : ChainName) (p : ℕ) (rs : List ChainRule) (m : ℕ) (s : S) → seen_by f (over_rules note a call c p rs m s) ≡ over_rules note' a call' c p rs m (f s)
+  pub rules-seen : (call : ChainName → Onward S) (call' : ChainName → Onward T) → ((c : ChainName) (m : ℕ) (s : S) → seen_by f (call c m s) ≡ call' c m (f s)) → (c : ChainName) (p : ℕ) (rs : List ChainRule) (m : ℕ) (s : S) → seen_by f (over_rules note a call c p rs m s) ≡ over_rules note' a call' c p rs m (f s)
   unfolding over_rules
   rules-seen call call' h c p [] m s = refl
   rules-seen call call' h c p (r ∷ rs) m s =

@@ -19,7 +19,7 @@ use Rattle.fx_model.specs.declared.resources.Resources.{Resources}
 use Rattle.fx_model.specs.Resources.{is_local}
 use Rattle.fx_model.specs.Policy.{is_workload}
 use Rattle.fx_model.specs.Formed.{implies, is_formed_endpoint_entry, is_formed_profile, is_formed_policy, is_formed_policy_id, is_formed_policy_entry, are_formed, has_workload_interface, have_workload_interfaces}
-use Rattle.fx_walk.specs.Serving.{ServedEndpointsAreApart}
+use Rattle.fx_walk.specs.Serving.{ServedEndpointsAreApart, ServedStandOnWorkloads}
 use Rattle.fx_laws.proofs.Interfaces.{same_key, one_interface}
 use Rattle.fx_walk.proofs.KnownSets.{sets_known}
 use Rattle.fx_laws.proofs.PolicyKeys.{policies_apart}
@@ -47,17 +47,19 @@ local_workload R all k e at here =
     ap (λ b. implies b (is_workload e.iface)) (sym here) ∙ entry_passes (λ x. has_workload_interface R.node x.1) R all k e at
 
 pub served_apart : ServedEndpointsAreApart
-served_apart dg R servable = record {
-  rules = rules_formed R servable.formed;
-  on_workloads = λ k e at s. local_workload R servable.on_workloads k e at (both_pass R.in_sync (is_local R e) s).1;
+served_apart dg R formed clash_free = record {
+  rules = rules_formed R formed;
   apart = λ k l e f at there s t same.
-      let entries = endpoints_formed R servable.formed in
+      let entries = endpoints_formed R formed in
       let first = entry_passes is_formed_endpoint_entry R entries k e at in
       let second = entry_passes is_formed_endpoint_entry R entries l f there in
       same_key k l e f first second
-      (one_interface dg R servable.clash_free k l e f first second at there (both_pass R.in_sync (is_local R e) s).1 (both_pass R.in_sync (is_local R f) t).1 same);
-  policies = λ id p at. (policy_formed R servable.formed id p at).1;
-  policies_apart = λ a b p q at there. policies_apart dg R servable.clash_free a b p q at there (policy_formed R servable.formed a p at).0 (policy_formed R servable.formed b q there).0;
-  keys_apart = keys_apart dg R servable.clash_free;
-  members = sets_known dg R servable.clash_free (rules_formed R servable.formed) (λ id p at. (policy_formed R servable.formed id p at).1);
+      (one_interface dg R clash_free k l e f first second at there (both_pass R.in_sync (is_local R e) s).1 (both_pass R.in_sync (is_local R f) t).1 same);
+  policies = λ id p at. (policy_formed R formed id p at).1;
+  policies_apart = λ a b p q at there. policies_apart dg R clash_free a b p q at there (policy_formed R formed a p at).0 (policy_formed R formed b q there).0;
+  keys_apart = keys_apart dg R clash_free;
+  members = sets_known dg R clash_free (rules_formed R formed) (λ id p at. (policy_formed R formed id p at).1);
 }
+
+pub on_workloads : ServedStandOnWorkloads
+on_workloads R all k e at served = local_workload R all k e at (both_pass R.in_sync (is_local R e) served).1

@@ -28,7 +28,7 @@ use Rattle.fx_model.specs.declared.view.ViewProfile.{ViewProfile}
 use Rattle.fx_model.specs.declared.view.ViewEndpoint.{ViewEndpoint}
 use Rattle.fx_model.specs.Directions.{Direction, Ingress, Egress}
 use Rattle.fx_model.specs.Formed.{passes, is_formed_view_profile_rule}
-use Rattle.fx_model.specs.Rendering.{plain, tagged, is_set, is_clear, accept_mark, pass_mark, rendered_rules}
+use Rattle.fx_model.specs.Rendering.{plain, tagged, clear_mark, is_set, is_clear, accept_mark, pass_mark, rendered_rules}
 use Rattle.fx_model.specs.Tables.{ChainName, Chains, Sets, forward, policy_chain, policy_rules, policy_jumps, policy_side, profile_chain, profile_rules, profile_jumps, profile_side, present_or_missing, pass_or_drop, tier_end, tier_rules, tiers_side, endpoint_chain, endpoint_rules, end_of, root_of}
 use Rattle.fx_model.specs.Machine.{holds, hold_all, marked, iface_at, state_in, rules_in, Reasons, with_reason, last_reason}
 use Rattle.fx_model.specs.Walk.{Onward, Ended, Dropped, Left, onward, after_jump, after_goto, over_rules, over_chain}
@@ -39,7 +39,7 @@ use Rattle.fx_walk.proofs.Marks.{clear_same, clear_other, is_zero, is_not_zero}
 use Rattle.fx_walk.proofs.Blocks.{only, noted_as, plain_hit, miss}
 use Rattle.fx_walk.specs.Endings.{EndsAs}
 use Rattle.fx_walk.proofs.Rules.{tagged_drop, return_hit, return_miss, formed_parts, each_formed, all_clear, profile_clear, rules_end}
-use Rattle.fx_walk.proofs.Families.{found, Renders}
+use Rattle.fx_walk.proofs.Families.{found, RendersRules, RendersWays}
 use Rattle.fx_walk.proofs.TreeWalks.{root_arrives, root_drops}
 
 -- rules of profiles don't pass
@@ -67,7 +67,7 @@ Concludes e s Deny why = e ≡ Dropped (with_reason s.side why s)
 abbrev pub ConcludesAs : Ended Reasons → Reasons → Decision → Type 0
 ConcludesAs e s x = Concludes e s x.verdict x.why
 
-concludes_from : (e f : Ended Reasons) (s : Reasons) (x : Decision) → e ≡ f → ConcludesAs f s x → ConcludesAs e s x
+pub concludes_from : (e f : Ended Reasons) (s : Reasons) (x : Decision) → e ≡ f → ConcludesAs f s x → ConcludesAs e s x
 concludes_from e f s x q h = subst (λ y. ConcludesAs y s x) (sym q) h
 
 -- a reason that was told over another one
@@ -105,7 +105,7 @@ first-append (x ∷ xs) ys = by_test x.matches x.action (first-append xs ys)
     by_test true k ih = act k ih
     by_test false k ih = ih
 
-module _ (a : Packet) (v : View) (chains : Chains) (given : Renders v chains) (formed : HasFormedRules v) where
+module _ (a : Packet) (v : View) (chains : Chains) (given : RendersRules v chains) (formed : HasFormedRules v) where
   abbrev pub call : ℕ → ChainName → Onward Reasons
   call n = over_chain last_reason (holds v.sets a) chains n
 
@@ -131,7 +131,7 @@ module _ (a : Packet) (v : View) (chains : Chains) (given : Renders v chains) (f
   -- ---- an endpoint's chain
   module _ (n : ℕ) (c : ChainName) (inner : bytes_eq c forward ≡ false) where
     -- the rules of the chain from here on, each jump going one chain deeper
-    abbrev walk : ℕ → List ChainRule → ℕ → Reasons → Ended Reasons
+    abbrev pub walk : ℕ → List ChainRule → ℕ → Reasons → Ended Reasons
     walk p rs m s = over_rules last_reason (holds v.sets a) (call (suc n)) c p rs m s
 
     -- these rules conclude so, wherever the accept bit is clear
@@ -256,7 +256,13 @@ module _ (a : Packet) (v : View) (chains : Chains) (given : Renders v chains) (f
         (clear_other m 17 16 (lit< tt) (lit< tt) (omega arith) ∙ z) (clear_same m 17 (lit< tt))
         (tier_tail t.pass_at_end t.name (tier_rules d ts rest) later (tiers_end d ts rest x after)))
 
-  state_misses : (b : Bool) (m : ℕ) → a.state ≡ New → hold_all (holds v.sets a) m (match.State b ∷ []) ≡ false
+    -- the tiers and the profiles of an endpoint, from where its chain clears the accept bit
+    pub sides_end : (d : Direction) (e : ViewEndpoint) (p m : ℕ) (s : Reasons) → ConcludesAs (walk p (plain [] (clear_mark accept_mark) ∷ tier_rules d (tiers_side d e) (profile_jumps d e.profiles)) m s) s (view_endpoint_verdict v d e a)
+    sides_end d e p m s =
+        concludes_from _ _ s _ (plain_hit v.sets a (call (suc n)) c inner p [] 0 accept_mark (tier_rules d (tiers_side d e) (profile_jumps d e.profiles)) m s refl)
+        (tiers_end d (tiers_side d e) (profile_jumps d e.profiles) (profiles_verdict (map (view_listed v d a) e.profiles)) (profiles_end d e.profiles) (suc p) (marked m 0 accept_mark) s (clear_same m 16 (lit< tt)))
+
+  pub state_misses : (b : Bool) (m : ℕ) → a.state ≡ New → hold_all (holds v.sets a) m (match.State b ∷ []) ≡ false
   unfolding holds
   state_misses true m h = only v.sets a m (match.State true) false (ap (state_in true) h)
   state_misses false m h = only v.sets a m (match.State false) false (ap (state_in false) h)
@@ -265,25 +271,7 @@ module _ (a : Packet) (v : View) (chains : Chains) (given : Renders v chains) (f
   unfolding holds
   workload_met m end b h = only v.sets a m (match.Iface end (codes "cali") true) b h
 
-  -- an endpoint's chain, for a packet in state NEW
-  endpoint_ends : (n : ℕ) (d : Direction) (iface : List ℕ) (e : ViewEndpoint) → maps.get v.endpoints iface ≡ Some e → a.state ≡ New → (m : ℕ) (s : Reasons) → ConcludesAs (call (suc (suc n)) (endpoint_chain d iface) m s) s (view_endpoint_verdict v d e a)
-  endpoint_ends n d iface e there new m s =
-      concludes_from _ _ s _
-      (called (suc n) c (endpoint_rules d e) m s (given.at_endpoint d iface e there)
-      ∙ miss v.sets a (call (suc n)) c inner 1 (tagged (match.State true ∷ []) target.Accept reason.Established) _ m s (state_misses true m new)
-      ∙ miss v.sets a (call (suc n)) c inner 2 (tagged (match.State false ∷ []) target.Drop reason.Invalid) _ m s (state_misses false m new)
-      ∙ plain_hit v.sets a (call (suc n)) c inner 3 [] 0 accept_mark (tier_rules d (tiers_side d e) (profile_jumps d e.profiles)) m s refl)
-      (tiers_end n c inner d (tiers_side d e) (profile_jumps d e.profiles) (profiles_verdict (map (view_listed v d a) e.profiles)) (profiles_end n c inner d e.profiles) 4 (marked m 0 accept_mark) s (clear_same m 16 (lit< tt)))
-    where
-      c : ChainName
-      c = endpoint_chain d iface
-
-      inner : bytes_eq (endpoint_chain d iface) forward ≡ false
-      inner = endpoint_inner d iface
-
-  -- ---- the roots
-
-  goto_concludes : (x : Ended Reasons) (s : Reasons) (y : Decision) → ConcludesAs x s y → ConcludesAs (after_goto x) s y
+  pub goto_concludes : (x : Ended Reasons) (s : Reasons) (y : Decision) → ConcludesAs x s y → ConcludesAs (after_goto x) s y
   goto_concludes x s y h = by_verdict y.verdict y.why h
     where
       by_verdict : (w : Verdict) (why : Reason) → Concludes x s w why → Concludes (after_goto x) s w why
@@ -303,16 +291,34 @@ module _ (a : Packet) (v : View) (chains : Chains) (given : Renders v chains) (f
   root_decision d None = record { verdict = Deny; why = reason.UnknownInterface }
   root_decision d (Some e) = view_endpoint_verdict v d e a
 
-  there_or_not : (d : Direction) (o : Option ViewEndpoint) → maps.get v.endpoints (iface_at (end_of d) a) ≡ o → list_any (bytes_eq (iface_at (end_of d) a)) (maps.keys v.endpoints) ≡ is_some o
-  there_or_not d o e = listed_there (iface_at (end_of d) a) ∙ ap is_some e
+  module _ (ways : RendersWays v chains) where
+    -- an endpoint's chain, for a packet in state NEW
+    endpoint_ends : (n : ℕ) (d : Direction) (iface : List ℕ) (e : ViewEndpoint) → maps.get v.endpoints iface ≡ Some e → a.state ≡ New → (m : ℕ) (s : Reasons) → ConcludesAs (call (suc (suc n)) (endpoint_chain d iface) m s) s (view_endpoint_verdict v d e a)
+    endpoint_ends n d iface e there new m s =
+        concludes_from _ _ s _
+        (called (suc n) c (endpoint_rules d e) m s (ways.at_endpoint d iface e there)
+        ∙ miss v.sets a (call (suc n)) c inner 1 (tagged (match.State true ∷ []) target.Accept reason.Established) _ m s (state_misses true m new)
+        ∙ miss v.sets a (call (suc n)) c inner 2 (tagged (match.State false ∷ []) target.Drop reason.Invalid) _ m s (state_misses false m new))
+        (sides_end n c inner d e 3 m s)
+      where
+        c : ChainName
+        c = endpoint_chain d iface
 
-  -- a root is two chains above its endpoints' chains, or one
-  pub root_ends : (n : ℕ) (d : Direction) → a.state ≡ New → (m : ℕ) (s : Reasons) (o : Option ViewEndpoint) → maps.get v.endpoints (iface_at (end_of d) a) ≡ o → ConcludesAs (call (suc (suc (suc (suc n)))) (root_of d) m s) s (root_decision d o)
-  root_ends n d new m s None e = root_drops v.sets a chains d (maps.keys v.endpoints) given.tree (suc (suc n)) m s (there_or_not d None e)
-  root_ends n d new m s (Some x) e =
-      let arrived = root_arrives v.sets a chains d (maps.keys v.endpoints) given.tree (suc (suc n)) m s (there_or_not d (Some x) e) in
-      concludes_from _ _ s _ arrived.2 (goto_concludes _ s _ (at_endpoint arrived.0 arrived.1))
-    where
-      at_endpoint : (k : ℕ) → (k ≡ suc (suc n)) ⊎ (k ≡ suc (suc (suc n))) → ConcludesAs (call k (endpoint_chain d (iface_at (end_of d) a)) m s) s (view_endpoint_verdict v d x a)
-      at_endpoint k (inl h) = subst (λ j. ConcludesAs (call j (endpoint_chain d (iface_at (end_of d) a)) m s) s (view_endpoint_verdict v d x a)) (sym h) (endpoint_ends n d (iface_at (end_of d) a) x e new m s)
-      at_endpoint k (inr h) = subst (λ j. ConcludesAs (call j (endpoint_chain d (iface_at (end_of d) a)) m s) s (view_endpoint_verdict v d x a)) (sym h) (endpoint_ends (suc n) d (iface_at (end_of d) a) x e new m s)
+        inner : bytes_eq (endpoint_chain d iface) forward ≡ false
+        inner = endpoint_inner d iface
+
+    -- ---- the roots
+
+    there_or_not : (d : Direction) (o : Option ViewEndpoint) → maps.get v.endpoints (iface_at (end_of d) a) ≡ o → list_any (bytes_eq (iface_at (end_of d) a)) (maps.keys v.endpoints) ≡ is_some o
+    there_or_not d o e = listed_there (iface_at (end_of d) a) ∙ ap is_some e
+
+    -- a root is two chains above its endpoints' chains, or one
+    pub root_ends : (n : ℕ) (d : Direction) → a.state ≡ New → (m : ℕ) (s : Reasons) (o : Option ViewEndpoint) → maps.get v.endpoints (iface_at (end_of d) a) ≡ o → ConcludesAs (call (suc (suc (suc (suc n)))) (root_of d) m s) s (root_decision d o)
+    root_ends n d new m s None e = root_drops v.sets a chains d (maps.keys v.endpoints) ways.tree (suc (suc n)) m s (there_or_not d None e)
+    root_ends n d new m s (Some x) e =
+        let arrived = root_arrives v.sets a chains d (maps.keys v.endpoints) ways.tree (suc (suc n)) m s (there_or_not d (Some x) e) in
+        concludes_from _ _ s _ arrived.2 (goto_concludes _ s _ (at_endpoint arrived.0 arrived.1))
+      where
+        at_endpoint : (k : ℕ) → (k ≡ suc (suc n)) ⊎ (k ≡ suc (suc (suc n))) → ConcludesAs (call k (endpoint_chain d (iface_at (end_of d) a)) m s) s (view_endpoint_verdict v d x a)
+        at_endpoint k (inl h) = subst (λ j. ConcludesAs (call j (endpoint_chain d (iface_at (end_of d) a)) m s) s (view_endpoint_verdict v d x a)) (sym h) (endpoint_ends n d (iface_at (end_of d) a) x e new m s)
+        at_endpoint k (inr h) = subst (λ j. ConcludesAs (call j (endpoint_chain d (iface_at (end_of d) a)) m s) s (view_endpoint_verdict v d x a)) (sym h) (endpoint_ends (suc n) d (iface_at (end_of d) a) x e new m s)

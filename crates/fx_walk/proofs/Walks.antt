@@ -1,7 +1,8 @@
 -- The walk by recursion is what the machine does step by step.
-use Rattle.std.proofs.Common.{◌≡◌, ◌<◌, ◌≤◌, ℕ, zero, suc, Bool, true, false, List, [], ◌∷◌, slice_get, Option, Some, None, refl, sym, ap, ◌∙◌, subst, drop, length, get_or, ◌-◌, ◌+◌, arith, lit<}
+use Rattle.std.proofs.Common.{◌≡◌, ◌<◌, ◌≤◌, ℕ, zero, suc, Bool, true, false, ◌||◌, if◌then◌else◌, List, [], ◌∷◌, slice_get, Option, Some, None, refl, sym, ap, ◌∙◌, subst, drop, length, get_or, ◌-◌, ◌+◌, arith, lit<}
 use Rattle.std.proofs.Math.Seq.{drop-cons}
 use Rattle.std.proofs.lemmas.List.{drop_all}
+use Rattle.std.specs.Str.{bytes_eq}
 use Rattle.std.specs.FinMap as maps
 use Rattle.fx_model.specs.declared.packet.Verdict.{Verdict}
 use Rattle.fx_model.specs.declared.packet.Verdict.TheVariants.{Allow, Deny}
@@ -9,7 +10,7 @@ use Rattle.fx_model.specs.declared.chain.Target.{Target}
 use Rattle.fx_model.specs.declared.chain.Target.TheVariants as target
 use Rattle.fx_model.specs.declared.chain.ChainRule.{ChainRule}
 use Rattle.fx_model.specs.Tables.{ChainName, Chains, forward}
-use Rattle.fx_model.specs.Ranks.{LeadsBelow, AllLeadBelow, IsRanked, rank_of}
+use Rattle.fx_model.specs.Ranks.{LeadsBelow, AllLeadBelow, IsRanked, rank_of, is_root, is_child, is_host_hook, is_host_root, is_of_endpoint, is_of_host_endpoint}
 use Rattle.fx_model.specs.Machine.{Test, Notes, hold_all, marked, rules_found, rules_in, Place, Config, Next, Goes, Ends, at_rule, popped, acted, at_next, machine_step, Run, ended, stepped}
 use Rattle.fx_model.specs.Walk.{Onward, Ended, Accepted, Dropped, Left, Through, verdict_of, noted_in, onward, obeyed, over_rule, over_rules, over_chain, after_jump, after_goto}
 
@@ -93,6 +94,19 @@ pub walk-over : {S : Type 0} (note : Notes S) (a : Test) (call : ChainName → O
 walk-over note a call c i rules m s whole w h =
     sym (w ∙ ap (λ rs. over_rules note a call c (i + 1) rs m s) (drop_all i rules h) ∙ walk-end note a call c (i + 1) m s)
 
+-- ---- ranks
+
+-- chains have five ranks
+pub rank_below_five : (c : ChainName) → rank_of c < 5
+rank_below_five c = by_tests (bytes_eq c forward || is_host_hook c) (is_root c || is_host_root c) (is_child c) (is_of_endpoint c || is_of_host_endpoint c)
+  where
+    by_tests : (first root child endpoint : Bool) → (if first then 4 else (if root then 3 else (if child then 2 else (if endpoint then 1 else 0)))) < 5
+    by_tests true root child endpoint = lit< tt
+    by_tests false true child endpoint = lit< tt
+    by_tests false false true endpoint = lit< tt
+    by_tests false false false true = lit< tt
+    by_tests false false false false = lit< tt
+
 -- ---- against the machine by single steps
 
 -- what a next configuration, or an end, leads to
@@ -163,7 +177,7 @@ module _ {S : Type 0} (note : Notes S) (a : Test) (chains : Chains) where
         by_test next false h =
             stepped (step-miss c p stack m s r rest e h) (next m s stack v t (subst (λ x. Means note a chains x stack v t) (walk_miss note a call c (suc p) r rest m s h) l))
 
-  low_rules : IsRanked chains → (c : ChainName) → AllLeadBelow (rank_of c) (rules_in chains c)
+  pub low_rules : IsRanked chains → (c : ChainName) → AllLeadBelow (rank_of c) (rules_in chains c)
   low_rules ranked c = by_found (maps.get chains c) refl
     where
       by_found : (o : Option (List ChainRule)) → maps.get chains c ≡ o → AllLeadBelow (rank_of c) (rules_found o)
@@ -177,9 +191,13 @@ module _ {S : Type 0} (note : Notes S) (a : Test) (chains : Chains) where
   chain-run ranked (suc n) c low m s stack v t l =
       rules-run (over_chain note a chains n) (rank_of c) (λ d h. chain-run ranked n d (omega arith)) c (rules_in chains c) 0 refl (low_rules ranked c) m s stack v t l
 
-  -- the whole run, from the walk of the first chain
+  -- the whole run from a chain, from the walk of that chain
+  walked-run-from : IsRanked chains → (c : ChainName) → rank_of c < 5 → (m : ℕ) (s : S) (v : Verdict) (t : S) → Means note a chains (over_chain note a chains 5 c m s) [] v t → Run S note a chains (at_rule c 0 [] m s) v t
+  walked-run-from ranked c low m s v t l = chain-run ranked 5 c low m s [] v t l
+
+  -- the same from the first chain
   pub walked-run : IsRanked chains → (m : ℕ) (s : S) (v : Verdict) (t : S) → Means note a chains (over_chain note a chains 5 forward m s) [] v t → Run S note a chains (at_rule forward 0 [] m s) v t
-  walked-run ranked m s v t l = let low : rank_of forward < 5 = lit< tt in chain-run ranked 5 forward low m s [] v t l
+  walked-run ranked m s v t l = let low : rank_of forward < 5 = lit< tt in walked-run-from ranked forward low m s v t l
 
   own-meaning : (e : Ended S) → Means note a chains e [] (verdict_of e) (noted_in e)
   own-meaning (Accepted s) = (refl, refl)
@@ -187,9 +205,13 @@ module _ {S : Type 0} (note : Notes S) (a : Test) (chains : Chains) where
   own-meaning (Left m s) = (refl, refl)
   own-meaning (Through m s) = (refl, refl)
 
-  -- the run ends as the walk of the first chain does
+  -- the run from a chain ends as the walk of that chain does
+  pub ended-run-from : IsRanked chains → (c : ChainName) → rank_of c < 5 → (s : S) → Run S note a chains (at_rule c 0 [] 0 s) (verdict_of (over_chain note a chains 5 c 0 s)) (noted_in (over_chain note a chains 5 c 0 s))
+  ended-run-from ranked c low s = walked-run-from ranked c low 0 s _ _ (own-meaning (over_chain note a chains 5 c 0 s))
+
+  -- the same from the first chain
   pub ended-run : IsRanked chains → (s : S) → Run S note a chains (at_rule forward 0 [] 0 s) (verdict_of (over_chain note a chains 5 forward 0 s)) (noted_in (over_chain note a chains 5 forward 0 s))
-  ended-run ranked s = walked-run ranked 0 s _ _ (own-meaning (over_chain note a chains 5 forward 0 s))
+  ended-run ranked s = let low : rank_of forward < 5 = lit< tt in ended-run-from ranked forward low s
 
 -- a run has one end
 module _ {S : Type 0} (note : Notes S) (a : Test) (chains : Chains) where

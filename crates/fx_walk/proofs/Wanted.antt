@@ -59,7 +59,7 @@ abbrev is_among : List ℕ → List (List ℕ) → Bool
 is_among q names = list_any (is q) names
 
 -- the map has each of these entries
-abbrev AllThere : maps.FinMap cmp-value.it Endpoint → List (ItemKey × Endpoint) → Type 0
+abbrev pub AllThere : maps.FinMap cmp-value.it Endpoint → List (ItemKey × Endpoint) → Type 0
 AllThere m es = AllByRecursion (λ e. maps.get m e.0 ≡ Some e.1) es
 
 -- ---- the rules of the view are formed where those of the resources are
@@ -233,7 +233,7 @@ module _ (dg : Digest) (R : Resources) (a : Packet) where
   wanted name = view_profile dg name (maps.get R.profiles name)
 
   -- the profiles of these names are active
-  abbrev Within : List (List ℕ) → Type 0
+  abbrev pub Within : List (List ℕ) → Type 0
   Within names = (q : List ℕ) → is_among q names ≡ true → is_active_profile R q ≡ true
 
   within_first : (n : List ℕ) (names : List (List ℕ)) → Within (n ∷ names) → is_active_profile R n ≡ true
@@ -290,10 +290,10 @@ module _ (dg : Digest) (R : Resources) (a : Packet) where
   -- ---- endpoints
 
   -- policies that apply to the endpoint are active
-  abbrev Activates : Endpoint → Type 0
+  abbrev pub Activates : Endpoint → Type 0
   Activates e = (d : Direction) (p : Policy) → applies R d p e ≡ true → is_active R p ≡ true
 
-  endpoint_same : IsServedApart dg R → (d : Direction) (k : ItemKey) (e : Endpoint) → Within e.profiles → Activates e → view_endpoint_verdict (view_of dg R) d (view_endpoint dg R k e) a ≡ endpoint_verdict R d e a
+  pub endpoint_same : IsServedApart dg R → (d : Direction) (k : ItemKey) (e : Endpoint) → Within e.profiles → Activates e → view_endpoint_verdict (view_of dg R) d (view_endpoint dg R k e) a ≡ endpoint_verdict R d e a
   endpoint_same servable d k e within active = by_direction d
     where
       tiers : (d : Direction) → map (view_tier (view_of dg R) d a) (view_tiers dg R d e) ≡ tiers_for R d e a
@@ -309,7 +309,7 @@ module _ (dg : Digest) (R : Resources) (a : Packet) where
   abbrev served : List (ItemKey × Endpoint) → List (ItemKey × Endpoint)
   served es = filter (λ x. is_served R x.1) es
 
-  abbrev names_of : List (ItemKey × Endpoint) → List (List ℕ)
+  abbrev pub names_of : List (ItemKey × Endpoint) → List (List ℕ)
   names_of es = flat_map (λ x. x.1.profiles) es
 
   -- of these endpoints the view and the resources say one at an interface
@@ -317,11 +317,11 @@ module _ (dg : Digest) (R : Resources) (a : Packet) where
   IsAlikeAt d iface xs = Within (names_of xs) → AllByRecursion (λ x. Activates x.1) xs → view_verdict_at (view_of dg R) d a (last (map (endpoint_entry dg R) xs) iface None) ≡ verdict_at R d a (with_iface xs iface)
 
   module _ (servable : IsServedApart dg R) where
-    not_itself : (k l : ItemKey) → k ≡ l → T (is_lt (cmp-value.it k l)) → ⊥
+    pub not_itself : (k l : ItemKey) → k ≡ l → T (is_lt (cmp-value.it k l)) → ⊥
     not_itself k l e below = absurd (subst (λ r. T (is_lt r)) (ap (cmp-value.it k) (sym e) ∙ tied_itself item_total k) below)
 
     -- no endpoint behind another has its interface
-    none_alike : (k : ItemKey) (e : Endpoint) (es : List (ItemKey × Endpoint)) (p : Option ViewEndpoint) → maps.get R.endpoints k ≡ Some e → is_served R e ≡ true → T (below_all cmp-value.it k es) → AllThere R.endpoints es → last (map (endpoint_entry dg R) (served es)) e.iface p ≡ p
+    pub none_alike : (k : ItemKey) (e : Endpoint) (es : List (ItemKey × Endpoint)) (p : Option ViewEndpoint) → maps.get R.endpoints k ≡ Some e → is_served R e ≡ true → T (below_all cmp-value.it k es) → AllThere R.endpoints es → last (map (endpoint_entry dg R) (served es)) e.iface p ≡ p
     none_alike k e [] p at s below there = refl
     none_alike k e (x ∷ es) p at s below there = by_served (none_alike k e es p at s (second _ _ below) there.1) (is_served R x.1) refl
       where

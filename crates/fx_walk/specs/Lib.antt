@@ -3,3 +3,4 @@ pub mod Endings
 pub mod Serving
 pub mod PacketPaths
 pub mod TreeLaws
+pub mod FromChain

@@ -6,7 +6,7 @@ ghost use Rattle.fx_model.specs.Tables.{forward};
 ghost use Rattle.fx_model.specs.Machine.{Decides};
 ghost use Rattle.fx_model.specs.ViewPolicy.{IsPolicyAnswer};
 
-use crate::notes::{DEEPEST, Notes, nothing_seen, outcome_of};
+use crate::notes::{DEEPEST, Notes, Seen, nothing_seen, on_its_side, outcome_of};
 use crate::outcome::{Hop, Outcome};
 use crate::walk::walk_chain;
 use fx_model::{ChainRule, Packet};
@@ -24,9 +24,15 @@ impl Notes for ReasonsAlone {
 
     ghost State = { Reasons };
 
+    ghost kept = { last_reason };
+
     ghost note = { last_reason };
 
     ghost noted = { λ _ s. s };
+
+    fn keep<'a>(&self, hop: Hop, rule: &'a ChainRule, seen: Seen<'a>) -> Seen<'a> {
+        on_its_side(hop, rule, seen)
+    }
 
     fn note(&mut self, _hop: &Hop, _rule: &ChainRule) -> Result<(), Infallible> {
         Ok(())

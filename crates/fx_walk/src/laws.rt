@@ -8,7 +8,8 @@ ghost use Rattle.fx_model.specs.ViewTables.{tables_of};
 ghost use Rattle.fx_model.specs.ViewPolicy.{PolicyIsKept, TablesAgree};
 ghost use Rattle.fx_walk.specs.Endings.{RulesEndAsTheySay};
 ghost use Rattle.fx_walk.specs.PacketPaths.{PacketHasOnePath, WalkIsRun};
-ghost use Rattle.fx_walk.specs.Serving.{ServedEndpointsAreApart};
+ghost use Rattle.fx_walk.specs.FromChain.{NoneMatchedIsNoLast, NoneReasonedIsNoReason, RunFromHasOneEnd};
+ghost use Rattle.fx_walk.specs.Serving.{ServedEndpointsAreApart, ServedStandOnWorkloads};
 ghost use Rattle.fx_walk.specs.TreeLaws.{TreesArrive, TreesDrop};
 
 /// A run has one end.
@@ -53,7 +54,20 @@ pub fn first_chain_is_there()
     ensures { (v : View) → map.contains_key (tables_of v).chains forward ≡ true }
 {}
 
-/// However many endpoints run here, those that are served are told apart by their interfaces.
+/// However many endpoints run here, those that are served are told apart by their interfaces, which are workloads' where those of
+/// local endpoints are.
 pub fn served_endpoints_are_apart()
-    ensures { ServedEndpointsAreApart }
+    ensures apart { ServedEndpointsAreApart }
+    ensures on_workloads { ServedStandOnWorkloads }
+{}
+
+/// A run from a chain has one end.
+pub fn run_from_has_one_end()
+    ensures { RunFromHasOneEnd }
+{}
+
+/// Of a run from a chain no last rule is told exactly where no rule matched, and no reason exactly where no rule that matched has one.
+pub fn nothing_is_told_of_no_match()
+    ensures last { NoneMatchedIsNoLast }
+    ensures reason { NoneReasonedIsNoReason }
 {}

@@ -28,24 +28,33 @@ pub struct Seen<'a> {
     pub ingress: Option<&'a Reason>,
 }
 
-/// What is noted of the rules that match, beside the last reasons.
+/// What is noted of the rules that match, beside the reasons that are kept.
 pub trait Notes {
     ghost use Rattle.std.specs.Prelude.{◌≡◌, ℕ, OnOk, OnErr};
     ghost use Rattle.fx_model.specs.declared.chain.ChainRule.{ChainRule};
     ghost use Rattle.fx_model.specs.Tables.{ChainName};
-    ghost use Rattle.fx_model.specs.Machine.{Reasons, last_reason};
+    ghost use Rattle.fx_model.specs.Machine.{Reasons};
+    ghost use Rattle.fx_walk.specs.WalkEnds.{reasons_of};
 
     type Fault;
 
-    /// What stands noted, with the last reasons.
+    /// What stands noted, with the reasons that are kept.
     ghost State: { Type 0 };
+
+    /// What is kept of the reasons.
+    ghost kept: { ChainName → ℕ → ChainRule → Reasons → Reasons };
 
     ghost note: { ChainName → ℕ → ChainRule → State → State };
 
     ghost noted: { Self → Reasons → State };
 
+    /// Keeps the reason of a rule that matched.
+    fn keep<'a>(&self, hop: Hop, rule: &'a ChainRule, seen: Seen<'a>) -> Seen<'a>
+        ensures mark { result.mark ≡ seen.entry.mark }
+        ensures reasons { reasons_of result ≡ kept hop.chain hop.place rule.entry.now (reasons_of seen.entry) };
+
     fn note(&mut self, hop: &Hop, rule: &ChainRule) -> Result<(), Self::Fault>
-        ensures ok { OnOk result ((s : Reasons) → noted self.new (last_reason hop.now.chain hop.now.place rule.now s)
+        ensures ok { OnOk result ((s : Reasons) → noted self.new (kept hop.now.chain hop.now.place rule.now s)
             ≡ note hop.now.chain hop.now.place rule.now (noted self.old s)) }
         ensures err { OnErr result ((s : Reasons) → noted self.new s ≡ noted self.old s) };
 }
@@ -127,9 +136,9 @@ fn tagged<'a>(tag: &'a Tag, seen: Seen<'a>) -> Seen<'a>
     }
 }
 
-/// Notes the reason of a rule that matched, or the side that it begins.
+/// Keeps the reason of a rule that matched on its side, or notes the side that the rule begins.
 #[tactic(auto, unfolding(fx_model::specs::Machine::last_reason))]
-pub fn noted<'a>(hop: Hop, rule: &'a ChainRule, seen: Seen<'a>) -> Seen<'a>
+pub fn on_its_side<'a>(hop: Hop, rule: &'a ChainRule, seen: Seen<'a>) -> Seen<'a>
     ensures mark { result.mark ≡ seen.entry.mark }
     ensures reasons { reasons_of result ≡ last_reason hop.chain hop.place rule.entry.now (reasons_of seen.entry) }
 {

@@ -16,3 +16,11 @@ pub struct Hop {
     pub chain: ChainName,
     pub place: u64,
 }
+
+/// What a run from any chain gives: the verdict, the reason of the last rule that matched and has one, and the last rule that matched.
+#[derive(Clone, Copy, Debug)]
+pub struct FromOutcome<'a> {
+    pub verdict: Verdict,
+    pub reason: Option<&'a Reason>,
+    pub last: Option<Hop>,
+}

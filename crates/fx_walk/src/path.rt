@@ -7,7 +7,7 @@ ghost use Rattle.fx_model.specs.Machine.{CutsRun, Traces, is_shown};
 ghost use Rattle.fx_model.specs.ViewPolicy.{IsPolicyAnswer};
 ghost use Rattle.fx_walk.specs.WalkEnds.{hops_of};
 
-use crate::notes::{DEEPEST, Notes, nothing_seen, outcome_of};
+use crate::notes::{DEEPEST, Notes, Seen, nothing_seen, on_its_side, outcome_of};
 use crate::outcome::{Hop, Outcome};
 use crate::walk::walk_chain;
 use fx_base::Memory;
@@ -15,16 +15,22 @@ use fx_model::{ChainRule, Packet, Tag, Target};
 use fx_tables::{Tables, first_chain_name};
 
 impl Notes for Vec<Hop> {
-    ghost use Rattle.fx_model.specs.Machine.{Trace, hops_and_reasons};
+    ghost use Rattle.fx_model.specs.Machine.{Trace, hops_and_reasons, last_reason};
     ghost use Rattle.fx_walk.specs.WalkEnds.{trace_of};
 
     type Fault = Memory;
 
     ghost State = { Trace };
 
+    ghost kept = { last_reason };
+
     ghost note = { hops_and_reasons };
 
     ghost noted = { λ path s. trace_of path.items s };
+
+    fn keep<'a>(&self, hop: Hop, rule: &'a ChainRule, seen: Seen<'a>) -> Seen<'a> {
+        on_its_side(hop, rule, seen)
+    }
 
     #[tactic(auto, unfolding(fx_model::specs::Machine::hops_and_reasons))]
     fn note(&mut self, hop: &Hop, rule: &ChainRule) -> Result<(), Memory> {

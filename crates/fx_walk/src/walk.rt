@@ -6,7 +6,7 @@ ghost use Rattle.fx_model.specs.Walk.{obeyed, over_rule, over_rules};
 ghost use Rattle.fx_walk.specs.WalkEnds.{BreaksOff, chain_walk, ended_by, reasons_of};
 
 use crate::matches::{all_hold, with_mark};
-use crate::notes::{Notes, Seen, WalkEnd, noted};
+use crate::notes::{Notes, Seen, WalkEnd};
 use crate::outcome::Hop;
 use fx_base::ChainName;
 use fx_model::{ChainRule, Packet, Target};
@@ -25,7 +25,7 @@ fn note_match<'a, N: Notes>(
     ensures err { OnErr result ((s : Reasons) → N.noted notes.new s ≡ N.noted notes.old s) }
 {
     notes.note(hop, rule)?;
-    Ok(noted(*hop, rule, seen))
+    Ok(notes.keep(*hop, rule, seen))
 }
 
 /// What a target does, where rules lead at most `depth` chains deeper.

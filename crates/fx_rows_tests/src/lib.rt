@@ -1,0 +1,5 @@
+//! The tests of `fx_rows`: each form of a row.
+#![tactic(auto)]
+
+#[cfg(test)]
+mod tests;
