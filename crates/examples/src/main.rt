@@ -15,7 +15,7 @@ use std::{fs, io};
 const NODE: &str = "--node n1";
 
 // The name and the words of each.
-const EXAMPLES: [(&str, &str); 13] = [
+const EXAMPLES: [(&str, &str); 15] = [
     ("first", NODE),
     ("packets", NODE),
     ("rules", NODE),
@@ -28,6 +28,8 @@ const EXAMPLES: [(&str, &str); 13] = [
     ("refusals", NODE),
     ("delete", NODE),
     ("portions", NODE),
+    ("batch", NODE),
+    ("cluster", NODE),
     ("soak", "--node n1 --soak 7 --count 2000"),
 ];
 

@@ -27,6 +27,7 @@ in_line s (Ok command.Blank) closed = tt
 in_line s (Ok command.Tables) closed = tt
 in_line s (Ok (command.Flush limit)) closed = wholes _ (flush-closed limit s.sent _ closed (view_of-closed s.digest s.resources))
 in_line s (Ok (command.Update u)) closed = tt
+in_line s (Ok (command.Batch us)) closed = tt
 in_line s (Ok (command.Packet a)) closed = tt
 in_line s (Err r) closed = tt
 
@@ -43,6 +44,7 @@ after_line s (Ok (command.Flush limit)) closed =
     let w = view_of s.digest s.resources in
     last_sent w IsClosedView (flush limit s.sent w).messages s.sent closed (flush-closed limit s.sent w closed (view_of-closed s.digest s.resources))
 after_line s (Ok (command.Update u)) closed = closed
+after_line s (Ok (command.Batch us)) closed = closed
 after_line s (Ok (command.Packet a)) closed = closed
 after_line s (Err r) closed = closed
 

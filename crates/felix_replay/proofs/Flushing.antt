@@ -1,4 +1,4 @@
--- A flush that leaves no message sends all, and no line but an accepted update changes that.
+-- A flush that leaves no message sends all, and no line but an accepted update or batch changes that.
 use Rattle.std.proofs.Common.{◌≡◌, ℕ, List, [], ◌∷◌, ◌++◌, Option, Some, None, Result, Ok, Err, sym, subst}
 use Rattle.fx_fields.specs.declared.refusal.Refusal.{Refusal}
 use Rattle.fx_lines.specs.declared.commands.Command.{Command}
@@ -24,12 +24,13 @@ still : (limit : Option ℕ) (s : State) → IsAllSent s → IsAllSent (after_an
 still None s all = flush-ends s.sent (view_of s.digest s.resources)
 still (Some n) s all = nothing_left n s.sent (view_of s.digest s.resources) all
 
--- any other line but an update
+-- any other line but an update or a batch
 stays : (s : State) (a : Result Command Refusal) → IsAllSent s → ¬ IsUpdate a → IsAllSent (after_answer s a)
 stays s (Ok command.Blank) all none = all
 stays s (Ok command.Tables) all none = all
 stays s (Ok (command.Flush limit)) all none = still limit s all
 stays s (Ok (command.Update u)) all none = absurd (none tt)
+stays s (Ok (command.Batch us)) all none = absurd (none tt)
 stays s (Ok (command.Packet a)) all none = all
 stays s (Err r) all none = all
 

@@ -24,6 +24,12 @@ unfolding HaveNoUpdate
 in_sync s line said none =
     none.0 (subst (λ (answer : Result Command Refusal). IsUpdate (checked s.digest s.resources answer)) (sym said) tt)
 
+-- a batch, even one without updates, which clashes with nothing
+pub empty_batch : (s : State) (line : List ℕ) → command_of line ≡ Ok (command.Batch []) → ¬ HaveNoUpdate s (line ∷ [])
+unfolding HaveNoUpdate
+empty_batch s line said none =
+    none.0 (subst (λ (answer : Result Command Refusal). IsUpdate (checked s.digest s.resources answer)) (sym said) tt)
+
 -- a flush again, and a line that is refused
 pub flush_and_refusal : (s : State) (flush line : List ℕ) (limit : Option ℕ) (r : Refusal) → command_of flush ≡ Ok (command.Flush limit) → command_of line ≡ Err r → HaveNoUpdate s (flush ∷ line ∷ [])
 unfolding HaveNoUpdate

@@ -6,6 +6,9 @@ use Rattle.fx_fields.specs.declared.refusal.Refusal.{Refusal}
 use Rattle.fx_lines.specs.declared.commands.Command.{Command}
 use Rattle.fx_lines.specs.declared.commands.Command.TheVariants as command
 use Rattle.fx_model.specs.declared.resources.Resources.{Resources}
+use Rattle.fx_model.specs.declared.resources.Update.{Update}
+use Rattle.fx_model.specs.Resources.{after}
+use Rattle.fx_model.specs.Steps.{along, steps_of}
 use Rattle.fx_model.specs.Tests.{least_tests, most_tests}
 use Rattle.fx_model.proofs.TestBounds.{least_below_most}
 use Rattle.fx_names.specs.Digests.{Digest}
@@ -14,17 +17,24 @@ use Rattle.fx_replay.specs.Tests.{tests_in, tests_by}
 use Rattle.fx_words.specs.declared.words.Soak.{Soak}
 use Rattle.felix_replay.specs.Soak.{drawn_lines, tests_along, soak_least, soak_most}
 
+sums_below : (a b c d : ℕ) → a ≤ b → c ≤ d → a + c ≤ b + d
+sums_below a b c d h k = omega (arith, h, k)
+
+-- updates that are made in turn
+steps_below : (R : Resources) (us : List Update) → along least_tests R us ≤ along most_tests R us
+steps_below R [] = omega arith
+steps_below R (u ∷ us) =
+    sums_below (least_tests R u) (most_tests R u) (along least_tests (after R u) us) (along most_tests (after R u) us) (least_below_most R u) (steps_below (after R u) us)
+
 -- one answer
 answer_below : (R : Resources) (answer : Result Command Refusal) → tests_in least_tests R answer ≤ tests_in most_tests R answer
 answer_below R (Ok command.Blank) = omega arith
 answer_below R (Ok command.Tables) = omega arith
 answer_below R (Ok (command.Flush limit)) = omega arith
 answer_below R (Ok (command.Update u)) = least_below_most R u
+answer_below R (Ok (command.Batch us)) = steps_below R (steps_of R us)
 answer_below R (Ok (command.Packet a)) = omega arith
 answer_below R (Err r) = omega arith
-
-sums_below : (a b c d : ℕ) → a ≤ b → c ≤ d → a + c ≤ b + d
-sums_below a b c d h k = omega (arith, h, k)
 
 -- any lines
 pub along_below : (s : State) (lines : List (List ℕ)) → tests_along least_tests s lines ≤ tests_along most_tests s lines

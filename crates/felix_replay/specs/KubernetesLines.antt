@@ -1,5 +1,5 @@
 -- What is asked of a packet line where the resources are a cluster's: its verdict is the one that Kubernetes' API reference
--- (`networking.k8s.io/v1`) gives, where each accepted update was flushed.
+-- (`networking.k8s.io/v1`) gives, where each accepted update and batch was flushed.
 use Rattle.std.specs.Prelude.{◌≡◌, ℕ, List, Option, Ok}
 use Rattle.std.specs.List.{concat}
 use Rattle.fx_model.specs.declared.chain.Reason.{Reason}

@@ -1,6 +1,6 @@
 -- What is asked of a packet line. Its path, reasons and verdict are those of the packet machine, step by step as iptables(8) tells
--- it, over the tables of what was sent; and where each accepted update was flushed, they are the policy reference's answer, by Calico's
--- resource reference (`projectcalico.org/v3`), read from the resources alone.
+-- it, over the tables of what was sent; and where each accepted update and batch was flushed, they are the policy reference's answer, by
+-- Calico's resource reference (`projectcalico.org/v3`), read from the resources alone.
 use Rattle.std.specs.Prelude.{◌≡◌, ℕ, List, [], Option, Ok}
 use Rattle.std.specs.List.{concat}
 use Rattle.fx_model.specs.declared.packet.Packet.{Packet}
@@ -46,7 +46,7 @@ pub record TellsPolicy (s : State) (line : List ℕ) (a : Packet) : Type 0 where
   pub output : text s line ≡ concat (policy_lines path s.resources a)
 
 -- after any lines, a line with a first packet is answered so, where the sent view is that of the resources: a flush that leaves no
--- message leads there, and all lines behind it but accepted updates leave it so (`FlushesSendAll`)
+-- message leads there, and all lines behind it but accepted updates and batches leave it so (`FlushesSendAll`)
 abbrev pub KeepsPolicy : Digest → List ℕ → Type 0
 KeepsPolicy dg node =
     (lines : List (List ℕ)) (line : List ℕ) (a : Packet) → let s = state_after next (start dg node) lines in

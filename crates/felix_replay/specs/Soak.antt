@@ -36,7 +36,7 @@ unfoldable pub messages_along : State → List (List ℕ) → ℕ
 messages_along s [] = 0
 messages_along s (line ∷ lines) = messages_in (flushed_by s line) + messages_along (next s line) lines
 
--- how many tests of selectors the accepted updates of a run call for, where each calls for as many as f says
+-- how many tests of selectors the accepted updates and batches of a run call for, where each update calls for as many as f says
 unfoldable pub tests_along : (f : Resources → Update → ℕ) → State → List (List ℕ) → ℕ
 tests_along f s [] = 0
 tests_along f s (line ∷ lines) = tests_by f s line + tests_along f (next s line) lines

@@ -8,7 +8,7 @@ use Rattle.fx_words.specs.declared.words.Soak.{Soak}
 use Rattle.felix_replay.specs.Soak.{soak_least, soak_most, soak_output, is_soak_refused}
 
 -- Each line was answered, and behind the last was a flush. This is the line that sums up. The number of ticks is the counter's: from 0 on
--- there were as many as the accepted updates call for tests of selectors, at least and at most.
+-- there were as many as the accepted updates and batches call for tests of selectors, at least and at most.
 pub record SumsUp (dg : Digest) (node : List ℕ) (soak : Soak) (line : List ℕ) (refused : Bool) : Type 0 where
   pub ticks : ℕ
   pub output : line ≡ soak_output dg node soak ticks

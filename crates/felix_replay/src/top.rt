@@ -61,7 +61,7 @@ pub fn felix_replay<S: Source, K: Sink, R: DigestRule, F: DigestFunction<R> + Dr
     ensures closed { (lines : List (List ℕ))
         → AllByRecursion IsWhole (views_along (start R.digest_of (node_name words.now)) lines) }
 
-    // After a flush that leaves no message, and no accepted update behind it, the sent view is that of the resources.
+    // After a flush that leaves no message, and no accepted update or batch behind it, the sent view is that of the resources.
     ensures flushed { FlushesSendAll R.digest_of (node_name words.now) }
 
     // A packet's line tells the path, the reasons and the verdict of the machine's run over the tables of what was sent.

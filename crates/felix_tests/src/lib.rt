@@ -2,6 +2,8 @@
 #![tactic(auto)]
 
 #[cfg(test)]
+mod batch_rows;
+#[cfg(test)]
 mod clash_tests;
 #[cfg(test)]
 mod endpoint_rows;

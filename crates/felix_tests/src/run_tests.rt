@@ -1,5 +1,5 @@
 //! Whole runs, from the bytes of a source to the bytes of a sink.
-use crate::{endpoint_rows, flush_rows, run_rows};
+use crate::{batch_rows, endpoint_rows, flush_rows, run_rows};
 use felix_replay::{Status, felix_replay};
 use fx_base::{MemSink, SureSource, Text};
 use fx_names::{Namer, PlainRule};
@@ -63,6 +63,14 @@ fn endpoints_are_told_apart(rt: HostRuntime) -> Result<(), Fail> {
 #[test]
 fn flushes_go_in_portions(rt: HostRuntime) -> Result<(), Fail> {
     for run in flush_rows::RUNS.split("\n= ") {
+        assert!(rt; is_stored(rt.alloc(), run)?, "{run}");
+    }
+    Ok(())
+}
+
+#[test]
+fn batches_are_made_whole_or_not_at_all(rt: HostRuntime) -> Result<(), Fail> {
+    for run in batch_rows::RUNS.split("\n= ") {
         assert!(rt; is_stored(rt.alloc(), run)?, "{run}");
     }
     Ok(())

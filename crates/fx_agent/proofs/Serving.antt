@@ -20,7 +20,7 @@ use Rattle.fx_laws.proofs.FormedLemmas.{are_formed-after, have_workload_interfac
 use Rattle.fx_driver.specs.Driven.{HasFirst}
 use Rattle.fx_driver.specs.declared.driver.Driver.{Driver}
 use Rattle.fx_graph.specs.declared.state.GraphState.{GraphState}
-use Rattle.fx_graph.specs.Graphs.{Follows, IsAccepted, IsGraphOf, sides_of}
+use Rattle.fx_graph.specs.Graphs.{IsAccepted, IsGraphOf, sides_of}
 use Rattle.fx_sequencer.specs.declared.sides.Sides.{Sides}
 use Rattle.fx_store.specs.declared.store.Store.{Store}
 use Rattle.fx_store.specs.Keeping.{KeepsClaims}
@@ -50,10 +50,9 @@ update-accepted dg R was u formed free = record {
 -- where graph and store have followed it, all stands as before
 pub sound-after : (dg : Digest) (s t : Store) (g h : GraphState) (d : Driver) → IsSound dg s g d → (u : Update)
     → is_formed u ≡ true → puts_workload_interface s.resources.node u ≡ true → clash dg s.resources u ≡ None
-    → Follows dg u g h → (sides_of h).sent ≡ (sides_of g).sent → t.resources ≡ after s.resources u → KeepsClaims dg t → IsSound dg t h d
-sound-after dg s t g h d was u formed on_workloads free follows sent made claims =
+    → IsGraphOf dg (after s.resources u) h → (sides_of h).sent ≡ (sides_of g).sent → t.resources ≡ after s.resources u → KeepsClaims dg t → IsSound dg t h d
+sound-after dg s t g h d was u formed on_workloads free graph sent made claims =
     let servable = servable-after dg s.resources was.servable u formed on_workloads free in
-    let graph = follows s.resources was.graph in
     record {
       servable = subst (IsServable dg) (sym made) servable;
       claims = claims;

@@ -1,6 +1,7 @@
 //! The agent.
 //!
-//! - **Takes** updates of the resources. One that would take a name in the kernel from its holder is refused.
+//! - **Takes** updates of the resources. One that would take a name in the kernel from its holder is refused, and one that leaves the
+//!   resources as they are goes no further than the store.
 //! - **Holds** the resources, the graph that keeps the view of them, and the tables of the view that was sent.
 //! - **Gives** one message after another, and what becomes of a packet.
 //!
@@ -22,7 +23,7 @@ ghost use Rattle.fx_store.specs.Checking.{Tells};
 ghost use Rattle.fx_store.specs.Keeping.{KeepsClaims};
 ghost use Rattle.fx_driver.specs.Driven.{HasFirst};
 ghost use Rattle.fx_driver.specs.Stepping.{IsDrivable};
-ghost use Rattle.fx_graph.specs.Graphs.{Follows, IsGraphOf, sides_of};
+ghost use Rattle.fx_graph.specs.Graphs.{IsGraphOf, sides_of};
 ghost use Rattle.fx_agent.specs.Answers.{IsAnswer, IsKubernetesVerdict, IsUpdateCause, StaysIfRefused, StaysIfTaken, UpdateLeaves};
 
 use crate::faults::UpdateFault;
@@ -167,7 +168,8 @@ impl<R: DigestRule, F: DigestFunction<R> + Drop> Agent<R, F> {
     }
 }
 
-// Makes an update that clashes with nothing. The graph takes it first: it asks for the resources before the update.
+// Makes an update that clashes with nothing. Where it changes nothing, all is made already. Else the graph takes it first: it asks for
+// the resources before the update.
 fn make<T: Ticker, R: DigestRule, F: DigestFunction<R> + Drop>(
     store: &mut Store,
     graph: &mut Graph<R, F>,
@@ -181,7 +183,7 @@ fn make<T: Ticker, R: DigestRule, F: DigestFunction<R> + Drop>(
     ensures tells { Tells result (clash R.digest_of store.old.resources update) }
     ensures resources { OnOk result (store.new.resources ≡ after store.old.resources update) }
     ensures claims { OnOk result (KeepsClaims R.digest_of store.new) }
-    ensures follows { OnOk result (Follows R.digest_of update graph.old.state graph.new.state) }
+    ensures follows { OnOk result (IsGraphOf R.digest_of (after store.old.resources update) graph.new.state) }
     ensures sent { OnOk result ((sides_of graph.new.state).sent ≡ (sides_of graph.old.state).sent) }
     ensures store { IfErr result (StaysIfTaken (store.new ≡ store.old)) }
     ensures graph { IfErr result (StaysIfTaken (graph.new ≡ graph.old)) }
@@ -190,8 +192,11 @@ fn make<T: Ticker, R: DigestRule, F: DigestFunction<R> + Drop>(
         (T.number ticks.old) (T.number ticks.new)) }
     ensures quiet { IfErr result (StaysIfTaken (T.number ticks.new ≡ T.number ticks.old)) }
 {
-    store.check(&update, graph.namer())?;
+    if store.is_unchanged_by(&update) {
+        return Ok(());
+    }
+    let change = store.checked_claims(&update, graph.namer())?;
     graph.apply(&update, ticks)?;
-    store.apply(update, graph.namer())?;
+    store.apply_with::<R>(update, &change)?;
     Ok(())
 }

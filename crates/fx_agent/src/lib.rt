@@ -5,5 +5,6 @@ pub use agent::Agent;
 pub use faults::{PullFault, Pulled, UpdateFault};
 
 mod agent;
+mod batches;
 mod faults;
 mod pulling;

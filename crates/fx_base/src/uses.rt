@@ -41,6 +41,13 @@ impl Uses {
         number < self.held.len()
     }
 
+    /// Whether there are more uses than the other counts.
+    pub fn exceeds_uses(&self, other: &Uses) -> bool
+        ensures { result ≡ nat_lt other.now self.now }
+    {
+        self.exceeds(other.held.len())
+    }
+
     pub fn raise(&mut self) -> Result<(), Memory>
         ensures ok { OnOk result (self.new ≡ self.old + 1) }
         ensures err { OnErr result (self.new ≡ self.old) }

@@ -70,6 +70,8 @@ fn uses_are_counted(rt: HostRuntime) -> Result<(), Fail> {
     uses.raise()?;
     uses.lower();
     assert!(rt; uses.exceeds(0) && !uses.exceeds(1));
+    let none = Uses::new(rt.alloc());
+    assert!(rt; uses.exceeds_uses(&none) && !none.exceeds_uses(&uses));
     uses.lower();
     assert!(rt; uses.is_zero());
     Ok(())

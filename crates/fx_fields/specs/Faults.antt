@@ -1,7 +1,8 @@
 -- The numbers and names of faults. docs/INPUT.md of this repository is their public source.
-use Rattle.std.specs.Prelude.{◌≡◌, ◌⊎◌, ℕ, List, Bool, true, false, codes, Option, Some, None, Result, Ok, Err}
+use Rattle.std.specs.Prelude.{◌≡◌, ◌⊎◌, ℕ, List, Bool, true, false, codes, Option, Some, None, option_map, Result, Ok, Err}
 use Rattle.fx_fields.specs.declared.fault.ReadFault.{ReadFault}
 use Rattle.fx_fields.specs.declared.fault.ReadFault.TheVariants.{UnknownKind, MissingField, BadField, BadSelector, Unsupported, PortsWithoutProtocol, IcmpWithoutProtocol, PassInProfile, BlockWithSelector, BadEndPort, BadExpression, Memory}
+use Rattle.fx_fields.specs.Paths.{member_path}
 
 abbrev pub fault_number : ReadFault → ℕ
 fault_number UnknownKind = 1
@@ -74,6 +75,37 @@ is_memory (BlockWithSelector path) = false
 is_memory (BadEndPort path) = false
 is_memory (BadExpression path) = false
 is_memory Memory = true
+
+-- ---- faults of values inside others
+
+-- the fault at another path, where it has one
+abbrev pub at_path : List ℕ → ReadFault → ReadFault
+at_path path UnknownKind = UnknownKind
+at_path path (MissingField p) = MissingField path
+at_path path (BadField p) = BadField path
+at_path path (BadSelector p at) = BadSelector path at
+at_path path (Unsupported p) = Unsupported path
+at_path path (PortsWithoutProtocol p) = PortsWithoutProtocol path
+at_path path (IcmpWithoutProtocol p) = IcmpWithoutProtocol path
+at_path path (PassInProfile p) = PassInProfile path
+at_path path (BlockWithSelector p) = BlockWithSelector path
+at_path path (BadEndPort p) = BadEndPort path
+at_path path (BadExpression p) = BadExpression path
+at_path path Memory = Memory
+
+-- the path of a fault's value, by that of a value around it
+abbrev pub path_within : List ℕ → ReadFault → Option (List ℕ)
+path_within outer fault = option_map (member_path outer) (path_of fault)
+
+abbrev pub at_path_if : Option (List ℕ) → ReadFault → ReadFault
+at_path_if None fault = fault
+at_path_if (Some path) fault = at_path path fault
+
+-- the fault of a value inside another that stands at this path: its own path leads on from there
+abbrev pub within : List ℕ → ReadFault → ReadFault
+within outer fault = at_path_if (path_within outer fault) fault
+
+-- ---- answers
 
 -- What code answers where a value isn't read: the fault, unless memory is wanted.
 abbrev pub IsReadFault : {A : Type 0} → Result A ReadFault → ReadFault → Type 0

@@ -1,10 +1,12 @@
 //! Why a resource or a packet isn't read.
-ghost use Rattle.std.specs.Prelude.{◌≡◌, option_map};
+ghost use Rattle.std.specs.Prelude.{◌≡◌, option_map, IfOk};
 ghost use Rattle.fx_fields.specs.declared.fault.ReadFault.TheVariants as fault;
-ghost use Rattle.fx_fields.specs.Faults.{fault_number, fault_name, path_of, place_of, is_memory};
+ghost use Rattle.fx_fields.specs.Faults.{fault_number, fault_name, path_of, place_of, is_memory, at_path, path_within, within};
+ghost use Rattle.fx_fields.specs.Paths.{text_of};
 
+use crate::path::Path;
 use fx_base::{Memory, Text};
-use std::alloc::{AllocError, AllocFailed};
+use std::alloc::{AllocError, AllocFailed, Global};
 
 /// The first fault of a value, in the order in which its members are read. A path leads from the value to the one at
 /// fault, as `spec.ingress[0].action`.
@@ -98,6 +100,44 @@ impl ReadFault {
         ensures { result ≡ is_memory self.now }
     {
         matches!(self, ReadFault::Memory)
+    }
+
+    /// The fault of a value inside another that stands at this path: its own path leads on from there.
+    pub fn within(self, alloc: Global, outer: &Path<'_>) -> Result<ReadFault, Memory>
+        ensures { IfOk result (λ fault. fault ≡ within (text_of outer.now) self) }
+    {
+        match self.path_within(alloc, outer)? {
+            Some(path) => Ok(self.at_path(path)),
+            None => Ok(self),
+        }
+    }
+
+    fn path_within(&self, alloc: Global, outer: &Path<'_>) -> Result<Option<Text>, Memory>
+        ensures { IfOk result (λ path. path ≡ path_within (text_of outer.now) self.now) }
+    {
+        match self.path() {
+            Some(path) => Ok(Some(outer.leading_to(alloc, path)?)),
+            None => Ok(None),
+        }
+    }
+
+    fn at_path(self, path: Text) -> ReadFault
+        ensures { result ≡ at_path path self }
+    {
+        match self {
+            ReadFault::UnknownKind => ReadFault::UnknownKind,
+            ReadFault::MissingField { .. } => ReadFault::MissingField { path },
+            ReadFault::BadField { .. } => ReadFault::BadField { path },
+            ReadFault::BadSelector { at, .. } => ReadFault::BadSelector { path, at },
+            ReadFault::Unsupported { .. } => ReadFault::Unsupported { path },
+            ReadFault::PortsWithoutProtocol { .. } => ReadFault::PortsWithoutProtocol { path },
+            ReadFault::IcmpWithoutProtocol { .. } => ReadFault::IcmpWithoutProtocol { path },
+            ReadFault::PassInProfile { .. } => ReadFault::PassInProfile { path },
+            ReadFault::BlockWithSelector { .. } => ReadFault::BlockWithSelector { path },
+            ReadFault::BadEndPort { .. } => ReadFault::BadEndPort { path },
+            ReadFault::BadExpression { .. } => ReadFault::BadExpression { path },
+            ReadFault::Memory => ReadFault::Memory,
+        }
     }
 }
 

@@ -45,6 +45,16 @@ impl<'a> Path<'a> {
         Ok(Text::from_vec(self.bytes(alloc)?))
     }
 
+    /// The path of a value inside the one that stands here, by its own path from here on.
+    pub(crate) fn leading_to(&self, alloc: Global, inner: &Text) -> Result<Text, Memory>
+        ensures { IfOk result (λ text. text ≡ member_path (text_of self.now) inner.now) }
+    {
+        let mut path = self.bytes(alloc)?;
+        path.extend_from_slice(b".")?;
+        path.extend_from_slice(inner.bytes())?;
+        Ok(Text::from_vec(path))
+    }
+
     fn bytes(&self, alloc: Global) -> Result<Vec<u8>, Memory>
         ensures { IfOk result (λ bytes. bytes.items ≡ text_of self.now) }
     {

@@ -38,3 +38,7 @@ pub mod OneUse
 pub mod MadeUses
 pub mod PolicyKeys
 pub mod Interfaces
+pub mod Records
+pub mod TouchedKeys
+pub mod BatchClaims
+pub mod BatchSteps

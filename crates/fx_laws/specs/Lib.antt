@@ -1,2 +1,3 @@
 pub mod ChainNames
 pub mod DispatchNames
+pub mod Stages

@@ -1,15 +1,19 @@
 //! What holds of all resources, of every view, of its tables and of the messages towards it. Each law is a contract; no
 //! function does anything.
 ghost use Rattle.std.specs.Prelude.{◌≡◌, ◌+◌, List, ℕ, true, Option, Some, None};
-ghost use Rattle.std.specs.List.{AllByRecursion};
+ghost use Rattle.std.specs.List.{AllByRecursion, list_all};
 ghost use Rattle.std.specs.FinMap as map;
 ghost use Rattle.fx_model.specs.declared.resources.Resources.{Resources};
 ghost use Rattle.fx_model.specs.declared.resources.Update.{Update};
 ghost use Rattle.fx_model.specs.declared.view.View.{View};
+ghost use Rattle.fx_model.specs.declared.ids.Key.{Key};
 ghost use Rattle.fx_names.specs.Digests.{Digest};
 ghost use Rattle.fx_model.specs.Resources.{empty_resources, after};
 ghost use Rattle.fx_model.specs.Formed.{is_formed, are_formed, is_formed_view, puts_workload_interface, have_workload_interfaces, has_workload_interfaces};
-ghost use Rattle.fx_model.specs.Claims.{clash, IsClashFree};
+ghost use Rattle.fx_model.specs.Claims.{clash, without, IsClashFree};
+ghost use Rattle.fx_model.specs.Batches.{after_all, clash_all};
+ghost use Rattle.fx_model.specs.Steps.{is_change, steps_of};
+ghost use Rattle.fx_laws.specs.Stages.{StayClashFree};
 ghost use Rattle.fx_model.specs.Views.{view_of};
 ghost use Rattle.fx_model.specs.declared.chain.ChainRule.{ChainRule};
 ghost use Rattle.fx_model.specs.Tables.{ChainName};
@@ -114,6 +118,29 @@ pub fn accepted_updates_keep_claims_apart()
     ensures start { (dg : Digest) (node : List ℕ) → IsClashFree dg (empty_resources node) }
     ensures after { (dg : Digest) (R : Resources) (u : Update) → is_formed u ≡ true → IsClashFree dg R
         → clash dg R u ≡ None → IsClashFree dg (after R u) }
+{}
+
+/// Parts of resources of which no two claim one name are so too.
+pub fn parts_keep_claims_apart()
+    ensures { (dg : Digest) (R : Resources) (ks : List Key) → IsClashFree dg R → IsClashFree dg (without R ks) }
+{}
+
+/// No two holders claim one name after updates that are made together and clash with nothing in the end, nor between the steps in
+/// which they are handed on.
+pub fn accepted_batches_keep_claims_apart()
+    ensures after { (dg : Digest) (R : Resources) (us : List Update) → list_all is_formed us ≡ true → IsClashFree dg R
+        → clash_all dg R us ≡ None → IsClashFree dg (after_all R us) }
+    ensures between { (dg : Digest) (R : Resources) (us : List Update) → list_all is_formed us ≡ true
+        → list_all is_change us ≡ true → IsClashFree dg R → clash_all dg R us ≡ None
+        → StayClashFree dg R (steps_of R us) }
+{}
+
+/// The steps in which updates are handed on are formed where these are, and lead to the same end.
+pub fn steps_lead_to_the_same_end()
+    ensures formed { (R : Resources) (us : List Update) → list_all is_formed us ≡ true
+        → list_all is_formed (steps_of R us) ≡ true }
+    ensures leads { (R : Resources) (us : List Update) → list_all is_formed us ≡ true → list_all is_change us ≡ true
+        → after_all R (steps_of R us) ≡ after_all R us }
 {}
 
 /// Each chain of the tables is the first one or a chain of dispatch, or some resource claims its name.

@@ -7,11 +7,13 @@ use Rattle.std.proofs.lemmas.Str.{IsUtf8-from_is_utf8, is_utf8-from_IsUtf8}
 use Rattle.serde_json.specs.Data.{Data}
 use Rattle.serde_json.specs.Read.{read}
 use Rattle.fx_lines.specs.Lines.{line_limit}
-use Rattle.fx_lines.specs.Commands.{is_blank_byte, value_of, one_member, short_value, value_in, of_value, command_of}
+use Rattle.fx_lines.specs.Commands.{is_blank_byte, value_of, one_member, short_value, value_in, told_from, of_value, command_of}
 use Rattle.fx_lines.specs.declared.commands.Command.{Command}
+use Rattle.fx_fields.specs.declared.fault.ReadFault.{ReadFault}
 use Rattle.fx_fields.specs.declared.fault.ReadFault.TheVariants.{Memory}
 use Rattle.fx_fields.specs.declared.refusal.Refusal.{Refusal}
 use Rattle.fx_fields.specs.declared.refusal.Refusal.TheVariants.{Read, LineTooLong, BadJson}
+use Rattle.fx_fields.specs.Faults.{within, IsReadFault}
 use Rattle.fx_fields.specs.Refusals.{Refuses}
 
 -- ---- the value of a line
@@ -44,6 +46,14 @@ module _ (line : List ℕ) (short : false ≡ nat_lt line_limit (length line)) w
 
   pub value_in-none : false ≡ list_all is_blank_byte line → (IsUtf8 line → read line ≡ None) → value_in line ≡ Err BadJson
   value_in-none other none = value_in-other other ∙ ap one_member (value_of-none line (is_utf8 line) refl none)
+
+-- ---- a fault in an element of a batch
+
+pub told_from-fault : {A : Type 0} (path : List ℕ) (answer : Result A ReadFault) (fault told : ReadFault) → (told ≡ Memory) ⊎ (told ≡ within path fault) → IsReadFault answer fault → IsReadFault (told_from path answer) told
+told_from-fault path answer fault told (inl wanted) is = inl wanted
+told_from-fault path answer fault told (inr moved) (inl memory) = inl (moved ∙ ap (within path) memory)
+told_from-fault {A = A} path answer fault told (inr moved) (inr same) =
+    let failed : ReadFault → Result A ReadFault = λ f. Err f in inr (ap (told_from path) same ∙ ap failed (sym moved))
 
 -- ---- the command of a line, by its value
 

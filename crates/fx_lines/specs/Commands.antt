@@ -1,21 +1,23 @@
 -- What a line says: a JSON text (RFC 8259) in UTF-8, as `serde_json` reads it, that is an object with exactly one member.
-use Rattle.std.specs.Prelude.{ℕ, List, Bool, false, ◌||◌, ◌==◌, nat_lt, length, if◌then◌else◌, Option, Some, None, Result, Ok, Err, codes}
+use Rattle.std.specs.Prelude.{ℕ, List, Bool, true, false, ◌&&◌, ◌||◌, ◌==◌, nat_lt, length, if◌then◌else◌, Option, Some, None, Result, Ok, Err, codes}
 use Rattle.std.specs.List.{list_all}
 use Rattle.std.specs.Str.{is_utf8}
-use Rattle.serde_json.specs.Data.{Data}
+use Rattle.serde_json.specs.Data.{Data, Items, no_items, item}
 use Rattle.serde_json.specs.declared.value.Value.{Value}
 use Rattle.serde_json.specs.View.{view}
 use Rattle.serde_json.specs.Read.{read}
-use Rattle.serde_json.specs.Find.{as_bool}
+use Rattle.serde_json.specs.Find.{as_array, as_bool}
 use Rattle.fx_model.specs.declared.packet.Packet.{Packet}
 use Rattle.fx_model.specs.declared.resources.Update.{Update}
 use Rattle.fx_model.specs.declared.resources.Update.TheVariants as update
 use Rattle.fx_lines.specs.declared.commands.Command.{Command}
 use Rattle.fx_lines.specs.declared.commands.Command.TheVariants as command
 use Rattle.fx_fields.specs.declared.fault.ReadFault.{ReadFault}
+use Rattle.fx_fields.specs.declared.fault.ReadFault.TheVariants.{UnknownKind}
 use Rattle.fx_fields.specs.declared.refusal.Refusal.{Refusal}
 use Rattle.fx_fields.specs.declared.refusal.Refusal.TheVariants.{Read, LineTooLong, BadJson, BadLine}
-use Rattle.fx_fields.specs.Fields.{field, is_object, has_members}
+use Rattle.fx_fields.specs.Faults.{within}
+use Rattle.fx_fields.specs.Fields.{Reader, field, is_object, has_members, items_from}
 use Rattle.fx_fields.specs.Values.{whole_in}
 use Rattle.fx_json.specs.Packets.{packet_of}
 use Rattle.fx_json.specs.Resources.{delete_of}
@@ -64,7 +66,7 @@ abbrev pub shaped : {A : Type 0} → Bool → Result A Refusal → Result A Refu
 shaped right answer = if right then answer else Err BadLine
 
 -- the answer to a member, or to the others where it is absent
-abbrev pub at_member : {A : Type 0} → Option Data → (Data → Result A Refusal) → Result A Refusal → Result A Refusal
+abbrev pub at_member : {A E : Type 0} → Option Data → (Data → Result A E) → Result A E → Result A E
 at_member None answer others = others
 at_member (Some d) answer others = answer d
 
@@ -105,6 +107,47 @@ update_in d =
     (at_member (field (codes "inSync") d) (λ v. shaped (is_true v) (Ok (Some update.InSync)))
     (Ok None)))
 
+-- ---- batches
+
+-- a member that is there and holds an object
+abbrev pub holds_object : Option Data → Bool
+holds_object None = false
+holds_object (Some v) = is_object v
+
+-- an element of a batch: an object whose one member puts or deletes a resource
+abbrev pub is_element : Data → Bool
+is_element d = has_members 1 d && (holds_object (field (codes "put") d) || holds_object (field (codes "delete") d))
+
+abbrev pub are_elements : Items → Bool
+are_elements no_items = true
+are_elements (item d ds) = if is_element d then are_elements ds else false
+
+-- the update that an element is, or the first fault of its resource
+abbrev pub element_of : Data → Result Update ReadFault
+element_of d = at_member (field (codes "put") d) put_of (at_member (field (codes "delete") d) delete_of (Err UnknownKind))
+
+-- the same answer, with a fault told from this path on
+abbrev pub told_from : {A : Type 0} → List ℕ → Result A ReadFault → Result A ReadFault
+told_from path (Ok x) = Ok x
+told_from path (Err fault) = Err (within path fault)
+
+abbrev pub element_at : Reader Update
+element_at path d = told_from path (element_of d)
+
+-- what a batch of these elements asks for: all have their shape, and then each is read in its turn
+abbrev pub elements_answer : Items → Result (Option (List Update)) Refusal
+elements_answer ds = shaped (are_elements ds) (read_answer Some (items_from element_at (codes "batch") 0 ds))
+
+abbrev pub listed_answer : Option Items → Result (Option (List Update)) Refusal
+listed_answer None = Err BadLine
+listed_answer (Some ds) = elements_answer ds
+
+-- the updates that a member asks for together, none where it isn't one for batches
+unfoldable pub batch_in : Data → Result (Option (List Update)) Refusal
+batch_in d = at_member (field (codes "batch") d) (λ v. listed_answer (as_array v)) (Ok None)
+
+-- ---- the other members
+
 -- what the other members ask for
 unfoldable pub request_in : Data → Result Command Refusal
 request_in d =
@@ -118,9 +161,18 @@ update_or others (Ok None) = others
 update_or others (Ok (Some u)) = Ok (command.Update u)
 update_or others (Err r) = Err r
 
+abbrev pub batch_or : Result Command Refusal → Result (Option (List Update)) Refusal → Result Command Refusal
+batch_or others (Ok None) = others
+batch_or others (Ok (Some us)) = Ok (command.Batch us)
+batch_or others (Err r) = Err r
+
+-- what the members ask for that aren't for one update
+abbrev pub batch_or_request : Data → Result Command Refusal
+batch_or_request d = batch_or (request_in d) (batch_in d)
+
 -- by the name of the one member
 abbrev pub by_name : Data → Result Command Refusal
-by_name d = update_or (request_in d) (update_in d)
+by_name d = update_or (batch_or_request d) (update_in d)
 
 -- ---- the command of a line
 

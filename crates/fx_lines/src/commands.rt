@@ -4,10 +4,12 @@ ghost use Rattle.std.specs.List.{list_all};
 ghost use Rattle.serde_json.specs.View.{view};
 ghost use Rattle.fx_fields.specs.Refusals.{Refuses};
 ghost use Rattle.fx_fields.specs.Values.{whole_in};
-ghost use Rattle.fx_lines.specs.Commands.{is_blank_byte, viewed, one_member, value_in, is_true, shaped, put_answer, delete_answer, limit_of, limit_answer, limited_answer, flush_answer, packet_answer, update_in, request_in, by_name, command_of};
+ghost use Rattle.fx_lines.specs.Commands.{is_blank_byte, viewed, one_member, value_in, is_true, shaped, put_answer, delete_answer, limit_of, limit_answer, limited_answer, flush_answer, packet_answer, update_in, request_in, batch_or_request, by_name, command_of};
 ghost use Rattle.fx_lines.specs.Formed.{IsReadUpdate, IsReadCommand};
 
+use crate::batches::batch_command;
 use crate::lines::is_too_long;
+use fx_base::Seq;
 use fx_fields::{ReadFault, Refusal, field, has_members};
 use fx_json::{read_delete, read_packet};
 use fx_k8s::read_put;
@@ -23,6 +25,8 @@ pub enum Command {
     /// Sends the messages that are left, or so many of them at most.
     Flush { limit: Option<u32> },
     Update(Update),
+    /// Puts and deletes that are made together: all of them or none.
+    Batch(Seq<Update>),
     Packet(Packet),
 }
 
@@ -137,6 +141,15 @@ fn command_in(alloc: Global, value: &Value) -> Result<Command, Refusal>
 {
     match update_command(alloc, value)? {
         Some(update) => Ok(Command::Update(update)),
+        None => batch_or_request(alloc, value),
+    }
+}
+
+fn batch_or_request(alloc: Global, value: &Value) -> Result<Command, Refusal>
+    ensures { Refuses (batch_or_request (view value.now)) result }
+{
+    match batch_command(alloc, value)? {
+        Some(updates) => Ok(Command::Batch(updates)),
         None => request_in(alloc, value),
     }
 }

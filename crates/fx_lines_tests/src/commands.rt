@@ -14,6 +14,7 @@ fn answered(answer: &Result<Command, Refusal>) -> &'static str {
         Ok(Command::Flush { limit }) => answered_limit(*limit),
         Ok(Command::Packet(_)) => "a packet",
         Ok(Command::Update(update)) => answered_update(update),
+        Ok(Command::Batch(_)) => "a batch",
         Err(refusal) => answered_refusal(refusal),
     }
 }
@@ -28,7 +29,8 @@ fn answered_limit(limit: Option<u32>) -> &'static str {
     }
 }
 
-fn answered_refusal(refusal: &Refusal) -> &'static str {
+/// What a refusal is called here.
+pub fn answered_refusal(refusal: &Refusal) -> &'static str {
     match refusal {
         Refusal::LineTooLong => "line too long",
         Refusal::BadJson => "bad json",
@@ -38,7 +40,8 @@ fn answered_refusal(refusal: &Refusal) -> &'static str {
     }
 }
 
-fn answered_update(update: &Update) -> &'static str {
+/// What an update is called here.
+pub fn answered_update(update: &Update) -> &'static str {
     match update {
         Update::InSync => "in sync",
         Update::Put { key: _, item } => match item {
@@ -85,6 +88,8 @@ const LINES: &str = r#"{"tables":true} => tables
 {"flush":{"limit":1,"limit":null}} => flush
 {"inSync":false,"inSync":true} => in sync
 {"tables":true,"inSync":true,"inSync":null} => tables
+{"batch":[]} => a batch
+{"batch":[{"put":{}}],"batch":[]} => a batch
 { => bad json
 {}{} => bad json
 nul => bad json
@@ -99,6 +104,9 @@ null => bad line
 {"tables":true,"x":1} => bad line
 {"inSync":null} => bad line
 {"inSync":true,"inSync":false} => bad line
+{"batch":null} => bad line
+{"batch":{}} => bad line
+{"batch":[],"flush":{}} => bad line
 {"InSync":true} => bad line
 {"flush":true} => bad line
 {"flush":[]} => bad line
@@ -116,6 +124,7 @@ null => bad line
 {"packet":""} => bad line
 {"put":{}} => unknown kind
 {"delete":{}} => unknown kind
+{"batch":[{"put":{}}]} => unknown kind
 {"packet":{}} => missing field
 {"put":{"apiVersion":"projectcalico.org/v3","kind":"Profile","metadata":{"name":"p"}}} => profile
 {"delete":{"apiVersion":"projectcalico.org/v3","kind":"Profile","metadata":{"name":"p"}}} => no profile
@@ -143,6 +152,7 @@ const UPDATES: &str = r#"{"inSync":true} => in sync
 {"put":{}} => unknown kind
 {"delete":{"apiVersion":"projectcalico.org/v3","kind":"Profile","metadata":{"name":"p"}}} => no profile
 {"flush":true} => no update
+{"batch":true} => no update
 {"packet":""} => no update
 {"tables":false} => no update
 {"found":[]} => no update

@@ -22,6 +22,7 @@ use Rattle.fx_model.specs.declared.resources.Update.TheVariants as update
 use Rattle.fx_model.specs.Resources.{empty_resources, after}
 use Rattle.fx_model.specs.Claims.{all_claims, claims_at, endpoint_claims, interface_claims, listed_claims, policy_claims, profile_claims, clash}
 use Rattle.fx_model.specs.Batches.{after_all, touched_keys, clash_all}
+use Rattle.fx_model.specs.Steps.{last_record, puts_of, steps_of}
 use Rattle.fx_model.proofs.Orders.{item_total, exact_item}
 
 -- ---- all resources
@@ -216,6 +217,23 @@ last_counts : (dg : Digest) → clash_all dg (holding both_there) twice ≡ None
 last_counts dg =
     let held = claims_held dg (maps.remove both_there w1) _ (ap maps.entries without_w1 ∙ alone w4 (on_interface (codes "cali2"))) in
     λ i. first_clash (held i) (listed_claims dg n1 w1 (last_there i) ++ [])
+
+-- ---- the steps in which batches are handed on
+
+-- nothing has no steps
+no_steps : (R : Resources) → steps_of R [] ≡ []
+no_steps R = refl
+
+-- the last record of a key stands at the end, and none where a delete comes after it
+last_put : last_record twice (key.Item w1) ≡ Some (item.Endpoint (on_interface (codes "cali3")))
+last_put = refl
+
+deleted_last : last_record (put_on w1 (codes "cali1") ∷ update.Delete (key.Item w1) ∷ []) (key.Item w1) ≡ None
+deleted_last = refl
+
+-- both records are put again, in the order of their keys
+exchange_puts : puts_of exchange (touched_keys exchange) ≡ exchange
+exchange_puts = refl
 
 -- two keys of one batch want one interface: the later clashes with the earlier
 inside : (dg : Digest) → clash_all dg (holding none_there) (put_on w1 (codes "cali1") ∷ put_on w4 (codes "cali1") ∷ []) ≡ holder_is (codes "cali-tw-cali1") (codes "endpoint a/w1")

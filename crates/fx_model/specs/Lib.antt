@@ -19,6 +19,7 @@ pub mod Views
 pub mod Claims
 pub mod Batches
 pub mod Tests
+pub mod Steps
 pub mod Rendering
 pub mod Tables
 pub mod Tree

@@ -1,5 +1,5 @@
 //! The resources, as Calico's resource reference (`projectcalico.org/v3`) names them, and what changes them.
-ghost use Rattle.std.specs.Prelude.{◌≡◌, OnOk, OnErr};
+ghost use Rattle.std.specs.Prelude.{◌≡◌, IfOk, OnOk, OnErr};
 ghost use Rattle.fx_model.specs.SameRules.{same_endpoint_port};
 
 use crate::ids::{ItemKey, Key};
@@ -102,6 +102,28 @@ pub enum Update {
     Put { key: Key, item: Item },
     Delete { key: Key },
     InSync,
+}
+
+impl Clone for Update {
+    ghost is_clone = { λ a b. b ≡ a };
+
+    fn clone(&self) -> Result<Self, AllocError> {
+        match self {
+            Update::Put { key, item } => Ok(Update::Put {
+                key: copied(key)?,
+                item: item.clone()?,
+            }),
+            Update::Delete { key } => Ok(Update::Delete { key: copied(key)? }),
+            Update::InSync => Ok(Update::InSync),
+        }
+    }
+}
+
+fn copied(key: &Key) -> Result<Key, AllocError>
+    ensures { IfOk result (λ copy. copy ≡ key.now) }
+{
+    let copy = key.clone()?;
+    Ok(copy)
 }
 
 /// All resources of a node.

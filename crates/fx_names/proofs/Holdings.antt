@@ -1,5 +1,6 @@
 -- What a registry keeps as a name's holding changes.
-use Rattle.std.proofs.Common.{◌≡◌, ◌==◌, ℕ, zero, suc, ◌+◌, ◌-◌, ◌<◌, Bool, true, false, cond, ◌&&◌, not, ltb, List, [], ◌∷◌, ◌++◌, Option, Some, None, refl, sym, ap, ◌∙◌, subst, arith}
+use Rattle.std.proofs.lemmas.Bool.Decides.{nat_tests}
+use Rattle.std.proofs.Common.{◌≡◌, ◌==◌, ℕ, zero, suc, ◌+◌, ◌-◌, ◌<◌, Bool, true, false, cond, ◌&&◌, not, ltb, List, [], ◌∷◌, ◌++◌, Option, Some, None, refl, sym, ap, ◌∙◌, subst, arith, append_assoc}
 use Rattle.std.proofs.lemmas.Bool.{ltb-true, ltb-false, not-true}
 use Rattle.std.specs.Str.{bytes_eq}
 use Rattle.std.specs.Cmp.Lexicographic.{nat_list_eq_equiv}
@@ -13,10 +14,10 @@ use Rattle.fx_base.specs.contracts.kernel_name.KernelNameOrd.TheImpl.Laws.{match
 use Rattle.fx_names.specs.declared.claim.Claim.{Claim}
 use Rattle.fx_names.specs.declared.registry.Holding.{Holding}
 use Rattle.fx_names.specs.declared.registry.Registry.{Registry}
-use Rattle.fx_names.specs.Claims.{same_name, is_same, clashes, times, other_holder}
+use Rattle.fx_names.specs.Claims.{same_name, is_same, clashes, times, other_holder, first_clash}
 use Rattle.fx_names.specs.Holding.{HoldsClaims, uses_of}
 use Rattle.fx_names.proofs.Orders.{name_total}
-use Rattle.fx_names.proofs.ClaimLists.{same_name-refl, same_name-swap, bytes_eq-refl, other_holder-none, other_holder-some, times-append, times-none, times-itself, times-other}
+use Rattle.fx_names.proofs.ClaimLists.{same_name-refl, same_name-swap, bytes_eq-refl, other_holder-none, other_holder-some, first_clash-miss, times-append, times-none, times-itself, times-other}
 
 -- the registry's look-ups are the other's but at one name
 abbrev pub Differs : Registry → Registry → KernelName → Option Holding → Type 0
@@ -218,3 +219,37 @@ module _ (r : Registry) (c : Claim) (old others : List Claim) (k : HoldsClaims r
   pub other_holder-there : (x : Holding) → map.get r.names c.name ≡ Some x → bytes_eq x.holder c.holder ≡ false → ltb (times (record { name = c.name; holder = x.holder }) old) x.uses ≡ true → other_holder others c ≡ Some x.holder
   other_holder-there x g n e =
       somebody c x.holder others (nat_list_eq_equiv.symm c.holder x.holder ∙ n) (omega (arith, the_holder x g, ltb-true _ _ e)) (λ h q. another x g h q)
+
+-- ---- what a registry beside holds
+
+-- how often a claim is among those that a registry keeps
+pub times-held : (r : Registry) (held : List Claim) → HoldsClaims r held → (d : Claim) (o : Option Holding) → map.get r.names d.name ≡ o → times d held ≡ uses_of o d
+times-held r held k d o g = sym (k.each d) ∙ ap (λ w. uses_of w d) g
+
+-- some or none
+pub some_uses : (n : ℕ) → not (n == 0) ≡ ltb 0 n
+some_uses n = grind (arith, nat_tests)
+
+-- the holder of a claim that is kept is the claim's
+holds_own : (r : Registry) (c : Claim) (held : List Claim) → HoldsClaims r held → 0 < times c held → (o : Option Holding) → map.get r.names c.name ≡ o → (P : Type 0) → ((x : Holding) → map.get r.names c.name ≡ Some x → bytes_eq x.holder c.holder ≡ true → P) → P
+holds_own r c held k there None g P found = let none : times c held ≡ 0 = times-held r held k c None g in absurd (omega (arith, there, none))
+holds_own r c held k there (Some x) g P found =
+    elim (bytes_eq x.holder c.holder) as (λ b. bytes_eq x.holder c.holder ≡ b → times c held ≡ cond b x.uses 0 → P) [
+      | true ↦ λ e all. found x g e
+      | false ↦ λ e all. let none : times c held ≡ 0 = all in absurd (omega (arith, there, none))
+    ] refl (times-held r held k c (Some x) g)
+
+-- nobody else holds the name of a claim that is kept
+others_free : (r : Registry) (c : Claim) (held rest : List Claim) → HoldsClaims r (held ++ c ∷ rest) → other_holder held c ≡ None
+others_free r c held rest k =
+    let there : HoldsClaims r ((c ∷ rest) ++ held) = HoldsClaims-same r (held ++ c ∷ rest) ((c ∷ rest) ++ held) k (λ d. omega (arith, times-append d held (c ∷ rest), times-append d (c ∷ rest) held)) in
+    let more : times c ((c ∷ rest) ++ held) ≡ times c (rest ++ held) + 1 = times-itself c (rest ++ held) in
+    holds_own r c ((c ∷ rest) ++ held) there (omega (arith, more)) (map.get r.names c.name) refl _
+    (λ x g e. other_holder-own r c (c ∷ rest) held there x g e)
+
+-- claims that are kept don't clash
+pub kept_free : (r : Registry) (held new rest : List Claim) → HoldsClaims r (held ++ (new ++ rest)) → first_clash held new ≡ None
+kept_free r held [] rest k = refl
+kept_free r held (c ∷ cs) rest k =
+    first_clash-miss held c cs (others_free r c held (cs ++ rest) k)
+    ∙ kept_free r (held ++ c ∷ []) cs rest (subst (HoldsClaims r) (sym (append_assoc held (c ∷ []) (cs ++ rest))) k)

@@ -1,5 +1,6 @@
 //! Who holds which name.
-ghost use Rattle.std.specs.Prelude.{◌≡◌, ◌++◌, ◌∷◌, [], None, List, nat_lt, OnOk, option_map};
+ghost use Rattle.std.specs.Prelude.{◌≡◌, ◌++◌, ◌∷◌, [], None, List, cond, nat_lt, OnOk, option_map};
+ghost use Rattle.std.specs.Str.{bytes_eq};
 ghost use Rattle.fx_names.specs.declared.claim.Claim.{Claim};
 ghost use Rattle.fx_names.specs.Claims.{times, other_holder, first_clash};
 ghost use Rattle.fx_names.specs.Holding.{HoldsClaims, clash_of};
@@ -56,6 +57,21 @@ impl Registry {
         Ok(())
     }
 
+    /// The same of one new claim, where another registry holds what is taken out: it goes over no claims, so it takes as long
+    /// whatever is taken out.
+    pub fn check_beside<'a>(&'a self, gone: &Registry, claim: &Claim) -> Result<(), Taken<'a>>
+        ensures { (old others : List Claim) → HoldsClaims gone.now old → HoldsClaims self.now (old ++ others)
+            → clash_of result ≡ first_clash others (claim.now ∷ []) }
+    {
+        match self.holder_beside(gone, claim) {
+            Some(holder) => Err(Taken {
+                name: claim.name,
+                holder,
+            }),
+            None => Ok(()),
+        }
+    }
+
     /// Takes the old claims out and puts the new ones in.
     pub fn swap(&mut self, old: &[Claim], new: &[Claim]) -> Result<(), Memory>
         ensures { OnOk result ((others : List Claim) → HoldsClaims self.old (old.now ++ others)
@@ -73,6 +89,19 @@ impl Registry {
     {
         let holding = self.names.get(&claim.name)?;
         if holding.holder != claim.holder && holding.outlasts(old, &claim.name) {
+            Some(&holding.holder)
+        } else {
+            None
+        }
+    }
+
+    // The same, where another registry holds what is taken out.
+    fn holder_beside(&self, gone: &Registry, claim: &Claim) -> Option<&Text>
+        ensures { (old others : List Claim) → HoldsClaims gone.now old → HoldsClaims self.now (old ++ others)
+            → option_map (λ text. text.now) result ≡ other_holder others claim.now }
+    {
+        let holding = self.names.get(&claim.name)?;
+        if holding.holder != claim.holder && holding.outlasts_beside(gone, &claim.name) {
             Some(&holding.holder)
         } else {
             None
@@ -137,6 +166,28 @@ impl Holding {
         ensures { result ≡ nat_lt (times (record { name = name.now; holder = self.now.holder }) old.now) self.now.uses }
     {
         self.uses.exceeds(times(old, name, &self.holder))
+    }
+
+    // The same, where a registry holds these.
+    fn outlasts_beside(&self, gone: &Registry, name: &KernelName) -> bool
+        ensures { (old : List Claim) → HoldsClaims gone.now old
+            → result ≡ nat_lt (times (record { name = name.now; holder = self.now.holder }) old) self.now.uses }
+    {
+        match gone.names.get(name) {
+            Some(other) => self.exceeds(other),
+            None => !self.uses.is_zero(),
+        }
+    }
+
+    // Whether there are more uses than the other holding has by this holder.
+    fn exceeds(&self, other: &Holding) -> bool
+        ensures { result ≡ nat_lt (cond (bytes_eq other.now.holder self.now.holder) other.now.uses 0) self.now.uses }
+    {
+        if other.holder == self.holder {
+            self.uses.exceeds_uses(&other.uses)
+        } else {
+            !self.uses.is_zero()
+        }
     }
 }
 

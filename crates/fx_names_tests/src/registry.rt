@@ -40,6 +40,25 @@ fn claims_are_swapped(rt: HostRuntime) -> Result<(), Fail> {
     Ok(())
 }
 
+// What is taken out is held by a registry of its own.
+#[test]
+fn claims_are_checked_beside_a_registry(rt: HostRuntime) -> Result<(), Fail> {
+    let alloc = rt.alloc();
+    let mut registry = Registry::new(alloc);
+    let mut gone = Registry::new(alloc);
+    let one = [claim(alloc, b'a', b"one")?];
+    let two = claim(alloc, b'a', b"two")?;
+    registry.swap(&[], &one)?;
+    registry.swap(&[], &one)?;
+    gone.swap(&[], &one)?;
+    // once of two times is taken out
+    let answer = registry.check_beside(&gone, &two);
+    assert_eq!(rt; holder(&answer), b"one".as_slice());
+    gone.swap(&[], &one)?;
+    assert!(rt; registry.check_beside(&gone, &two).is_ok());
+    Ok(())
+}
+
 #[test]
 fn new_claims_clash(rt: HostRuntime) -> Result<(), Fail> {
     let alloc = rt.alloc();

@@ -1,55 +1,57 @@
--- An update is made, or the line is refused.
-use Rattle.std.proofs.Common.{◌≡◌, ℕ, [], true, Option, None, Some, Result, refl, sym, ap, subst}
+-- An update or a batch is made, or the line is refused.
+use Rattle.std.proofs.Common.{◌≡◌, ℕ, true, List, Option, None, Some, Result, Ok, refl, sym, ap, subst}
 use Rattle.std.specs.Prelude.{OnOk}
 use Rattle.fx_base.specs.Ticks.{IsTicked}
 use Rattle.fx_base.specs.declared.counts.Counter.{Counter}
 use Rattle.fx_base.proofs.TickLemmas.{IsTicked-none}
-use Rattle.fx_names.specs.Digests.{Digest}
 use Rattle.fx_names.specs.Claims.{Clash}
-use Rattle.fx_model.specs.Claims.{clash}
-use Rattle.fx_model.specs.Resources.{after}
-use Rattle.fx_model.specs.Tests.{least_tests, most_tests}
 use Rattle.fx_model.specs.declared.resources.Resources.{Resources}
 use Rattle.fx_model.specs.declared.resources.Update.{Update}
 use Rattle.fx_fields.specs.declared.refusal.Refusal.TheVariants.{Taken}
+use Rattle.fx_lines.specs.declared.commands.Command.{Command}
+use Rattle.fx_lines.specs.declared.commands.Command.TheVariants as command
 use Rattle.fx_print.specs.Texts.{refusal_line}
 use Rattle.fx_replay.specs.declared.tally.Tally.{Tally}
 use Rattle.fx_replay.specs.Tallies.{tally_after}
-use Rattle.fx_replay.specs.Output.{State, unless_taken, update_answer, flushed_in, settled, settled_text}
+use Rattle.fx_replay.specs.Output.{State, unless_taken, accepted, command_text, flushed_in, settled, settled_text}
 use Rattle.fx_replay.specs.Tests.{HasTested}
 use Rattle.fx_replay.proofs.SendingLemmas.{on_ok_always}
 
-module _ (s : State) (u : Update) where
+module _ (s : State) (o : Option Clash) (asked : Command) where
   -- nothing clashes
-  pub free-settled : clash s.digest s.resources u ≡ None → settled s (update_answer s.digest s.resources u) ≡ record s { resources = after s.resources u }
-  free-settled free = ap (λ (o : Option Clash). settled s (unless_taken o u)) free
+  pub free-settled : o ≡ None → settled s (unless_taken o asked) ≡ accepted s asked
+  free-settled free = ap (λ (p : Option Clash). settled s (unless_taken p asked)) free
 
-  pub free-text : clash s.digest s.resources u ≡ None → settled_text s (update_answer s.digest s.resources u) ≡ []
-  free-text free = ap (λ (o : Option Clash). settled_text s (unless_taken o u)) free
+  pub free-text : o ≡ None → settled_text s (unless_taken o asked) ≡ command_text s asked
+  free-text free = ap (λ (p : Option Clash). settled_text s (unless_taken p asked)) free
 
   -- a name is taken
-  pub taken-settled : (c : Clash) → clash s.digest s.resources u ≡ Some c → settled s (update_answer s.digest s.resources u) ≡ record s { refused = true }
-  taken-settled c is = ap (λ (o : Option Clash). settled s (unless_taken o u)) is
+  pub taken-settled : (c : Clash) → o ≡ Some c → settled s (unless_taken o asked) ≡ record s { refused = true }
+  taken-settled c is = ap (λ (p : Option Clash). settled s (unless_taken p asked)) is
 
-  pub taken-text : (c : Clash) → clash s.digest s.resources u ≡ Some c → settled_text s (update_answer s.digest s.resources u) ≡ refusal_line s.lines (Taken c.name c.holder)
-  taken-text c is = ap (λ (o : Option Clash). settled_text s (unless_taken o u)) is
+  pub taken-text : (c : Clash) → o ≡ Some c → settled_text s (unless_taken o asked) ≡ refusal_line s.lines (Taken c.name c.holder)
+  taken-text c is = ap (λ (p : Option Clash). settled_text s (unless_taken p asked)) is
 
--- an update is no flush, whether it is made or not
-pub untallied : (t : Tally) (s : State) (u : Update) (o : Option Clash) → t ≡ tally_after t (flushed_in s (unless_taken o u))
+-- an update is no flush, whether it is made or not, and no more is a batch
+pub untallied : (t : Tally) (s : State) (u : Update) (o : Option Clash) → t ≡ tally_after t (flushed_in s (unless_taken o (command.Update u)))
 untallied t s u None = refl
 untallied t s u (Some c) = refl
 
+pub untallied_all : (t : Tally) (s : State) (us : List Update) (o : Option Clash) → t ≡ tally_after t (flushed_in s (unless_taken o (command.Batch us)))
+untallied_all t s us None = refl
+untallied_all t s us (Some c) = refl
+
 -- ---- tests of selectors
 
-module _ (dg : Digest) (R : Resources) (u : Update) (before now : Counter) where
-  -- the update is made
-  pub free-tested : clash dg R u ≡ None → IsTicked (least_tests R u) (most_tests R u) before.ticks now.ticks → HasTested R (update_answer dg R u) before now
-  free-tested free tested = subst (λ (o : Option Clash). HasTested R (unless_taken o u) before now) (sym free) tested
+module _ (R : Resources) (o : Option Clash) (asked : Command) (before now : Counter) where
+  -- it is made
+  pub free-tested : o ≡ None → HasTested R (Ok asked) before now → HasTested R (unless_taken o asked) before now
+  free-tested free tested = subst (λ (p : Option Clash). HasTested R (unless_taken p asked) before now) (sym free) tested
 
   -- or it is refused, and tests nothing
-  pub taken-tested : (c : Clash) → clash dg R u ≡ Some c → now.ticks ≡ before.ticks → HasTested R (update_answer dg R u) before now
+  pub taken-tested : (c : Clash) → o ≡ Some c → now.ticks ≡ before.ticks → HasTested R (unless_taken o asked) before now
   taken-tested c is quiet =
-      subst (λ (o : Option Clash). HasTested R (unless_taken o u) before now) (sym is)
+      subst (λ (p : Option Clash). HasTested R (unless_taken p asked) before now) (sym is)
       (subst (λ (n : ℕ). IsTicked 0 0 before.ticks n) (sym quiet) (IsTicked-none before.ticks))
 
 -- a call that leaves the counter as it was tests nothing

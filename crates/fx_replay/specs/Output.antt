@@ -8,6 +8,7 @@ use Rattle.fx_model.specs.declared.view.View.{View}
 use Rattle.fx_model.specs.Resources.{after, empty_resources}
 use Rattle.fx_names.specs.Digests.{Digest}
 use Rattle.fx_names.specs.Claims.{Clash}
+use Rattle.fx_model.specs.Batches.{after_all, clash_all}
 use Rattle.fx_model.specs.Claims.{clash}
 use Rattle.fx_model.specs.Views.{view_of, empty_view}
 use Rattle.fx_model.specs.ViewTables.{tables_of}
@@ -44,19 +45,24 @@ start dg node = record {
 
 -- ---- what a line says of the resources
 
--- an update whose claims clash is refused, with the first clash
-abbrev pub unless_taken : Option Clash → Update → Result Command Refusal
-unless_taken None u = Ok (command.Update u)
-unless_taken (Some c) u = Err (Taken c.name c.holder)
+-- a command whose claims clash is refused, with the first clash
+abbrev pub unless_taken : Option Clash → Command → Result Command Refusal
+unless_taken None asked = Ok asked
+unless_taken (Some c) asked = Err (Taken c.name c.holder)
 
 abbrev pub update_answer : Digest → Resources → Update → Result Command Refusal
-update_answer dg R u = unless_taken (clash dg R u) u
+update_answer dg R u = unless_taken (clash dg R u) (command.Update u)
+
+-- a batch is made whole or refused whole; what stands between its updates isn't tested
+abbrev pub batch_answer : Digest → Resources → List Update → Result Command Refusal
+batch_answer dg R us = unless_taken (clash_all dg R us) (command.Batch us)
 
 abbrev pub checked : Digest → Resources → Result Command Refusal → Result Command Refusal
 checked dg R (Ok command.Blank) = Ok command.Blank
 checked dg R (Ok command.Tables) = Ok command.Tables
 checked dg R (Ok (command.Flush limit)) = Ok (command.Flush limit)
 checked dg R (Ok (command.Update u)) = update_answer dg R u
+checked dg R (Ok (command.Batch us)) = batch_answer dg R us
 checked dg R (Ok (command.Packet a)) = Ok (command.Packet a)
 checked dg R (Err r) = Err r
 
@@ -76,6 +82,7 @@ flushed_in s (Ok command.Blank) = None
 flushed_in s (Ok command.Tables) = None
 flushed_in s (Ok (command.Flush limit)) = Some (flush_of limit s)
 flushed_in s (Ok (command.Update u)) = None
+flushed_in s (Ok (command.Batch us)) = None
 flushed_in s (Ok (command.Packet a)) = None
 flushed_in s (Err r) = None
 
@@ -89,6 +96,7 @@ accepted s command.Blank = s
 accepted s command.Tables = s
 accepted s (command.Flush limit) = record s { sent = (flush_of limit s).ends }
 accepted s (command.Update u) = record s { resources = after s.resources u }
+accepted s (command.Batch us) = record s { resources = after_all s.resources us }
 accepted s (command.Packet a) = s
 
 -- what a counted line does; a refused one changes nothing
@@ -136,6 +144,7 @@ command_text s command.Blank = []
 command_text s command.Tables = concat (table_lines (tables_of s.sent))
 command_text s (command.Flush limit) = flush_text limit s.sent (view_of s.digest s.resources)
 command_text s (command.Update u) = []
+command_text s (command.Batch us) = []
 command_text s (command.Packet a) = packet_text (tables_of s.sent) a
 
 -- what a counted line writes

@@ -14,6 +14,7 @@ step-lines s (Ok command.Blank) = refl
 step-lines s (Ok command.Tables) = refl
 step-lines s (Ok (command.Flush limit)) = refl
 step-lines s (Ok (command.Update u)) = refl
+step-lines s (Ok (command.Batch us)) = refl
 step-lines s (Ok (command.Packet a)) = refl
 step-lines s (Err r) = refl
 

@@ -8,7 +8,7 @@ ghost use Rattle.fx_model.specs.Views.{view_of};
 ghost use Rattle.fx_lines.specs.Commands.{command_of};
 ghost use Rattle.fx_lines.specs.Formed.{IsReadCommand};
 ghost use Rattle.fx_print.specs.Texts.{refusal_line, flushed_line};
-ghost use Rattle.fx_replay.specs.Output.{State, was_refused, start, next, text, answer_of, checked, update_answer, accepted, settled, settled_text, flush_text, flushed_in, flushed_by, message_count};
+ghost use Rattle.fx_replay.specs.Output.{State, was_refused, start, next, text, answer_of, checked, update_answer, batch_answer, accepted, settled, settled_text, flush_text, flushed_in, flushed_by, message_count};
 ghost use Rattle.fx_replay.specs.Tallies.{no_flushes, one_flush_more, tally_after};
 ghost use Rattle.fx_replay.specs.Tests.{HasTested, ticks_of};
 ghost use Rattle.fx_replay.specs.PacketRuns.{packet_text};
@@ -19,7 +19,7 @@ ghost use Rattle.fx_run.specs.Writing.{Writes};
 use crate::sending::send_up_to;
 use crate::tally::Tally;
 use fx_agent::{Agent, UpdateFault};
-use fx_base::{CountSink, Counter, Memory, Sink, Text};
+use fx_base::{CountSink, Counter, Memory, Seq, Sink, Text};
 use fx_fields::Refusal;
 use fx_lines::{Command, read_command};
 use fx_model::{Packet, Update};
@@ -108,6 +108,7 @@ impl<R: DigestRule, F: DigestFunction<R> + Drop> Replay<R, F> {
             Ok(Command::Tables) => self.put_tables(sink),
             Ok(Command::Flush { limit }) => self.flush(limit, sink),
             Ok(Command::Update(update)) => self.take(update, sink),
+            Ok(Command::Batch(updates)) => self.take_all(updates, sink),
             Ok(Command::Packet(packet)) => self.put_packet(&packet, sink),
             Err(refusal) => self.refuse(&refusal, sink),
         }
@@ -139,8 +140,34 @@ impl<R: DigestRule, F: DigestFunction<R> + Drop> Replay<R, F> {
         }
     }
 
-    // The tables of the view that was sent.
-    fn sent_tables(&self) -> &Tables
+    // Gives the agent updates that are made together. The line is refused where a name is taken that they claim in the end.
+    fn take_all<K: Sink>(&mut self, updates: Seq<Update>, sink: &mut K) -> Result<(), RunFault>
+        requires ready { self.old.agent.failed ≡ false }
+        requires read { IsReadCommand (Command.Batch updates) }
+        ensures ready { OnOk result (self.new.agent.failed ≡ false) }
+        ensures state { OnOk result (state_of R.digest_of self.new.agent self.new.lines self.new.refused
+            ≡ settled (state_of R.digest_of self.old.agent self.old.lines self.old.refused)
+            (batch_answer R.digest_of self.old.agent.resources updates)) }
+        ensures tally { OnOk result (self.new.tally ≡ self.old.tally) }
+        ensures tests { OnOk result (HasTested self.old.agent.resources
+            (batch_answer R.digest_of self.old.agent.resources updates) self.old.ticks self.new.ticks) }
+        ensures writes { Writes (K.state sink.old) (K.state sink.new)
+            (settled_text (state_of R.digest_of self.old.agent self.old.lines self.old.refused)
+            (batch_answer R.digest_of self.old.agent.resources updates)) result }
+    {
+        match self.agent.update_all(updates.into_vec(), &mut self.ticks) {
+            Ok(()) => Ok(()),
+            Err(UpdateFault::Taken { name, holder }) => {
+                self.refuse(&Refusal::Taken { name, holder }, sink)
+            }
+            Err(UpdateFault::Memory) => Err(RunFault::Memory),
+            // As above: the run has ended then.
+            Err(UpdateFault::NeedsResync) => unreachable!(),
+        }
+    }
+
+    /// The tables of the view that was sent.
+    pub fn sent_tables(&self) -> &Tables
         requires ready { self.now.agent.failed ≡ false }
         ensures sent { result.now ≡ tables_of self.now.agent.sent }
         ensures closed { IsClosedView self.now.agent.sent }
@@ -148,7 +175,8 @@ impl<R: DigestRule, F: DigestFunction<R> + Drop> Replay<R, F> {
         self.agent.tables()
     }
 
-    fn put_tables<K: Sink>(&self, sink: &mut K) -> Result<(), RunFault>
+    /// Writes the tables of the view that was sent.
+    pub fn put_tables<K: Sink>(&self, sink: &mut K) -> Result<(), RunFault>
         requires ready { self.now.agent.failed ≡ false }
         ensures writes { Writes (K.state sink.old) (K.state sink.new)
             (concat (table_lines (tables_of self.now.agent.sent))) result }
@@ -185,7 +213,8 @@ impl<R: DigestRule, F: DigestFunction<R> + Drop> Replay<R, F> {
         Ok(lines)
     }
 
-    fn refuse<K: Sink>(&mut self, refusal: &Refusal, sink: &mut K) -> Result<(), RunFault>
+    /// Writes that the last line is refused, and why.
+    pub fn refuse<K: Sink>(&mut self, refusal: &Refusal, sink: &mut K) -> Result<(), RunFault>
         ensures same { OnOk result (self.new ≡ record self.old { refused = true }) }
         ensures writes { Writes (K.state sink.old) (K.state sink.new) (refusal_line self.old.lines refusal.now) result }
     {
@@ -194,8 +223,8 @@ impl<R: DigestRule, F: DigestFunction<R> + Drop> Replay<R, F> {
         put_one(&line, sink)
     }
 
-    // Pulls until nothing is left or the limit is met. Tells how many messages there were, and whether there are more.
-    fn flush<K: Sink>(&mut self, limit: Option<u32>, sink: &mut K) -> Result<(), RunFault>
+    /// Pulls until nothing is left or the limit is met. Tells how many messages there were, and whether there are more.
+    pub fn flush<K: Sink>(&mut self, limit: Option<u32>, sink: &mut K) -> Result<(), RunFault>
         requires ready { self.old.agent.failed ≡ false }
         ensures ready { OnOk result (self.new.agent.failed ≡ false) }
         ensures state { OnOk result (state_of R.digest_of self.new.agent self.new.lines self.new.refused

@@ -1,11 +1,11 @@
 -- A registry keeps what all resources claim, also as what a key claims is taken out and other claims are put in.
-use Rattle.std.proofs.Common.{◌≡◌, ◌+◌, true, List, [], ◌++◌, Option, None, sym, ap, ◌∙◌, subst, arith}
+use Rattle.std.proofs.Common.{◌≡◌, true, List, [], ◌++◌, Option, None, refl, sym, ap, ◌∙◌, subst, arith}
 use Rattle.std.proofs.lemmas.List.{append-nil}
 use Rattle.std.specs.FinMap as maps
 use Rattle.fx_names.specs.Digests.{Digest}
 use Rattle.fx_names.specs.declared.claim.Claim.{Claim}
 use Rattle.fx_names.specs.declared.registry.Registry.{Registry}
-use Rattle.fx_names.specs.Claims.{Clash, times, first_clash}
+use Rattle.fx_names.specs.Claims.{Clash, first_clash}
 use Rattle.fx_names.specs.Holding.{HoldsClaims}
 use Rattle.fx_names.proofs.ClaimLists.{times-append}
 use Rattle.fx_names.proofs.Holdings.{HoldsClaims-same}
@@ -13,13 +13,14 @@ use Rattle.fx_model.specs.declared.ids.Key.{Key}
 use Rattle.fx_model.specs.declared.resources.Item.{Item}
 use Rattle.fx_model.specs.declared.resources.Resources.{Resources}
 use Rattle.fx_model.specs.declared.resources.Update.{Update}
-use Rattle.fx_model.specs.declared.resources.Update.TheVariants.{Put, Delete}
+use Rattle.fx_model.specs.declared.resources.Update.TheVariants.{InSync, Put, Delete}
 use Rattle.fx_model.specs.Resources.{after, after_put, after_delete}
 use Rattle.fx_model.specs.Formed.{is_formed}
 use Rattle.fx_model.specs.Claims.{claims_of, claims_at, all_claims, clash}
 use Rattle.fx_laws.proofs.ClaimsCounted.{times-at, times-put}
-use Rattle.fx_laws.proofs.Clashing.{clash-put}
+use Rattle.fx_laws.proofs.Clashing.{clash-put, clash-delete}
 use Rattle.fx_laws.proofs.ClaimsApart.{none_claimed}
+use Rattle.fx_store.specs.Changing.{claims_before, claims_after}
 
 module _ (dg : Digest) (R : Resources) (k : Key) (r : Registry) where
   -- what other keys claim
@@ -60,6 +61,27 @@ module _ (dg : Digest) (R : Resources) (k : Key) (r : Registry) where
       kept_after_delete is none =
           subst (λ v. HoldsClaims s (all_claims dg (after R v))) (sym is)
           (subst (HoldsClaims s) (ap (λ l. rest ++ l) none ∙ append-nil rest) (swapped rest (without h) (ap (first_clash rest) none)))
+
+-- ---- the same of any update, by what it changes of the claims
+
+module _ (dg : Digest) (R : Resources) (r : Registry) (old new : List Claim) where
+  pub clash_of_change : (P : Option Clash → Type 0) (u : Update) → old ≡ claims_before dg R u → new ≡ claims_after dg R u → is_formed u ≡ true → HoldsClaims r (all_claims dg R)
+      → ((kept : List Claim) → HoldsClaims r (old ++ kept) → P (first_clash kept new)) → P (clash dg R u)
+  clash_of_change P InSync own wanted formed h found =
+      let all = all_claims dg R in
+      subst P (ap (first_clash all) wanted) (found all (subst (λ l. HoldsClaims r (l ++ all)) (sym own) h))
+  clash_of_change P (Put k x) own wanted formed h found = clash_of_put dg R k r old new own P x wanted formed h found
+  clash_of_change P (Delete k) own wanted formed h found =
+      subst P (ap (first_clash (rest dg R k r)) wanted ∙ sym (clash-delete dg R k)) (found (rest dg R k r) (without dg R k r old new own h))
+
+  pub kept_after_change : (s : Registry) → ((kept : List Claim) → HoldsClaims r (old ++ kept) → first_clash kept new ≡ None → HoldsClaims s (kept ++ new)) → HoldsClaims r (all_claims dg R)
+      → (u : Update) → old ≡ claims_before dg R u → new ≡ claims_after dg R u → is_formed u ≡ true → clash dg R u ≡ None → HoldsClaims s (all_claims dg (after R u))
+  kept_after_change s swapped h InSync own wanted formed free =
+      let all = all_claims dg R in
+      subst (HoldsClaims s) (ap (λ l. all ++ l) wanted ∙ append-nil all)
+      (swapped all (subst (λ l. HoldsClaims r (l ++ all)) (sym own) h) (ap (first_clash all) wanted))
+  kept_after_change s swapped h (Put k x) own wanted formed free = kept_after_put dg R k r old new own s swapped h (Put k x) x refl wanted formed free
+  kept_after_change s swapped h (Delete k) own wanted formed free = kept_after_delete dg R k r old new own s swapped h (Delete k) refl wanted
 
 -- no resources claim nothing
 pub keeps_none : (dg : Digest) (R : Resources) (r : Registry) → R.endpoints ≡ maps.empty → R.profiles ≡ maps.empty → R.policies ≡ maps.empty → HoldsClaims r [] → HoldsClaims r (all_claims dg R)

@@ -1,14 +1,17 @@
 //! What resources claim.
 ghost use Rattle.std.specs.Prelude.{◌≡◌, [], ◌∷◌, ◌++◌, map, IfOk, OnOk, codes};
 ghost use Rattle.std.specs.List.{flat_map};
+ghost use Rattle.std.specs.FinMap as finite;
 ghost use Rattle.fx_base.specs.declared.kernel_name.KernelName.TheVariants.{Chain};
 ghost use Rattle.fx_names.specs.Names.{chain_name_of};
 ghost use Rattle.fx_model.specs.Claims.{item_text, profile_chains, policy_chains, profile_claims, policy_claims, set_claim, interface_claims, endpoint_claims, claims_of, claims_at};
 ghost use Rattle.fx_model.specs.Sets.{rules_uses};
+ghost use Rattle.fx_model.specs.Steps.{record_claims};
 
 use fx_base::{KernelName, Memory, Seq, SetKind, Text};
 use fx_model::{
-    Endpoint, Item, ItemKey, Key, Policy, PolicyId, Profile, Resources, Rule, SetUse, push_both,
+    Endpoint, Item, ItemKey, Key, KeyMap, Policy, PolicyId, Profile, Resources, Rule, SetUse,
+    push_both,
 };
 use fx_names::{Claim, DigestFunction, DigestRule, Namer, Prefix};
 use std::alloc::Global;
@@ -24,18 +27,7 @@ pub fn claims_of<R: DigestRule, F: DigestFunction<R> + Drop>(
     ensures { IfOk result (λ cs. cs.items ≡ claims_of R.digest_of node.now key.now item.now) }
 {
     let mut claims = Vec::new(alloc);
-    match (key, item) {
-        (Key::Item(key), Item::Endpoint(endpoint)) => {
-            push_endpoint(alloc, node, key, endpoint, namer, &mut claims)?;
-        }
-        (Key::Profile { name }, Item::Profile(profile)) => {
-            push_profile(alloc, name, profile, namer, &mut claims)?;
-        }
-        (Key::Policy(id), Item::Policy(policy)) => {
-            push_policy(alloc, id, policy, namer, &mut claims)?;
-        }
-        _ => {}
-    }
+    push_claims(alloc, node, key, item, namer, &mut claims)?;
     Ok(claims)
 }
 
@@ -49,21 +41,110 @@ pub fn claims_at<R: DigestRule, F: DigestFunction<R> + Drop>(
     ensures { IfOk result (λ cs. cs.items ≡ claims_at R.digest_of resources.now key.now) }
 {
     let mut claims = Vec::new(alloc);
+    push_claims_at(alloc, resources, key, namer, &mut claims)?;
+    Ok(claims)
+}
+
+/// What the resources at these keys claim.
+pub fn claims_at_all<R: DigestRule, F: DigestFunction<R> + Drop>(
+    alloc: Global,
+    resources: &Resources,
+    keys: &[Key],
+    namer: &Namer<R, F>,
+) -> Result<Vec<Claim>, Memory>
+    ensures { IfOk result (λ cs. cs.items ≡ flat_map (claims_at R.digest_of resources.now) keys.now) }
+{
+    let mut claims = Vec::new(alloc);
+    for key in keys {
+        push_claims_at(alloc, resources, key, namer, &mut claims)?;
+    }
+    Ok(claims)
+}
+
+/// What these records claim, each at its key; a key without one claims nothing.
+pub fn claims_of_all<R: DigestRule, F: DigestFunction<R> + Drop>(
+    alloc: Global,
+    node: &Text,
+    keys: &[Key],
+    records: &KeyMap<Item>,
+    namer: &Namer<R, F>,
+) -> Result<Vec<Claim>, Memory>
+    ensures { IfOk result (λ cs. cs.items
+        ≡ flat_map (λ k. record_claims R.digest_of node.now k (finite.get records.now k)) keys.now) }
+{
+    let mut claims = Vec::new(alloc);
+    for key in keys {
+        push_record(alloc, node, key, records, namer, &mut claims)?;
+    }
+    Ok(claims)
+}
+
+fn push_record<R: DigestRule, F: DigestFunction<R> + Drop>(
+    alloc: Global,
+    node: &Text,
+    key: &Key,
+    records: &KeyMap<Item>,
+    namer: &Namer<R, F>,
+    claims: &mut Vec<Claim>,
+) -> Result<(), Memory>
+    ensures { OnOk result (claims.new.items
+        ≡ claims.old.items ++ record_claims R.digest_of node.now key.now (finite.get records.now key.now)) }
+{
+    if let Some(item) = records.get(key) {
+        push_claims(alloc, node, key, item, namer, claims)?;
+    }
+    Ok(())
+}
+
+fn push_claims<R: DigestRule, F: DigestFunction<R> + Drop>(
+    alloc: Global,
+    node: &Text,
+    key: &Key,
+    item: &Item,
+    namer: &Namer<R, F>,
+    claims: &mut Vec<Claim>,
+) -> Result<(), Memory>
+    ensures { OnOk result (claims.new.items ≡ claims.old.items ++ claims_of R.digest_of node.now key.now item.now) }
+{
+    match (key, item) {
+        (Key::Item(key), Item::Endpoint(endpoint)) => {
+            push_endpoint(alloc, node, key, endpoint, namer, claims)?;
+        }
+        (Key::Profile { name }, Item::Profile(profile)) => {
+            push_profile(alloc, name, profile, namer, claims)?;
+        }
+        (Key::Policy(id), Item::Policy(policy)) => {
+            push_policy(alloc, id, policy, namer, claims)?;
+        }
+        _ => {}
+    }
+    Ok(())
+}
+
+fn push_claims_at<R: DigestRule, F: DigestFunction<R> + Drop>(
+    alloc: Global,
+    resources: &Resources,
+    key: &Key,
+    namer: &Namer<R, F>,
+    claims: &mut Vec<Claim>,
+) -> Result<(), Memory>
+    ensures { OnOk result (claims.new.items ≡ claims.old.items ++ claims_at R.digest_of resources.now key.now) }
+{
     match key {
-        Key::Item(key) => push_item(alloc, resources, key, namer, &mut claims)?,
+        Key::Item(key) => push_item(alloc, resources, key, namer, claims)?,
         Key::Profile { name } => {
             if let Some(profile) = resources.profiles.get(name) {
-                push_profile(alloc, name, profile, namer, &mut claims)?;
+                push_profile(alloc, name, profile, namer, claims)?;
             }
         }
         Key::Tier { .. } => {}
         Key::Policy(id) => {
             if let Some(policy) = resources.policies.get(id) {
-                push_policy(alloc, id, policy, namer, &mut claims)?;
+                push_policy(alloc, id, policy, namer, claims)?;
             }
         }
     }
-    Ok(claims)
+    Ok(())
 }
 
 // What the item at a key claims; a network set claims nothing.

@@ -1,28 +1,30 @@
 //! The resources, and the registry of the names that they claim.
 ghost use Rattle.std.specs.Prelude.{◌≡◌, true, None, OnOk, option_map};
+ghost use Rattle.std.specs.List.{list_all};
 ghost use Rattle.fx_names.specs.Digests.{Digest};
-ghost use Rattle.fx_names.specs.Holding.{HoldsClaims};
 ghost use Rattle.fx_model.specs.Resources.{empty_resources, after};
 ghost use Rattle.fx_model.specs.Formed.{is_formed};
-ghost use Rattle.fx_model.specs.Claims.{all_claims, clash};
+ghost use Rattle.fx_model.specs.Claims.{clash};
+ghost use Rattle.fx_model.specs.Batches.{after_all, clash_all};
 ghost use Rattle.fx_store.specs.Keeping.{KeepsClaims};
 ghost use Rattle.fx_store.specs.Checking.{Tells};
 ghost use Rattle.fx_store.specs.Items.{item_at, item_found};
 
 use crate::checking::check_claims;
-use crate::claims::{claims_at, claims_of};
+use crate::claims::{claims_at_all, claims_of_all};
 use crate::fault::CheckFault;
+use crate::touched::{last_records, touched_keys};
 use fx_base::{Memory, Text};
-use fx_model::{Endpoint, Item, ItemKey, Key, NetSet, Policy, Profile, Resources, Tier, Update};
+use fx_model::{Endpoint, ItemKey, Key, NetSet, Policy, Profile, Resources, Tier, Update};
 use fx_names::{DigestFunction, DigestRule, Namer, Registry};
 use std::alloc::Global;
 
-/// The resources of a node and what they claim. After want of memory in `apply` it isn't used again.
+/// The resources of a node and what they claim. After want of memory in `apply` or its like it isn't used again.
 #[derive(Drop)]
 pub struct Store {
-    alloc: Global,
-    resources: Resources,
-    registry: Registry,
+    pub(crate) alloc: Global,
+    pub(crate) resources: Resources,
+    pub(crate) registry: Registry,
 }
 
 /// What stands at a key.
@@ -84,26 +86,7 @@ impl Store {
         requires formed { is_formed update.now ≡ true }
         ensures { Tells result (clash R.digest_of self.now.resources update.now) }
     {
-        match update {
-            Update::InSync => Ok(()),
-            Update::Put { key, item } => self.check_put(key, item, namer),
-            Update::Delete { .. } => Ok(()),
-        }
-    }
-
-    fn check_put<R: DigestRule, F: DigestFunction<R> + Drop>(
-        &self,
-        key: &Key,
-        item: &Item,
-        namer: &Namer<R, F>,
-    ) -> Result<(), CheckFault>
-        requires claims { KeepsClaims R.digest_of self.now }
-        requires formed { is_formed (Update.Put key.now item.now) ≡ true }
-        ensures { Tells result (clash R.digest_of self.now.resources (Update.Put key.now item.now)) }
-    {
-        let old = claims_at(self.alloc, &self.resources, key, namer)?;
-        let new = claims_of(self.alloc, &self.resources.node, key, item, namer)?;
-        check_claims(self.alloc, &self.registry, &old, &new)?;
+        self.checked_claims(update, namer)?;
         Ok(())
     }
 
@@ -119,35 +102,57 @@ impl Store {
         ensures made { OnOk result (self.new.resources ≡ after self.old.resources update) }
         ensures claims { OnOk result (KeepsClaims R.digest_of self.new) }
     {
-        self.swap_claims(&update, namer)?;
-        self.resources.apply(update)?;
+        let change = self.change_of(&update, namer)?;
+        self.apply_with::<R>(update, &change)?;
         Ok(())
     }
 
-    // Puts an update's claims in place of those of what stands at its key.
-    fn swap_claims<R: DigestRule, F: DigestFunction<R> + Drop>(
+    /// Whether updates that are made together clash in the end: the first such name, and who holds it. What would stand between them
+    /// isn't tested.
+    pub fn check_all<R: DigestRule, F: DigestFunction<R> + Drop>(
+        &self,
+        updates: &[Update],
+        namer: &Namer<R, F>,
+    ) -> Result<(), CheckFault>
+        requires claims { KeepsClaims R.digest_of self.now }
+        requires formed { list_all is_formed updates.now ≡ true }
+        ensures { Tells result (clash_all R.digest_of self.now.resources updates.now) }
+    {
+        let keys = touched_keys(self.alloc, updates)?;
+        let records = last_records(self.alloc, updates)?;
+        let old = claims_at_all(self.alloc, &self.resources, &keys, namer)?;
+        let new = claims_of_all(self.alloc, &self.resources.node, &keys, &records, namer)?;
+        check_claims(self.alloc, &self.registry, &old, &new)?;
+        Ok(())
+    }
+
+    /// Makes updates that don't clash in the end.
+    pub fn apply_all<R: DigestRule, F: DigestFunction<R> + Drop>(
         &mut self,
-        update: &Update,
+        updates: &[Update],
         namer: &Namer<R, F>,
     ) -> Result<(), Memory>
         requires claims { KeepsClaims R.digest_of self.old }
-        requires free { clash R.digest_of self.old.resources update.now ≡ None }
-        requires formed { is_formed update.now ≡ true }
-        ensures resources { self.new.resources ≡ self.old.resources }
-        ensures claims { OnOk result (HoldsClaims self.new.registry
-            (all_claims R.digest_of (after self.old.resources update.now))) }
+        requires free { clash_all R.digest_of self.old.resources updates.now ≡ None }
+        requires formed { list_all is_formed updates.now ≡ true }
+        ensures made { OnOk result (self.new.resources ≡ after_all self.old.resources updates.now) }
+        ensures claims { OnOk result (KeepsClaims R.digest_of self.new) }
     {
-        match update {
-            Update::InSync => {}
-            Update::Put { key, item } => {
-                let old = claims_at(self.alloc, &self.resources, key, namer)?;
-                let new = claims_of(self.alloc, &self.resources.node, key, item, namer)?;
-                self.registry.swap(&old, &new)?;
-            }
-            Update::Delete { key } => {
-                let old = claims_at(self.alloc, &self.resources, key, namer)?;
-                self.registry.swap(&old, &[])?;
-            }
+        let keys = touched_keys(self.alloc, updates)?;
+        let old = claims_at_all(self.alloc, &self.resources, &keys, namer)?;
+        self.make_all(updates)?;
+        let new = claims_at_all(self.alloc, &self.resources, &keys, namer)?;
+        self.registry.swap(&old, &new)?;
+        Ok(())
+    }
+
+    // The claims stay as they are.
+    fn make_all(&mut self, updates: &[Update]) -> Result<(), Memory>
+        ensures made { OnOk result (self.new.resources ≡ after_all self.old.resources updates.now) }
+        ensures claims { OnOk result (self.new.registry ≡ self.old.registry) }
+    {
+        for update in updates {
+            self.resources.apply(update.clone()?)?;
         }
         Ok(())
     }

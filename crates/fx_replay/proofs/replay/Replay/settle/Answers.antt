@@ -1,10 +1,11 @@
 use Rattle.fx_base.specs.Ticks.{IsTicked}
 use Rattle.fx_base.proofs.TickLemmas.{IsTicked-none}
+use Rattle.fx_model.specs.Batches.{clash_all}
 use Rattle.fx_model.specs.Claims.{clash}
 use Rattle.fx_replay.specs.Output.{State}
 use Rattle.fx_replay.specs.Standing.{state_of}
 use Rattle.fx_replay.proofs.SendingLemmas.{on_ok_always, on_ok_subst, on_ok_trans}
-use Rattle.fx_replay.proofs.Taking.{quiet-tested, untallied}
+use Rattle.fx_replay.proofs.Taking.{quiet-tested, untallied, untallied_all}
 use Rattle.fx_replay.proofs.replay.Replay.settle.Goals as goal
 
 pub returns-in-Err-clause-writes : goal.returns-in-Err-clause-writes
@@ -27,6 +28,17 @@ returns-in-Ok-Update-clause-tally g c =
     let u = c.in-Ok-Update.update in
     rw (c.in-Ok-Update.is, c.in-Ok-Update.field-0-is) (on_ok_trans c.take.result c.take.new.self.tally was.tally _ c.take.ensures.tally (untallied was.tally s u (clash dg was.agent.resources u)))
 
+pub returns-in-Ok-Batch-clause-writes : goal.returns-in-Ok-Batch-clause-writes
+returns-in-Ok-Batch-clause-writes g c = rw (c.in-Ok-Batch.is, c.in-Ok-Batch.field-0-is) c.take_all.ensures.writes
+
+pub returns-in-Ok-Batch-clause-tally : goal.returns-in-Ok-Batch-clause-tally
+returns-in-Ok-Batch-clause-tally g c =
+    let dg = g.R.DigestRule.digest_of in
+    let was = c.args.self.now in
+    let s : State = state_of dg was.agent was.lines was.refused in
+    let us = c.in-Ok-Batch.updates in
+    rw (c.in-Ok-Batch.is, c.in-Ok-Batch.field-0-is) (on_ok_trans c.take_all.result c.take_all.new.self.tally was.tally _ c.take_all.ensures.tally (untallied_all was.tally s us (clash_all dg was.agent.resources us)))
+
 pub returns-in-Ok-Blank-clause-tests : goal.returns-in-Ok-Blank-clause-tests
 returns-in-Ok-Blank-clause-tests g c = rw (c.in-Ok-Blank.is, c.in-Ok-Blank.field-0-is) (IsTicked-none c.args.self.now.ticks.ticks)
 
@@ -40,6 +52,9 @@ returns-in-Ok-Flush-clause-tests g c =
 
 pub returns-in-Ok-Update-clause-tests : goal.returns-in-Ok-Update-clause-tests
 returns-in-Ok-Update-clause-tests g c = rw (c.in-Ok-Update.is, c.in-Ok-Update.field-0-is) c.take.ensures.tests
+
+pub returns-in-Ok-Batch-clause-tests : goal.returns-in-Ok-Batch-clause-tests
+returns-in-Ok-Batch-clause-tests g c = rw (c.in-Ok-Batch.is, c.in-Ok-Batch.field-0-is) c.take_all.ensures.tests
 
 pub returns-in-Ok-Packet-clause-tests : goal.returns-in-Ok-Packet-clause-tests
 returns-in-Ok-Packet-clause-tests g c =

@@ -1,5 +1,4 @@
-use Rattle.std.proofs.Common.{[], ap, sym, subst}
-use Rattle.fx_names.specs.Holding.{HoldsClaims}
+use Rattle.std.proofs.Common.{ap}
 use Rattle.fx_store.proofs.Stored.{keeps_none}
 use Rattle.fx_store.proofs.store.Store.new.Goals as goal
 
