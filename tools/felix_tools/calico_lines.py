@@ -25,6 +25,11 @@ def endpoint(name, interface, labels=None, node="n1", profiles=(), addresses=("1
     return put("WorkloadEndpoint", {"name": name, "namespace": "a", "labels": labels or {}}, spec)
 
 
+def batch(lines):
+    """The line of a batch of what these lines put."""
+    return b'{"batch":[%s]}\n' % b",".join(line.strip() for line in lines)
+
+
 def served(*lines):
     """The lines of a start, and a flush behind them."""
     return b"".join(lines) + IN_SYNC + FLUSH

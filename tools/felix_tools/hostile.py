@@ -94,7 +94,10 @@ def brackets(draw):
 
 
 def no_line(draw):
-    return draw.choice([b"null", b"7", b'"put"', b"{}", b'{"puts":{}}', b'{"put":7}', b'{"inSync":false}', b'{"flush":{},"tables":true}']), 22
+    return draw.choice([
+        b"null", b"7", b'"put"', b"{}", b'{"puts":{}}', b'{"put":7}', b'{"inSync":false}', b'{"flush":{},"tables":true}',
+        b'{"batch":[{"put":{}},{"inSync":true}]}',
+    ]), 22
 
 
 def unknown_kind(draw):

@@ -1,17 +1,14 @@
 """tools/limits: runs of the program at its limits, one step beyond them, and where there is most to do."""
 import argparse
 import collections
-import os
 import re
-import subprocess
-import sys
 import tempfile
 import time
 
 from felix_tools import calico_lines as made
 from felix_tools import program
+from felix_tools.alone import run_alone
 from felix_tools.options import PlainHelp
-from felix_tools.program import ProgramError
 from felix_tools.reading import InputError
 from felix_tools.start import answered
 
@@ -35,6 +32,7 @@ POLICIES = (1000, 10000)
 PROFILES = (1000, 10000)
 NETS = (100, 1000)
 MEMBERS = (20000, 200000)
+ENDPOINTS = (1000, 10000)
 
 # A run: its name, its input, the node's name, its status, and a pattern for all that it writes.
 Case = collections.namedtuple("Case", "name input node status output")
@@ -168,12 +166,20 @@ def member_cases():
                        r"set-add \S+ hash:net(?: [0-9./]+){%d}\npolicy \S+ gnp/p in 1 out 0\nendpoint .*\nflushed 3\n" % count)
 
 
+def batch_cases():
+    for count in ENDPOINTS:
+        start = made.batch(made.endpoint("w%d" % n, "cali%d" % n) for n in range(count))
+        moved = made.batch(made.endpoint("w%d" % n, "cali%d" % ((n + 1) % count)) for n in range(count))
+        yield accepted("interfaces that change hands in a batch, {:,}".format(count), start + made.IN_SYNC + moved)
+
+
 def many_and(count, line, end):
     return r"(?:%s){%d}endpoint .*\n%s %d\n" % (line, count, end, count + 1)
 
 
 def cases():
-    for some in (line_cases, json_cases, selector_cases, name_cases, policy_cases, profile_cases, net_cases, member_cases):
+    kinds = (line_cases, json_cases, selector_cases, name_cases, policy_cases, profile_cases, net_cases, member_cases, batch_cases)
+    for some in kinds:
         yield from some()
 
 
@@ -207,39 +213,16 @@ def run_all(options):
     return 1 if wrong else 0
 
 
-# Runs a program and tells its end and its memory. What a child is said to have used is never less than what its parent did when it
-# began, so this stands between.
-ALONE = """\
-import os, sys
-child = os.posix_spawn(sys.argv[1], sys.argv[1:], os.environ)
-_, ended, usage = os.wait4(child, 0)
-sys.stderr.write("%d %d" % (ended, usage.ru_maxrss))
-"""
-
-
 def run(path, it):
-    """Runs a case by itself, so that its time and its memory are its own."""
-    if not os.access(path, os.X_OK):
-        raise ProgramError("%s: no program" % path)
+    """Runs a case by itself."""
     with tempfile.TemporaryFile() as given, tempfile.TemporaryFile() as taken:
         given.write(it.input)
         given.seek(0)
         begun = time.monotonic()
-        command = [sys.executable, "-S", "-c", ALONE, path, "--node", it.node]
-        done = subprocess.run(command, stdin=given, stdout=taken, stderr=subprocess.PIPE)
+        ended = run_alone(path, ["--node", it.node], given, taken)
         seconds = time.monotonic() - begun
         taken.seek(0)
-        ended, kilobytes = end_words(path, done)
-        status = os.WEXITSTATUS(ended) if os.WIFEXITED(ended) else -os.WTERMSIG(ended)
-        return Ran(status, taken.read().decode("utf-8", "replace"), seconds, kilobytes / 1024)
-
-
-def end_words(path, done):
-    """How the program ended, and its memory."""
-    words = done.stderr.split()[-2:]
-    if done.returncode or not all(word.isdigit() for word in words):
-        raise ProgramError("%s: %s" % (path, done.stderr.decode("utf-8", "replace").strip().rpartition("\n")[2]))
-    return map(int, words)
+        return Ran(ended.status, taken.read().decode("utf-8", "replace"), seconds, ended.megabytes)
 
 
 def tell(it, ran, most):

@@ -100,6 +100,11 @@ def uplink(text):
     return text
 
 
+def tool_parser(tool, description):
+    """A parser of a tool's words, which tells its use."""
+    return argparse.ArgumentParser(prog=tool, description=description, formatter_class=PlainHelp)
+
+
 class PlainHelp(argparse.RawDescriptionHelpFormatter):
     """Help that keeps the lines of a description, within 100 columns."""
 

@@ -4,7 +4,7 @@ import json
 import sys
 
 STANDARD_INPUT = "-"
-LINE_MEMBERS = ("put", "delete", "inSync", "flush", "tables", "packet")
+LINE_MEMBERS = ("put", "delete", "batch", "inSync", "flush", "tables", "packet")
 
 # A resource to put or to delete, and the file that it stands in.
 Change = collections.namedtuple("Change", "action resource origin")
@@ -76,8 +76,14 @@ def resources_of(value, origin):
 
 
 def line_of(value):
-    (action, resource), = value.items()
-    return [(action, resource)] if action in ("put", "delete") and isinstance(resource, dict) else []
+    (action, held), = value.items()
+    if action == "batch":
+        return [found for element in objects(held) for found in change_of(element)]
+    return change_of(value)
+
+
+def change_of(value):
+    return [change for change in value.items() if change[0] in ("put", "delete") and isinstance(change[1], dict)]
 
 
 def is_list(value):

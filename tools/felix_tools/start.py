@@ -32,8 +32,13 @@ def answered(tool, work, options):
     try:
         return work(options)
     except (InputError, QuestionError, UnknownEnd) as fault:
-        print("%s: %s" % (tool, fault), file=sys.stderr)
+        remark(tool, fault)
         return USAGE
     except ProgramError as fault:
-        print("%s: %s" % (tool, fault), file=sys.stderr)
+        remark(tool, fault)
         return FAILED
+
+
+def remark(tool, text):
+    """Tells on standard error what this tool has to say beside its answer."""
+    print("%s: %s" % (tool, text), file=sys.stderr)

@@ -124,6 +124,10 @@ class Reading(unittest.TestCase):
     def test_a_delete_stays_one(self):
         self.assertEqual(self.resources('{"delete":{"kind":"A"}}'), [("delete", {"kind": "A"})])
 
+    def test_a_batch_is_read_element_by_element(self):
+        wanted = [("put", {"kind": "A"}), ("delete", {"kind": "B"})]
+        self.assertEqual(self.resources('{"batch":[{"put":{"kind":"A"}},{"delete":{"kind":"B"}}]}\n{"batch":[]}\n'), wanted)
+
     def test_what_is_no_json_is_named_with_its_line(self):
         with self.assertRaisesRegex(InputError, "a file: what begins in line 2 isn't JSON"):
             self.resources('{"kind":"A"}\nkind: B\n')
