@@ -1,8 +1,10 @@
 //! An agent that is given lines, and an out that keeps the texts of messages.
 ghost use Rattle.std.specs.Prelude.{◌≡◌, ◌-◌, ◌∷◌, ◌++◌, [], true, ℕ, List, IfOk, OnOk, OnErr};
+ghost use Rattle.std.specs.List.{list_all};
 ghost use Rattle.fx_model.specs.Formed.{is_formed, puts_workload_interface};
 ghost use Rattle.fx_model.specs.Lent.{change_of};
 ghost use Rattle.fx_model.specs.MessageTexts.{message_line};
+ghost use Rattle.fx_model.specs.Steps.{is_change};
 
 use fx_agent::Agent;
 use fx_base::{Counter, Memory, Text};
@@ -89,6 +91,19 @@ pub fn update_in(alloc: Global, line: &[u8]) -> Result<Update, Fail>
     match read_command(alloc, line)? {
         Command::Update(update) => Ok(update),
         _ => Err(Fail::new("no update")),
+    }
+}
+
+/// The batch that a line asks for.
+pub fn batch_in(alloc: Global, line: &str) -> Result<Vec<Update>, Fail>
+    ensures formed { IfOk result (λ updates. list_all is_formed updates.items ≡ true) }
+    ensures changes { IfOk result (λ updates. list_all is_change updates.items ≡ true) }
+    ensures interfaces { IfOk result (λ updates. (node : List ℕ)
+        → list_all (puts_workload_interface node) updates.items ≡ true) }
+{
+    match read_command(alloc, line.as_bytes())? {
+        Command::Batch(updates) => Ok(updates.into_vec()),
+        _ => Err(Fail::new("no batch")),
     }
 }
 

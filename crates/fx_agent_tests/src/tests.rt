@@ -1,8 +1,9 @@
 //! Runs of an agent.
-use crate::bench::{PlainAgent, TextOut, give, new_agent, packet_in, update_in};
+use crate::bench::{PlainAgent, TextOut, batch_in, give, new_agent, packet_in, update_in};
 use crate::lines::{
-    FIRST, FIRST_TOLD, IN_SYNC, OPEN, OPEN_TOLD, PACKET, SECOND, SECOND_GONE, SECOND_GONE_TOLD,
-    SECOND_TOLD, TAKING,
+    EXCHANGE, FIRST, FIRST_MOVED, FIRST_MOVED_TOLD, FIRST_TOLD, HALF_WRONG, IN_SYNC, OPEN,
+    OPEN_TOLD, PACKET, SECOND, SECOND_GONE, SECOND_GONE_TOLD, SECOND_MOVED_TOLD, SECOND_TOLD,
+    TAKING,
 };
 use fx_agent::{PullFault, Pulled, UpdateFault};
 use fx_base::{ChainName, Counter};
@@ -20,6 +21,10 @@ enum Trial {
     FailedWrite,
     /// An update would take the first endpoint's name.
     TakenName,
+    /// The endpoints exchange their interfaces, which neither may alone.
+    Exchange,
+    /// A batch is refused for its last update.
+    RefusedBatch,
     /// Memory runs out in the first pull.
     WantOfMemory,
 }
@@ -102,6 +107,39 @@ fn keeps_its_name(
     pull_all(rt, &[OPEN_TOLD, FIRST_TOLD, SECOND_TOLD], agent, out)
 }
 
+// The endpoints exchange their interfaces, which neither may alone.
+fn exchange(
+    rt: &impl Abort,
+    alloc: Global,
+    agent: &mut PlainAgent,
+    out: &mut TextOut,
+) -> Result<(), Fail> {
+    pull_all(rt, &[OPEN_TOLD, FIRST_TOLD, SECOND_TOLD], agent, out)?;
+    let alone = update_in(alloc, FIRST_MOVED.as_bytes())?;
+    let refused = agent.update(alone, &mut Counter::new());
+    assert!(rt; matches!(&refused, Err(UpdateFault::Taken { .. })));
+    let together = batch_in(alloc, EXCHANGE)?;
+    agent.update_all(together, &mut Counter::new())?;
+    pull_all(rt, &[SECOND_MOVED_TOLD, FIRST_MOVED_TOLD], agent, out)
+}
+
+// A batch is refused for its last update: its first one isn't made either.
+fn refuses_all(
+    rt: &impl Abort,
+    alloc: Global,
+    agent: &mut PlainAgent,
+    out: &mut TextOut,
+) -> Result<(), Fail> {
+    pull_all(rt, &[OPEN_TOLD, FIRST_TOLD, SECOND_TOLD], agent, out)?;
+    let batch = batch_in(alloc, HALF_WRONG)?;
+    let Err(UpdateFault::Taken { holder, .. }) = agent.update_all(batch, &mut Counter::new()) else {
+        return Err(Fail::new("a taken name was given away"));
+    };
+    assert_eq!(rt; holder.bytes(), b"endpoint a/w1".as_slice());
+    assert!(rt; !agent.pending());
+    Ok(())
+}
+
 // Memory runs out in the first pull.
 fn begins_anew(
     rt: &impl Abort,
@@ -116,6 +154,9 @@ fn begins_anew(
     assert_eq!(rt; agent.pull(out), Err(PullFault::NeedsResync));
     let gone = update_in(alloc, SECOND_GONE.as_bytes())?;
     let refused = agent.update(gone, &mut Counter::new());
+    assert!(rt; matches!(&refused, Err(UpdateFault::NeedsResync)));
+    let batch = batch_in(alloc, EXCHANGE)?;
+    let refused = agent.update_all(batch, &mut Counter::new());
     assert!(rt; matches!(&refused, Err(UpdateFault::NeedsResync)));
     is_answered(rt, alloc, agent, Verdict::Deny)
 }
@@ -132,6 +173,8 @@ fn run(
         Trial::OneByOne => comes_and_goes(rt, alloc, agent, out),
         Trial::FailedWrite => is_written_later(rt, agent, out),
         Trial::TakenName => keeps_its_name(rt, alloc, agent, out),
+        Trial::Exchange => exchange(rt, alloc, agent, out),
+        Trial::RefusedBatch => refuses_all(rt, alloc, agent, out),
         Trial::WantOfMemory => begins_anew(rt, alloc, agent, out),
     }
 }
@@ -158,6 +201,16 @@ fn a_message_that_is_not_written_comes_again(rt: HostRuntime) -> Result<(), Fail
 #[test]
 fn a_name_that_is_taken_is_refused(rt: HostRuntime) -> Result<(), Fail> {
     try_out(&rt, rt.alloc(), Trial::TakenName)
+}
+
+#[test]
+fn interfaces_are_exchanged_in_a_batch(rt: HostRuntime) -> Result<(), Fail> {
+    try_out(&rt, rt.alloc(), Trial::Exchange)
+}
+
+#[test]
+fn a_batch_is_refused_whole(rt: HostRuntime) -> Result<(), Fail> {
+    try_out(&rt, rt.alloc(), Trial::RefusedBatch)
 }
 
 #[test]
