@@ -1,0 +1,16 @@
+pub mod PieceLemmas
+pub mod Digits
+pub mod ValueForms
+pub mod Ranges
+pub mod NameLemmas
+pub mod RuleForms
+pub mod RuleReadings
+pub mod Parts
+pub mod NamedRows
+pub mod RowLaws
+pub mod RowReadings
+pub mod Declaring
+pub mod Taking
+pub mod Written
+pub mod WholeRows
+pub mod Filling

@@ -1,0 +1,14 @@
+pub mod Faults
+pub mod Reading
+pub mod Pieces
+pub mod Values
+pub mod NameForms
+pub mod RuleRows
+pub mod MemberRows
+pub mod Rows
+pub mod OwnRows
+pub mod ReadRows
+pub mod Order
+pub mod RuleFaults
+pub mod Headers
+pub mod Found
