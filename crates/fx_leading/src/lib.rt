@@ -1,0 +1,6 @@
+//! Leads tables to others, and writes each operation as it is done.
+#![tactic(auto)]
+
+pub use leading::lead;
+
+mod leading;

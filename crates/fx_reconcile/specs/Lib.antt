@@ -1,0 +1,4 @@
+pub mod Alike
+pub mod Operations
+pub mod Goal
+pub mod Texts
