@@ -1,10 +1,12 @@
-//! Runs each example in memory, by the code that `felix_main` runs, and tells whether its output is the stored one.
+//! Runs each example in memory, by the code that `felix_main` and `restore_main` run, and tells whether its output is
+//! the stored one.
 //!
-//! An example is its words and two files of `data/`: its lines, `NAME.jsonl`, and its output, `NAME.txt`. Beside them stand lines that
-//! are refused, each a row with its refusal and run by itself, `refused-lines.rows`.
+//! An example is its words and two files of `data/`: its lines, `NAME.jsonl`, and its output, `NAME.txt`. Beside them
+//! stand lines that are refused, each a row with its refusal and run by itself, `refused-lines.rows`.
 #![tactic(auto)]
 
 use felix_replay::{Status, felix_replay};
+use felix_restore::felix_restore;
 use fx_base::{MemSink, Memory, SureSource, Text};
 use fx_names::Namer;
 use fx_stdio::Sha256Digest;
@@ -14,30 +16,41 @@ use std::{fs, io};
 
 const NODE: &str = "--node n1";
 
-// The name and the words of each.
-const EXAMPLES: [(&str, &str); 15] = [
-    ("first", NODE),
-    ("packets", NODE),
-    ("rules", NODE),
-    ("policies", NODE),
-    ("tiers", NODE),
-    ("sets", NODE),
-    ("endpoints", NODE),
-    ("kubernetes", NODE),
-    ("kubectl", NODE),
-    ("refusals", NODE),
-    ("delete", NODE),
-    ("portions", NODE),
-    ("batch", NODE),
-    ("cluster", NODE),
-    ("soak", "--node n1 --soak 7 --count 2000"),
+/// The program whose code runs an example.
+#[derive(Clone, Copy)]
+enum Program {
+    Replay,
+    Restore,
+}
+
+// The name, the program and the words of each.
+const EXAMPLES: [(&str, Program, &str); 19] = [
+    ("first", Program::Replay, NODE),
+    ("packets", Program::Replay, NODE),
+    ("rules", Program::Replay, NODE),
+    ("policies", Program::Replay, NODE),
+    ("tiers", Program::Replay, NODE),
+    ("sets", Program::Replay, NODE),
+    ("endpoints", Program::Replay, NODE),
+    ("kubernetes", Program::Replay, NODE),
+    ("kubectl", Program::Replay, NODE),
+    ("refusals", Program::Replay, NODE),
+    ("delete", Program::Replay, NODE),
+    ("portions", Program::Replay, NODE),
+    ("batch", Program::Replay, NODE),
+    ("cluster", Program::Replay, NODE),
+    ("soak", Program::Replay, "--node n1 --soak 7 --count 2000"),
+    ("restart-first", Program::Restore, NODE),
+    ("restart-policy", Program::Restore, NODE),
+    ("restart-nothing", Program::Restore, NODE),
+    ("restart-foreign", Program::Restore, NODE),
 ];
 
 const MOST_WRITTEN: u32 = 1_048_576;
 
 fn main(rt: HostRuntime) -> io::Result<()> {
-    for (name, words) in EXAMPLES {
-        let answer = outcome(&rt, name, words)?;
+    for (name, program, words) in EXAMPLES {
+        let answer = outcome(&rt, name, program, words)?;
         println!(rt; "{name}: {answer}")?;
     }
     match wrong_row(&rt)? {
@@ -48,10 +61,15 @@ fn main(rt: HostRuntime) -> io::Result<()> {
     Ok(())
 }
 
-fn outcome<R: Files + AllocGlobal>(rt: &R, name: &str, words: &str) -> io::Result<&'static str> {
+fn outcome<R: Files + AllocGlobal>(
+    rt: &R,
+    name: &str,
+    program: Program,
+    words: &str,
+) -> io::Result<&'static str> {
     let lines = example_file(rt, name, ".jsonl")?;
     let stored = example_file(rt, name, ".txt")?;
-    let Ok((status, written)) = replayed(rt.alloc(), words, lines) else {
+    let Ok((status, written)) = answered(rt.alloc(), program, words, lines) else {
         return Ok("there is no memory");
     };
     Ok(judged(status, written.as_slice() == stored.as_slice()))
@@ -63,12 +81,20 @@ fn example_file<R: Files + AllocGlobal>(rt: &R, name: &str, ending: &str) -> io:
 }
 
 // The status of a run on these lines, and what it wrote.
-fn replayed(alloc: Global, words: &str, lines: Vec<u8>) -> Result<(Status, Vec<u8>), Memory> {
+fn answered(
+    alloc: Global,
+    program: Program,
+    words: &str,
+    lines: Vec<u8>,
+) -> Result<(Status, Vec<u8>), Memory> {
     let words = split(alloc, words)?;
     let mut source = SureSource::new(lines, 4096);
     let mut sink = MemSink::new(alloc, MOST_WRITTEN, Vec::new(alloc))?;
     let namer = Namer::new(Sha256Digest);
-    let status = felix_replay(alloc, &words, &mut source, &mut sink, namer);
+    let status = match program {
+        Program::Replay => felix_replay(alloc, &words, &mut source, &mut sink, namer),
+        Program::Restore => felix_restore(alloc, &words, &mut source, &mut sink, namer),
+    };
     Ok((status, sink.held().to_vec(alloc)?))
 }
 
@@ -111,7 +137,7 @@ fn first_wrong(alloc: Global, rows: &str) -> Result<Option<usize>, Memory> {
 fn is_answered(alloc: Global, row: &str) -> Result<bool, Memory> {
     let (line, refusal) = row.split_once(" => ").unwrap_or((row, ""));
     let line = Vec::from_slice(alloc, line.as_bytes())?;
-    let (status, mut written) = replayed(alloc, NODE, line)?;
+    let (status, mut written) = answered(alloc, Program::Replay, NODE, line)?;
     written.pop();
     Ok(written.as_slice() == refusal.as_bytes() && status == status_of(refusal))
 }

@@ -135,3 +135,12 @@ asked_with given = asked_on given.node (soak_with given.seed given.count)
 -- what the words ask for, where they are in the grammar
 abbrev pub asked_of : List (List ℕ) → Option Asked
 asked_of words = option_and_then asked_with (given_of words)
+
+-- ---- what is asked of a program that takes a node and nothing else
+
+-- the name behind `--node`, where there are these two words
+abbrev pub node_of : List (List ℕ) → Option (List ℕ)
+node_of [] = None
+node_of (option ∷ []) = None
+node_of (option ∷ node ∷ []) = if bytes_eq option (codes "--node") && is_node_name node then Some node else None
+node_of (option ∷ node ∷ more ∷ words) = None

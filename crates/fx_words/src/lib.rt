@@ -1,8 +1,10 @@
 //! What the words of the command line ask for.
 #![tactic(auto)]
 
+pub use node::read_node;
 pub use words::{Asked, Soak, read_words};
 
+mod node;
 mod numbers;
 mod splitting;
 mod words;

@@ -98,7 +98,8 @@ fn asked_by(alloc: Global, matches: &ArgMatches<'_>) -> Result<Option<Asked>, Me
     Ok(Some(Asked { node, soak }))
 }
 
-fn is_node_name(text: &[u8]) -> bool
+/// Whether it is a node's name: a name whose first byte isn't `-`.
+pub fn is_node_name(text: &[u8]) -> bool
     ensures { result ≡ is_node_name text.now }
 {
     is_name(text) && text[0] != b'-'

@@ -1,6 +1,6 @@
 //! The words of the command line.
 use fx_base::Text;
-use fx_words::read_words;
+use fx_words::{read_node, read_words};
 use std::alloc::Global;
 use std::test::Fail;
 
@@ -121,5 +121,38 @@ fn a_name_has_at_most_253_bytes_of_text(rt: HostRuntime) -> Result<(), Fail> {
     assert_eq!(rt; is_name_read(rt.alloc(), &[b'n'; 253])?, true);
     assert_eq!(rt; is_name_read(rt.alloc(), &[b'n'; 254])?, false);
     assert_eq!(rt; is_name_read(rt.alloc(), &[0xff])?, false);
+    Ok(())
+}
+
+// Lists of words for a program that takes a node and nothing else, and the node that they name.
+const NODE_LISTS: [(&str, Option<&str>); 11] = [
+    ("--node n1", Some("n1")),
+    ("--node node-1.example_x", Some("node-1.example_x")),
+    ("", None),
+    ("--node", None),
+    ("n1", None),
+    ("--node=n1", None),
+    ("--node -x", None),
+    ("--node ", None),
+    ("-node n1", None),
+    ("n1 --node", None),
+    ("--node n1 n2", None),
+];
+
+fn is_node(words: &[Text], want: Option<&str>) -> bool {
+    match (read_node(words), want) {
+        (None, None) => true,
+        (Some(node), Some(name)) => node.bytes() == name.as_bytes(),
+        _ => false,
+    }
+}
+
+#[test]
+fn a_node_alone_is_two_words(rt: HostRuntime) -> Result<(), Fail> {
+    let alloc = rt.alloc();
+    for (list, want) in NODE_LISTS {
+        assert!(rt; is_node(&texts(alloc, list)?, want), "{list}");
+    }
+    assert!(rt; is_node(&[], None));
     Ok(())
 }

@@ -1,0 +1,4 @@
+pub mod ReadingLemmas
+pub mod TakingLemmas
+pub mod SendingLemmas
+pub mod ClosingLemmas

@@ -1,0 +1,10 @@
+pub mod Reading
+pub mod Formed
+pub mod Refusals
+pub mod Finding
+pub mod Output
+pub mod Standing
+pub mod Stepping
+pub mod Restored
+pub mod Top
+pub mod Words
