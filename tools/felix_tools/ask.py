@@ -1,5 +1,4 @@
 """tools/ask: a question about a packet, answered in words."""
-import argparse
 import sys
 
 from felix_tools import program
@@ -7,7 +6,7 @@ from felix_tools.asking import Asking
 from felix_tools.cluster import Cluster, standing_lines
 from felix_tools.conversion import convert
 from felix_tools.matrix import matrix_lines
-from felix_tools.options import PlainHelp, add_program, add_questions, check_questions, wishes
+from felix_tools.options import add_program, add_questions, check_questions, tool_parser, wishes
 from felix_tools.questions import QuestionError, is_outside, name_of, resolve
 from felix_tools.reading import read_changes
 from felix_tools.start import REFUSED, answered
@@ -28,11 +27,11 @@ Status: 0 allowed, 1 denied (of several questions: some is), 2 the question or a
 
 
 def main(words):
-    return answered("tools/ask", answer, parser().parse_args(words))
+    return answered("ask", answer, parser().parse_args(words))
 
 
 def parser():
-    made = argparse.ArgumentParser(prog="tools/ask", description=DESCRIPTION, formatter_class=PlainHelp)
+    made = tool_parser("ask", DESCRIPTION)
     made.add_argument("files", nargs="+", metavar="FILE", help="JSON of kubectl and calicoctl, or lines; `-` is standard input")
     add_questions(made)
     shown = made.add_argument_group("answers")

@@ -38,11 +38,11 @@ Size = collections.namedtuple("Size", "endpoints local policies changes")
 
 
 def main(words):
-    return answered("tools/cluster", write, parser().parse_args(words))
+    return answered("cluster", write, parser().parse_args(words))
 
 
 def parser():
-    parser = tool_parser("tools/cluster", DESCRIPTION)
+    parser = tool_parser("cluster", DESCRIPTION)
     parser.add_argument("endpoints", type=count, metavar="ENDPOINTS", help="how many endpoints there are")
     parser.add_argument("local", type=count, metavar="LOCAL", help="how many of them are of the node n1")
     parser.add_argument("policies", type=count, metavar="POLICIES", help="how many policies there are, and labels `app`")

@@ -142,10 +142,15 @@ def line_text(line):
     return json.dumps({line.action: line.resource}, separators=(",", ":"))
 
 
+def start_of(lines):
+    """The lines of a start: what stands, and that it is all. felix-restore takes no more."""
+    return "".join(text + "\n" for text in [line_text(line) for line in lines] + ['{"inSync":true}'])
+
+
 def input_of(lines, packets=(), with_tables=False):
-    """What the program is given: the lines, that they are all, a flush, and what is asked then."""
-    texts = [line_text(line) for line in lines] + ['{"inSync":true}', '{"flush":{}}']
+    """What felix-replay is given: the lines of a start, a flush, and what is asked then."""
+    texts = ['{"flush":{}}']
     if with_tables:
         texts.append('{"tables":true}')
     texts += [json.dumps({"packet": packet}, separators=(",", ":")) for packet in packets]
-    return "".join(text + "\n" for text in texts)
+    return start_of(lines) + "".join(text + "\n" for text in texts)

@@ -1,11 +1,10 @@
 """tools/diff: which verdicts a change of resources changes, and by which rule."""
-import argparse
 
 from felix_tools import program
 from felix_tools.asking import Asking
 from felix_tools.cluster import Cluster, UnknownEnd, standing_lines
 from felix_tools.conversion import convert
-from felix_tools.options import PlainHelp, add_program, add_questions, check_questions, wishes
+from felix_tools.options import add_program, add_questions, check_questions, tool_parser, wishes
 from felix_tools.questions import QuestionError, name_of, resolve, short_title
 from felix_tools.reading import read_changes
 from felix_tools.start import REFUSED, answered
@@ -26,11 +25,11 @@ Status: 0 no verdict changes, 1 some does, 2 a question or a file can't be read,
 
 
 def main(words):
-    return answered("tools/diff", compare, parser().parse_args(words))
+    return answered("diff", compare, parser().parse_args(words))
 
 
 def parser():
-    made = argparse.ArgumentParser(prog="tools/diff", description=DESCRIPTION, formatter_class=PlainHelp)
+    made = tool_parser("diff", DESCRIPTION)
     made.add_argument("--before", nargs="+", required=True, metavar="FILE", help="the resources as they are")
     made.add_argument("--after", nargs="+", required=True, metavar="FILE", help="the resources as they would be")
     made.add_argument("--reasons", action="store_true", help="tell also where the verdict stays and another rule decides")

@@ -46,11 +46,11 @@ POINTS = (
 
 
 def main(words):
-    return answered("tools/growth", draw_or_measure, parser().parse_args(words))
+    return answered("growth", draw_or_measure, parser().parse_args(words))
 
 
 def parser():
-    made = tool_parser("tools/growth", DESCRIPTION)
+    made = tool_parser("growth", DESCRIPTION)
     made.add_argument("table", nargs="?", metavar="TABLE", help="the table that is drawn; `-` is standard input")
     made.add_argument("--measure", nargs=2, metavar=("PROGRAM", "PLAIN"), help="measures these, and writes the table")
     made.add_argument("--rounds", type=int, default=ROUNDS, metavar="N", help="how often each run is made (%(default)s)")
@@ -115,7 +115,7 @@ def measure(paths, points, rounds):
     """The rows of the table, one by one."""
     with tempfile.TemporaryDirectory() as room:
         for point in points:
-            remark("tools/growth", "{:,} endpoints of other nodes, {:,} policies".format(point.endpoints, point.policies))
+            remark("growth", "{:,} endpoints of other nodes, {:,} policies".format(point.endpoints, point.policies))
             files = [write_cluster(os.path.join(room, str(changes)), point, changes) for changes in (0, point.changes)]
             # The programs take turns, so that both are measured beside the same other work.
             ran = [[[run_one(path, file) for path in paths] for file in files] for _ in range(rounds)]

@@ -1,10 +1,9 @@
 """tools/hostile: long runs of lines that are refused, between lines that aren't."""
-import argparse
 import random
 import re
 
 from felix_tools import program
-from felix_tools.options import PlainHelp
+from felix_tools.options import tool_parser
 from felix_tools.program import ProgramError
 from felix_tools.reading import InputError
 from felix_tools.start import answered
@@ -26,11 +25,11 @@ REFUSED = re.compile(rb"^refused ([0-9]+) ([0-9]+) [^\n]*\n", re.MULTILINE)
 
 
 def main(words):
-    return answered("tools/hostile", try_all, parser().parse_args(words))
+    return answered("hostile", try_all, parser().parse_args(words))
 
 
 def parser():
-    made = argparse.ArgumentParser(prog="tools/hostile", description=DESCRIPTION, formatter_class=PlainHelp)
+    made = tool_parser("hostile", DESCRIPTION)
     made.add_argument("files", nargs="+", metavar="FILE", help="lines for the program, each file for a run of its own")
     made.add_argument("--node", metavar="NAME", default="n1", help="the node's name (%(default)s)")
     made.add_argument("--seed", type=int, metavar="N", default=1, help="what the lines are drawn from (%(default)s)")

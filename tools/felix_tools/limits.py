@@ -1,5 +1,4 @@
 """tools/limits: runs of the program at its limits, one step beyond them, and where there is most to do."""
-import argparse
 import collections
 import re
 import tempfile
@@ -8,9 +7,9 @@ import time
 from felix_tools import calico_lines as made
 from felix_tools import program
 from felix_tools.alone import run_alone
-from felix_tools.options import PlainHelp
+from felix_tools.options import tool_parser
 from felix_tools.reading import InputError
-from felix_tools.start import answered
+from felix_tools.start import answered, remark
 
 DESCRIPTION = """\
 Runs the proved program at each limit and one step beyond it, and where a few resources make much work: once with a tenth
@@ -186,11 +185,11 @@ def cases():
 # ---- runs
 
 def main(words):
-    return answered("tools/limits", run_all, parser().parse_args(words))
+    return answered("limits", run_all, parser().parse_args(words))
 
 
 def parser():
-    parser = argparse.ArgumentParser(prog="tools/limits", description=DESCRIPTION, formatter_class=PlainHelp)
+    parser = tool_parser("limits", DESCRIPTION)
     parser.add_argument("names", nargs="*", metavar="NAME", help="what the names of the cases begin with")
     parser.add_argument("--seconds", type=int, metavar="N", default=60, help="the time that a run may take (%(default)s)")
     parser.add_argument("--list", action="store_true", help="the names of the cases alone")
@@ -209,7 +208,7 @@ def run_all(options):
     print("| run | input | seconds | MB | status |\n|---|---|---|---|---|")
     wrong = [fault for it in chosen for fault in [tell(it, run(path, it), options.seconds)] if fault]
     for fault in wrong:
-        print("tools/limits: %s" % fault, file=sys.stderr)
+        remark("limits", fault)
     return 1 if wrong else 0
 
 

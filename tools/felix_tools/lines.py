@@ -1,11 +1,10 @@
-"""tools/lines: resources as lines for felix-replay."""
-import argparse
+"""tools/lines: resources as lines for felix-replay and felix-restore."""
 import sys
 
-from felix_tools.conversion import convert, input_of
-from felix_tools.options import PlainHelp
+from felix_tools.conversion import convert, input_of, start_of
+from felix_tools.options import tool_parser
 from felix_tools.reading import STANDARD_INPUT, read_changes
-from felix_tools.start import answered
+from felix_tools.start import answered, remark
 
 DESCRIPTION = """\
 Writes what kubectl and calicoctl print as lines for felix-replay, with `inSync` and a flush at the end.
@@ -22,14 +21,16 @@ Status: 0 done, 2 some file or word can't be read."""
 
 
 def main(words):
-    parser = argparse.ArgumentParser(prog="tools/lines", description=DESCRIPTION, formatter_class=PlainHelp)
+    parser = tool_parser("lines", DESCRIPTION)
     parser.add_argument("files", nargs="*", metavar="FILE", default=[STANDARD_INPUT], help="JSON; `-` or none is standard input")
-    return answered("tools/lines", write_lines, parser.parse_args(words))
+    parser.add_argument("--without-flush", action="store_true",
+                        help="without the flush at the end: felix-restore takes none")
+    return answered("lines", write_lines, parser.parse_args(words))
 
 
 def write_lines(options):
     conversion = convert(read_changes(options.files or [STANDARD_INPUT]))
     for text in conversion.left_out.texts(True) + conversion.left_out.texts(False):
-        print("tools/lines: left out %s" % text, file=sys.stderr)
-    sys.stdout.write(input_of(conversion.lines))
+        remark("lines", "left out %s" % text)
+    sys.stdout.write(start_of(conversion.lines) if options.without_flush else input_of(conversion.lines))
     return 0

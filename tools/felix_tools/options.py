@@ -6,6 +6,7 @@ from felix_tools.questions import (
     PORT_PROTOCOLS, SOURCE_PORT, QuestionError, Wish, icmp_traffic, is_number, other_traffic, port_traffic, read_list,
 )
 from felix_tools.reading import read_text
+from felix_tools.version import tool_name, version_text, with_names_here
 
 UPLINK = "eth0"
 
@@ -101,8 +102,11 @@ def uplink(text):
 
 
 def tool_parser(tool, description):
-    """A parser of a tool's words, which tells its use."""
-    return argparse.ArgumentParser(prog=tool, description=description, formatter_class=PlainHelp)
+    """A parser of a tool's words, which tells its use and its version."""
+    name = tool_name(tool)
+    made = argparse.ArgumentParser(prog=name, description=with_names_here(description), formatter_class=PlainHelp)
+    made.add_argument("--version", action="version", version="%s %s" % (name, version_text()))
+    return made
 
 
 class PlainHelp(argparse.RawDescriptionHelpFormatter):

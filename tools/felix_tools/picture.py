@@ -1,10 +1,9 @@
 """tools/picture: chains and a packet's way through them, as a graph for Graphviz."""
-import argparse
 import html
 import sys
 
 from felix_tools.answers import Answers
-from felix_tools.options import PlainHelp
+from felix_tools.options import tool_parser
 from felix_tools.reading import STANDARD_INPUT, InputError, read_text
 from felix_tools.rule_words import LEGEND, rule_words, target
 from felix_tools.start import answered
@@ -42,7 +41,7 @@ GRAPH = [
 
 
 def main(words):
-    return answered("tools/picture", draw, parser().parse_args(words))
+    return answered("picture", draw, parser().parse_args(words))
 
 
 def draw(options):
@@ -54,7 +53,7 @@ def draw(options):
 
 
 def parser():
-    made = argparse.ArgumentParser(prog="tools/picture", description=DESCRIPTION, formatter_class=PlainHelp)
+    made = tool_parser("picture", DESCRIPTION)
     made.add_argument("file", nargs="?", metavar="FILE", default=STANDARD_INPUT, help="what felix-replay wrote; none is standard input")
     made.add_argument("--all", action="store_true", help="every chain, on the way or not")
     made.add_argument("--near", action="store_true", help="also those that the way's chains lead to, without their rules")

@@ -1,12 +1,17 @@
-"""Finds the proved program, and runs it."""
+"""Finds the proved programs, and runs felix-replay."""
+import collections
 import os
 import subprocess
 import sys
 
+from felix_tools.version import is_installed
+
 TOP = os.path.dirname(os.path.dirname(os.path.dirname(os.path.abspath(__file__))))
-BUILT = os.path.join(TOP, "crates", "felix_main", "out", "felix_main")
-LAUNCHER = os.path.join(TOP, "felix-replay")
-VARIABLE = "FELIX_REPLAY"
+# A program, the crate that it is built as, and the environment's variable that names another one.
+Program = collections.namedtuple("Program", "name crate variable")
+REPLAY = Program("felix-replay", "felix_main", "FELIX_REPLAY")
+RESTORE = Program("felix-restore", "restore_main", "FELIX_RESTORE")
+PROGRAMS = (REPLAY, RESTORE)
 ENDINGS = {
     2: "it didn't take the words that it was given; is a node's name an odd one?",
     3: "a read failed",
@@ -16,7 +21,7 @@ ENDINGS = {
     70: "it isn't built, since some proof failed or `rt` isn't there",
 }
 WAIT_WORD = ("The proved program isn't built from these sources yet. ./felix-replay proves and builds it now, which takes up to an "
-             "hour on four processors; another one is asked by --program PATH or %s=PATH." % VARIABLE)
+             "hour on four processors; another one is asked by --program PATH or %s=PATH." % REPLAY.variable)
 
 
 class ProgramError(Exception):
@@ -24,30 +29,40 @@ class ProgramError(Exception):
 
 
 def find(path=None):
-    """The program's path: the one that is given, the environment's, the built one, or its launcher."""
-    given = path or os.environ.get(VARIABLE)
-    if given:
-        return given
-    if is_built():
-        return BUILT
+    """The path of felix-replay: the one that is given, the environment's, the built one, or its launcher."""
+    found = path_if_built(REPLAY, path)
+    if found:
+        return found
     print(WAIT_WORD, file=sys.stderr)
-    return LAUNCHER
+    return os.path.join(TOP, REPLAY.name)
 
 
-def find_built(path=None):
+def find_built(path=None, program=REPLAY):
     """As `find`, but never the launcher: whoever measures a run, or what it asks for, wants the program by itself."""
-    found = path or os.environ.get(VARIABLE) or (BUILT if is_built() else None)
+    found = path_if_built(program, path)
     if not found:
-        raise ProgramError("the program isn't built from these sources: ./felix-replay proves and builds it")
+        raise ProgramError("the program isn't built from these sources: ./%s proves and builds it" % program.name)
     return found
 
 
-def is_built():
-    """Whether the built program is there, and none of its sources is newer: what ./felix-replay asks, too."""
-    if not os.access(BUILT, os.X_OK):
+def path_if_built(program, path=None):
+    return path or os.environ.get(program.variable) or (built_path(program) if is_built(program) else None)
+
+
+def built_path(program):
+    """Where the program stands once it is built, or where it is installed."""
+    if is_installed():
+        return os.path.join(os.path.dirname(TOP), "bin", program.name)
+    return os.path.join(TOP, "crates", program.crate, "out", program.crate)
+
+
+def is_built(program=REPLAY):
+    """Whether the built program is there, and none of its sources is newer: what its launcher asks, too."""
+    path = built_path(program)
+    if not os.access(path, os.X_OK):
         return False
-    built = os.path.getmtime(BUILT)
-    return all(os.path.getmtime(source) <= built for source in sources())
+    built = os.path.getmtime(path)
+    return is_installed() or all(os.path.getmtime(source) <= built for source in sources())
 
 
 def sources():

@@ -30,16 +30,19 @@ def read_file(path):
 
 def read_text(path):
     try:
-        if path == STANDARD_INPUT:
-            data = sys.stdin.buffer.read()
-        else:
-            with open(path, "rb") as file:
-                data = file.read()
-        return data.decode("utf-8-sig")
-    except OSError as fault:
-        raise InputError("%s: %s" % (path, fault.strerror))
+        return read_bytes(path).decode("utf-8-sig")
     except UnicodeDecodeError:
         raise InputError("%s: not a text in UTF-8" % path)
+
+
+def read_bytes(path):
+    try:
+        if path == STANDARD_INPUT:
+            return sys.stdin.buffer.read()
+        with open(path, "rb") as file:
+            return file.read()
+    except OSError as fault:
+        raise InputError("%s: %s" % (path, fault.strerror))
 
 
 def documents(text, origin):

@@ -11,7 +11,7 @@ import subprocess
 import tempfile
 
 from felix_tools import program
-from felix_tools.options import PlainHelp
+from felix_tools.options import tool_parser
 from felix_tools.program import ProgramError
 from felix_tools.reading import InputError
 from felix_tools.start import answered
@@ -48,11 +48,11 @@ Sweep = collections.namedtuple("Sweep", "lines_written faults")
 
 
 def main(words):
-    return answered("tools/refuse-memory", refuse, parser().parse_args(words))
+    return answered("refuse-memory", refuse, parser().parse_args(words))
 
 
 def parser():
-    made = argparse.ArgumentParser(prog="tools/refuse-memory", description=DESCRIPTION, formatter_class=PlainHelp)
+    made = tool_parser("refuse-memory", DESCRIPTION)
     made.add_argument("inputs", nargs="*", metavar="FILE", help="lines for the program")
     made.add_argument("--node", metavar="NAME", default="n1", help="the node's name (%(default)s)")
     made.add_argument("--soak", type=number, metavar="SEED", help="a soak run, in the place of an input")

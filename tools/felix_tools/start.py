@@ -6,6 +6,7 @@ from felix_tools.cluster import UnknownEnd
 from felix_tools.program import ProgramError
 from felix_tools.questions import QuestionError
 from felix_tools.reading import InputError
+from felix_tools.version import tool_name
 
 USAGE = 2
 REFUSED = 3
@@ -41,4 +42,4 @@ def answered(tool, work, options):
 
 def remark(tool, text):
     """Tells on standard error what this tool has to say beside its answer."""
-    print("%s: %s" % (tool, text), file=sys.stderr)
+    print("%s: %s" % (tool_name(tool), text), file=sys.stderr)

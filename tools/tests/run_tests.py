@@ -12,7 +12,8 @@ import unittest
 TESTS = os.path.dirname(os.path.abspath(__file__))
 TOOLS = os.path.dirname(TESTS)
 sys.path.insert(0, TOOLS)
-from felix_tools import program  # noqa: E402 (the folder is on the path from here on)
+import kernel  # noqa: E402 (the folder is on the path from here on)
+from felix_tools import program  # noqa: E402
 
 CASES = os.path.join(TESTS, "cases")
 DATA = os.path.join(TESTS, "data")
@@ -23,7 +24,17 @@ def main(words, help_text):
     parser = argparse.ArgumentParser(prog="tools/test", description=help_text, formatter_class=argparse.RawDescriptionHelpFormatter)
     parser.add_argument("--program", metavar="PATH", help="compare with this program's answers")
     parser.add_argument("--record", metavar="PATH", help="keep this program's answers")
+    parser.add_argument("--restore", metavar="PATH", help="compares with this felix-restore's answers, too")
+    parser.add_argument("--kernel", action="store_true", help="tries tables on a real kernel, and runs no other tests")
+    parser.add_argument("--pairs", type=int, metavar="N", default=20,
+                        help="how many pairs --kernel tries with each backend (%(default)s)")
+    parser.add_argument("--seed", type=int, metavar="N", default=1, help="the first pair's seed (%(default)s)")
     options = parser.parse_args(words)
+    for one, path in ((program.REPLAY, options.program), (program.RESTORE, options.restore)):
+        if path:
+            os.environ[one.variable] = os.path.abspath(path)
+    if options.kernel:
+        return kernel.main(options)
     begun = time.time()
     names = sorted(os.listdir(CASES))
     with concurrent.futures.ThreadPoolExecutor(max_workers=4) as pool:
@@ -42,7 +53,7 @@ def program_words(options):
 
 def compared_program(options):
     """The program whose answers are compared with the recorded ones, or None."""
-    return options.program or (program.BUILT if program.is_built() else None)
+    return options.program or (program.built_path(program.REPLAY) if program.is_built() else None)
 
 
 def run_functions():

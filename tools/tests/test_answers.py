@@ -172,7 +172,7 @@ class Ends(unittest.TestCase):
 
 class FindProgram(unittest.TestCase):
     def test_the_order(self):
-        with mock.patch.dict(os.environ, {program.VARIABLE: "/from/environment"}):
+        with mock.patch.dict(os.environ, {program.REPLAY.variable: "/from/environment"}):
             self.assertEqual(program.find("/given"), "/given")
             self.assertEqual(program.find(), "/from/environment")
 

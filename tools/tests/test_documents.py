@@ -5,6 +5,8 @@ import subprocess
 import sys
 import unittest
 
+from felix_tools.version import VERSION
+
 TOP = os.path.dirname(os.path.dirname(os.path.dirname(os.path.abspath(__file__))))
 MOST_WORDS = 1300
 
@@ -36,6 +38,23 @@ class Documents(unittest.TestCase):
             for link in re.findall(r"\]\(([^)#]+)(?:#[^)]*)?\)", text_of(page)):
                 path = os.path.join(TOP, os.path.dirname(page), link)
                 self.assertTrue(os.path.exists(path), "%s links to %s" % (page, link))
+
+    def test_the_man_page_names_each_word_status_and_fault(self):
+        page = text_of("docs", "felix-replay.1").replace("\\-", "-")
+        lines, _, rest = text_of("docs", "INPUT.md").partition("## Resources\n")
+        members = re.findall(r"^\| `(\w+)` \|", lines, re.MULTILINE)
+        # From 40 on they are of felix-restore.
+        faults = re.findall(r"^\| ([12]?\d|3\d) \| `(\w+)` \|", rest, re.MULTILINE)
+        answers, _, statuses = text_of("docs", "OUTPUT.md").partition("## Exit statuses")
+        cells = re.findall(r"^\| (`.*?`) \|", answers.partition("A reason is")[0], re.MULTILINE)
+        words = re.findall(r"`([a-z*][a-z-]+) ?[^`]*`", "".join(cells))
+        ends = ["\n.B %s\n" % status for status in re.findall(r"^\| (\d) \|", statuses, re.MULTILINE)]
+        told = members + ["%s %s" % fault for fault in faults] + words + ends
+        self.assertEqual([word for word in told if word not in page], [])
+        self.assertGreater(min(map(len, (members, faults, words))), 5)
+
+    def test_the_man_page_has_the_version(self):
+        self.assertIn('"felix %s"' % VERSION, text_of("docs", "felix-replay.1").split("\n")[0])
 
     def test_definitions_that_are_cited_are_there(self):
         check = [sys.executable, os.path.join(TOP, ".ci", "definitions")]

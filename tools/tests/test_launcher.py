@@ -1,4 +1,5 @@
-"""What ./felix-replay does before the program is there, over a stand-in for `rt`."""
+"""What the launchers do before their programs are there, over a stand-in for `rt`. They share their code, so most is
+tried with one of them."""
 import os
 import shutil
 import signal
@@ -9,7 +10,11 @@ import unittest
 
 TESTS = os.path.dirname(os.path.abspath(__file__))
 TOP = os.path.dirname(os.path.dirname(TESTS))
-LISTED = "fx_low: serde_json\nfx_kept: fx_low\nfx_beside: fx_low\nfelix_main: fx_kept fx_low\n"
+LAUNCHERS = ("felix-replay", "felix-restore")
+LISTED = (
+    "fx_low: serde_json\nfx_kept: fx_low\nfx_beside: fx_low\n"
+    "felix_main: fx_kept fx_low\nrestore_main: fx_beside\n"
+)
 FILES = {
     "HANDLES": "Handles allowed: none.\n",
     "crates.txt": LISTED,
@@ -21,6 +26,7 @@ FILES = {
     "crates/fx_beside/src/lib.rt": "",
     "crates/felix_main/src/main.rt": "",
     "crates/felix_main/args": "--node\nn1\n",
+    "crates/restore_main/src/main.rt": "",
 }
 COPIED = "HANDLES crates.txt crates/felix_main/args crates/felix_main/src/main.rt crates/fx_kept/src/lib.rt crates/fx_low/specs/Lib.antt crates/fx_low/src/lib.rt"
 # What the launcher calls beside `rt`.
@@ -37,10 +43,11 @@ class Launcher(unittest.TestCase):
     def setUp(self):
         self.room = tempfile.mkdtemp()
         self.addCleanup(shutil.rmtree, self.room)
-        for folder in ("bin", "fake", "temporary"):
+        for folder in ("bin", "fake", "temporary", "tools"):
             os.mkdir(self.path(folder))
         shutil.copy(os.path.join(TESTS, "fake_rt"), self.path("bin", "rt"))
-        shutil.copy(os.path.join(TOP, "felix-replay"), self.path("felix-replay"))
+        for file in LAUNCHERS + ("tools/launcher.bash",):
+            shutil.copy(os.path.join(TOP, file), self.path(file))
         for file, text in FILES.items():
             write(self.path(file), text)
             os.utime(self.path(file), (1e9, 1e9))
@@ -50,13 +57,14 @@ class Launcher(unittest.TestCase):
     def path(self, *names):
         return os.path.join(self.room, *names)
 
-    def begin(self, *words):
-        how = {"stdin": subprocess.DEVNULL, "stdout": subprocess.PIPE, "stderr": subprocess.PIPE, "universal_newlines": True}
-        return subprocess.Popen([self.path("felix-replay")] + list(words), env=self.environment, start_new_session=True, **how)
+    def begin(self, *words, launcher="felix-replay"):
+        how = {"stdin": subprocess.DEVNULL, "stdout": subprocess.PIPE, "stderr": subprocess.PIPE}
+        how.update(env=self.environment, start_new_session=True, universal_newlines=True)
+        return subprocess.Popen([self.path(launcher)] + list(words), **how)
 
-    def run_it(self, *words):
+    def run_it(self, *words, launcher="felix-replay"):
         """What it writes, what it tells, and its status."""
-        begun = self.begin(*words)
+        begun = self.begin(*words, launcher=launcher)
         written, told = begun.communicate()
         return written, told, begun.returncode
 
@@ -138,6 +146,26 @@ class Launcher(unittest.TestCase):
         usage = "usage: felix-replay --node NAME [--soak SEED --count N]\n"
         for words in ([], ["--node"], ["--node", "-"], ["--node", "n1", "--soak", "1"], ["--node", "n1", "--soak", "01", "--count", "1"]):
             self.assertEqual(self.run_it(*words), (usage, "", 2), words)
+        self.assertEqual(self.calls(), [])
+
+    def test_each_launcher_proves_its_own_program(self):
+        written, told, status = self.run_it("--node", "n1", launcher="felix-restore")
+        self.assertEqual((written, status), ("answered --node n1\n", 1))
+        self.assertIn("felix-restore: proving and building the program from 3 crates\n", told)
+        for name in ("fx_low", "fx_beside", "restore_main"):
+            self.assertRegex(told, "felix-restore: %s proved, [123] of 3, 0 min\n" % name)
+        self.assertEqual(sorted(os.listdir(self.path("crates/felix_main"))), ["args", "src"])
+
+    def test_a_launcher_is_found_through_a_link(self):
+        os.mkdir(self.path("elsewhere"))
+        os.symlink(self.path("felix-restore"), self.path("elsewhere", "restore"))
+        self.assertEqual(self.run_it("--node", "n1", launcher="elsewhere/restore")[2], 1)
+
+    def test_a_node_alone_is_two_words(self):
+        usage = "usage: felix-restore --node NAME\n"
+        soak = ["--node", "n1", "--soak", "1"]
+        for words in ([], ["--node"], ["--node=n1"], ["--node", "-x"], soak, ["n1", "--node"], ["--node", "n1\n"]):
+            self.assertEqual(self.run_it(*words, launcher="felix-restore"), (usage, "", 2), words)
         self.assertEqual(self.calls(), [])
 
     def test_a_run_that_is_broken_off_ends_what_it_began(self):

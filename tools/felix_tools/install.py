@@ -1,0 +1,108 @@
+"""tools/install: the built programs, the tools and a man page under a folder."""
+import os
+import shutil
+import subprocess
+
+from felix_tools import program
+from felix_tools.options import tool_parser
+from felix_tools.reading import InputError
+from felix_tools.start import answered
+from felix_tools.version import INSTALLED, VERSION
+
+DESCRIPTION = """\
+Copies the built programs, the tools and a man page under a folder, and tells each file.
+
+  tools/install /usr/local
+  tools/install package/usr
+
+Programs go to PREFIX/bin under their names, and the tools as felix-ask, felix-lines and so on; what they are made of
+goes to PREFIX/lib/felix, and the man page felix-replay(1) to PREFIX/share/man. No file names the folder, so it may be
+moved. Nothing is copied unless each program is built from the sources that stand here. `felix-ask --version` says which
+they are.
+
+Status: 0 done, 2 a file can't be written, 4 some program isn't built."""
+
+TOOLS = ("apply", "ask", "cluster", "diff", "found", "growth", "hostile", "limits", "lines", "picture", "refuse-memory")
+MODULES = os.path.dirname(os.path.abspath(__file__))
+SCRIPTS = os.path.dirname(MODULES)
+
+
+def main(words):
+    made = tool_parser("install", DESCRIPTION)
+    made.add_argument("prefix", metavar="PREFIX", help="the folder; it is made where it isn't there")
+    return answered("install", install, made.parse_args(words))
+
+
+def install(options):
+    paths = [(one.name, built(one)) for one in program.PROGRAMS if is_of_these_sources(one)]
+    version = version_of_sources()
+    try:
+        for name, path in paths:
+            copy(path, os.path.join(options.prefix, "bin", name), 0o755)
+        install_tools(options.prefix, version)
+        page = os.path.join(program.TOP, "docs", "felix-replay.1")
+        copy(page, os.path.join(options.prefix, "share", "man", "man1", "felix-replay.1"), 0o644)
+    except OSError as fault:
+        raise InputError("%s: %s" % (fault.filename or options.prefix, fault.strerror))
+    print("version %s" % version)
+    return 0
+
+
+def is_of_these_sources(one):
+    return os.path.isdir(os.path.join(program.TOP, "crates", one.crate))
+
+
+def built(one):
+    if not program.is_built(one):
+        raise program.ProgramError("{0} isn't built from these sources: ./{0} proves and builds it".format(one.name))
+    return program.built_path(one)
+
+
+def version_of_sources():
+    """The version, and the commit that stands here, if git tells one."""
+    try:
+        asked = ["git", "-C", program.TOP, "describe", "--always", "--dirty", "--abbrev=12", "--exclude=*"]
+        done = subprocess.run(asked, stdout=subprocess.PIPE, stderr=subprocess.DEVNULL, universal_newlines=True)
+    except OSError:
+        return VERSION
+    return "%s (commit %s)" % (VERSION, done.stdout.strip()) if done.returncode == 0 else VERSION
+
+
+def install_tools(prefix, version):
+    folder = os.path.join(prefix, "lib", "felix")
+    modules = os.path.join(folder, os.path.basename(MODULES))
+    for name in sorted(os.listdir(MODULES)):
+        if name.endswith((".py", ".c")):
+            copy(os.path.join(MODULES, name), os.path.join(modules, name), 0o644)
+    write(os.path.join(modules, os.path.basename(INSTALLED)), version + "\n")
+    for name in TOOLS:
+        copy(os.path.join(SCRIPTS, name), os.path.join(folder, name), 0o755)
+        link(os.path.join("..", "lib", "felix", name), os.path.join(prefix, "bin", "felix-" + name))
+
+
+# ---- files, each of which is whole at every moment, also where another stood
+
+def copy(source, target, mode):
+    os.makedirs(os.path.dirname(target), exist_ok=True)
+    shutil.copyfile(source, target + ".new")
+    finish(target, mode)
+
+
+def write(target, text):
+    with open(target + ".new", "w", encoding="utf-8") as file:
+        file.write(text)
+    finish(target, 0o644)
+
+
+def finish(target, mode):
+    os.chmod(target + ".new", mode)
+    os.replace(target + ".new", target)
+    print(target)
+
+
+def link(source, target):
+    if os.path.islink(target + ".new"):
+        os.remove(target + ".new")
+    os.symlink(source, target + ".new")
+    os.replace(target + ".new", target)
+    print(target)
