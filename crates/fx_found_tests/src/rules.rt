@@ -5,10 +5,10 @@ use fx_found::FoundFault;
 use std::alloc::Global;
 use std::test::Fail;
 
-// The bad row of a member, row 2 of its list.
+// The bad row of a member, the third of its list.
 const BAD_MEMBER: Option<FoundFault> = Some(FoundFault::BadRow { row: 2 });
 
-// The bad row of a rule, row 5 of its list.
+// The bad row of a rule, the sixth of its list.
 const BAD_RULE: Option<FoundFault> = Some(FoundFault::BadRow { row: 5 });
 
 const MEMBERS: [(&str, Option<FoundFault>); 22] = [
