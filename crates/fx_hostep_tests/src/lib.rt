@@ -1,0 +1,5 @@
+//! The tests of `fx_hostep`.
+#![tactic(auto)]
+
+#[cfg(test)]
+mod tests;
