@@ -11,7 +11,8 @@ TOP = os.path.dirname(os.path.dirname(os.path.dirname(os.path.abspath(__file__))
 Program = collections.namedtuple("Program", "name crate variable")
 REPLAY = Program("felix-replay", "felix_main", "FELIX_REPLAY")
 RESTORE = Program("felix-restore", "restore_main", "FELIX_RESTORE")
-PROGRAMS = (REPLAY, RESTORE)
+HOST = Program("felix-host", "host_main", "FELIX_HOST")
+PROGRAMS = (REPLAY, RESTORE, HOST)
 ENDINGS = {
     2: "it didn't take the words that it was given; is a node's name an odd one?",
     3: "a read failed",

@@ -10,10 +10,12 @@ import unittest
 
 TESTS = os.path.dirname(os.path.abspath(__file__))
 TOP = os.path.dirname(os.path.dirname(TESTS))
-LAUNCHERS = ("felix-replay", "felix-restore")
+LAUNCHERS = ("felix-replay", "felix-restore", "felix-host")
+# Those that take a node alone, each with its program.
+OF_A_NODE = (("felix-restore", "restore_main"), ("felix-host", "host_main"))
 LISTED = (
     "fx_low: serde_json\nfx_kept: fx_low\nfx_beside: fx_low\n"
-    "felix_main: fx_kept fx_low\nrestore_main: fx_beside\n"
+    "felix_main: fx_kept fx_low\nrestore_main: fx_beside\nhost_main: fx_beside\n"
 )
 FILES = {
     "HANDLES": "Handles allowed: none.\n",
@@ -27,6 +29,7 @@ FILES = {
     "crates/felix_main/src/main.rt": "",
     "crates/felix_main/args": "--node\nn1\n",
     "crates/restore_main/src/main.rt": "",
+    "crates/host_main/src/main.rt": "",
 }
 COPIED = "HANDLES crates.txt crates/felix_main/args crates/felix_main/src/main.rt crates/fx_kept/src/lib.rt crates/fx_low/specs/Lib.antt crates/fx_low/src/lib.rt"
 # What the launcher calls beside `rt`.
@@ -149,11 +152,12 @@ class Launcher(unittest.TestCase):
         self.assertEqual(self.calls(), [])
 
     def test_each_launcher_proves_its_own_program(self):
-        written, told, status = self.run_it("--node", "n1", launcher="felix-restore")
-        self.assertEqual((written, status), ("answered --node n1\n", 1))
-        self.assertIn("felix-restore: proving and building the program from 3 crates\n", told)
-        for name in ("fx_low", "fx_beside", "restore_main"):
-            self.assertRegex(told, "felix-restore: %s proved, [123] of 3, 0 min\n" % name)
+        for launcher, main in OF_A_NODE:
+            written, told, status = self.run_it("--node", "n1", launcher=launcher)
+            self.assertEqual((written, status), ("answered --node n1\n", 1))
+            self.assertIn("%s: proving and building the program from 3 crates\n" % launcher, told)
+            for name in ("fx_low", "fx_beside", main):
+                self.assertRegex(told, "%s: %s proved, [123] of 3, 0 min\n" % (launcher, name))
         self.assertEqual(sorted(os.listdir(self.path("crates/felix_main"))), ["args", "src"])
 
     def test_a_launcher_is_found_through_a_link(self):
@@ -162,10 +166,11 @@ class Launcher(unittest.TestCase):
         self.assertEqual(self.run_it("--node", "n1", launcher="elsewhere/restore")[2], 1)
 
     def test_a_node_alone_is_two_words(self):
-        usage = "usage: felix-restore --node NAME\n"
         soak = ["--node", "n1", "--soak", "1"]
-        for words in ([], ["--node"], ["--node=n1"], ["--node", "-x"], soak, ["n1", "--node"], ["--node", "n1\n"]):
-            self.assertEqual(self.run_it(*words, launcher="felix-restore"), (usage, "", 2), words)
+        for launcher, _ in OF_A_NODE:
+            usage = "usage: %s --node NAME\n" % launcher
+            for words in ([], ["--node"], ["--node=n1"], ["--node", "-x"], soak, ["n1", "--node"], ["--node", "n1\n"]):
+                self.assertEqual(self.run_it(*words, launcher=launcher), (usage, "", 2), words)
         self.assertEqual(self.calls(), [])
 
     def test_a_run_that_is_broken_off_ends_what_it_began(self):

@@ -1,10 +1,10 @@
-//! Runs each example in memory, by the code that `felix_main` and `restore_main` run, and tells whether its output is
-//! the stored one.
+//! Runs each example in memory, by the code that its program runs, and tells whether its output is the stored one.
 //!
 //! An example is its words and two files of `data/`: its lines, `NAME.jsonl`, and its output, `NAME.txt`. Beside them
 //! stand lines that are refused, each a row with its refusal and run by itself, `refused-lines.rows`.
 #![tactic(auto)]
 
+use felix_host::felix_host;
 use felix_replay::{Status, felix_replay};
 use felix_restore::felix_restore;
 use fx_base::{MemSink, Memory, SureSource, Text};
@@ -21,10 +21,11 @@ const NODE: &str = "--node n1";
 enum Program {
     Replay,
     Restore,
+    Host,
 }
 
 // The name, the program and the words of each.
-const EXAMPLES: [(&str, Program, &str); 19] = [
+const EXAMPLES: [(&str, Program, &str); 23] = [
     ("first", Program::Replay, NODE),
     ("packets", Program::Replay, NODE),
     ("rules", Program::Replay, NODE),
@@ -44,6 +45,10 @@ const EXAMPLES: [(&str, Program, &str); 19] = [
     ("restart-policy", Program::Restore, NODE),
     ("restart-nothing", Program::Restore, NODE),
     ("restart-foreign", Program::Restore, NODE),
+    ("host-first", Program::Host, NODE),
+    ("host-delete", Program::Host, NODE),
+    ("host-lockout", Program::Host, NODE),
+    ("host-refusals", Program::Host, NODE),
 ];
 
 const MOST_WRITTEN: u32 = 1_048_576;
@@ -94,6 +99,7 @@ fn answered(
     let status = match program {
         Program::Replay => felix_replay(alloc, &words, &mut source, &mut sink, namer),
         Program::Restore => felix_restore(alloc, &words, &mut source, &mut sink, namer),
+        Program::Host => felix_host(alloc, &words, &mut source, &mut sink, namer),
     };
     Ok((status, sink.held().to_vec(alloc)?))
 }

@@ -1,0 +1,8 @@
+pub mod ReadingLemmas
+pub mod ReadForms
+pub mod TakingLemmas
+pub mod NodeLemmas
+pub mod HostLemmas
+pub mod Served
+pub mod Flushed
+pub mod Policing

@@ -1,0 +1,11 @@
+pub mod Commands
+pub mod Formed
+pub mod PacketLines
+pub mod Output
+pub mod Standing
+pub mod Stepping
+pub mod Taking
+pub mod Flushing
+pub mod Policed
+pub mod Words
+pub mod Top
