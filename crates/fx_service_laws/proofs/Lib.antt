@@ -1,0 +1,10 @@
+pub mod Maps
+pub mod Labels
+pub mod Items
+pub mod Sides
+pub mod Rules
+pub mod Turned
+pub mod Verdicts
+pub mod Kept
+pub mod SoundKept
+pub mod ReadSound

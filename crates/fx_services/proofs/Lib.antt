@@ -1,0 +1,13 @@
+pub mod EmptyValues
+pub mod LowSides
+pub mod AloneSides
+pub mod LowRules
+pub mod LowKubernetes
+pub mod LowResources
+pub mod ServiceTrees
+pub mod RuleLists
+pub mod FormedLowering
+pub mod FormedReading
+pub mod FormedSlices
+pub mod MapsAt
+pub mod PlaceLemmas

@@ -1,0 +1,11 @@
+pub mod Marks
+pub mod SliceFields
+pub mod Slices
+pub mod Services
+pub mod Lowering
+pub mod Lowerable
+pub mod Reading
+pub mod Places
+pub mod Written
+pub mod WrittenVerdict
+pub mod Standing
