@@ -12,7 +12,8 @@ Program = collections.namedtuple("Program", "name crate variable")
 REPLAY = Program("felix-replay", "felix_main", "FELIX_REPLAY")
 RESTORE = Program("felix-restore", "restore_main", "FELIX_RESTORE")
 HOST = Program("felix-host", "host_main", "FELIX_HOST")
-PROGRAMS = (REPLAY, RESTORE, HOST)
+SERVICES = Program("felix-services", "services_main", "FELIX_SERVICES")
+PROGRAMS = (REPLAY, RESTORE, HOST, SERVICES)
 ENDINGS = {
     2: "it didn't take the words that it was given; is a node's name an odd one?",
     3: "a read failed",

@@ -10,12 +10,13 @@ import unittest
 
 TESTS = os.path.dirname(os.path.abspath(__file__))
 TOP = os.path.dirname(os.path.dirname(TESTS))
-LAUNCHERS = ("felix-replay", "felix-restore", "felix-host")
+LAUNCHERS = ("felix-replay", "felix-restore", "felix-host", "felix-services")
 # Those that take a node alone, each with its program.
-OF_A_NODE = (("felix-restore", "restore_main"), ("felix-host", "host_main"))
+OF_A_NODE = (("felix-restore", "restore_main"), ("felix-host", "host_main"), ("felix-services", "services_main"))
 LISTED = (
     "fx_low: serde_json\nfx_kept: fx_low\nfx_beside: fx_low\n"
     "felix_main: fx_kept fx_low\nrestore_main: fx_beside\nhost_main: fx_beside\n"
+    "services_main: fx_beside\n"
 )
 FILES = {
     "HANDLES": "Handles allowed: none.\n",
@@ -30,6 +31,7 @@ FILES = {
     "crates/felix_main/args": "--node\nn1\n",
     "crates/restore_main/src/main.rt": "",
     "crates/host_main/src/main.rt": "",
+    "crates/services_main/src/main.rt": "",
 }
 COPIED = "HANDLES crates.txt crates/felix_main/args crates/felix_main/src/main.rt crates/fx_kept/src/lib.rt crates/fx_low/specs/Lib.antt crates/fx_low/src/lib.rt"
 # What the launcher calls beside `rt`.

@@ -7,6 +7,7 @@
 use felix_host::felix_host;
 use felix_replay::{Status, felix_replay};
 use felix_restore::felix_restore;
+use felix_services::felix_services;
 use fx_base::{MemSink, Memory, SureSource, Text};
 use fx_names::Namer;
 use fx_stdio::Sha256Digest;
@@ -22,10 +23,11 @@ enum Program {
     Replay,
     Restore,
     Host,
+    Services,
 }
 
 // The name, the program and the words of each.
-const EXAMPLES: [(&str, Program, &str); 23] = [
+const EXAMPLES: [(&str, Program, &str); 27] = [
     ("first", Program::Replay, NODE),
     ("packets", Program::Replay, NODE),
     ("rules", Program::Replay, NODE),
@@ -49,6 +51,10 @@ const EXAMPLES: [(&str, Program, &str); 23] = [
     ("host-delete", Program::Host, NODE),
     ("host-lockout", Program::Host, NODE),
     ("host-refusals", Program::Host, NODE),
+    ("services-slices", Program::Services, NODE),
+    ("services-ports", Program::Services, NODE),
+    ("services-kubectl", Program::Services, NODE),
+    ("services-refusals", Program::Services, NODE),
 ];
 
 const MOST_WRITTEN: u32 = 1_048_576;
@@ -100,6 +106,7 @@ fn answered(
         Program::Replay => felix_replay(alloc, &words, &mut source, &mut sink, namer),
         Program::Restore => felix_restore(alloc, &words, &mut source, &mut sink, namer),
         Program::Host => felix_host(alloc, &words, &mut source, &mut sink, namer),
+        Program::Services => felix_services(alloc, &words, &mut source, &mut sink, namer),
     };
     Ok((status, sink.held().to_vec(alloc)?))
 }

@@ -1,0 +1,10 @@
+pub mod ReadingLemmas
+pub mod ReadForms
+pub mod WrittenReads
+pub mod PacketLemmas
+pub mod TakingLemmas
+pub mod PlacesKept
+pub mod Served
+pub mod Flushed
+pub mod Policing
+pub mod Kept

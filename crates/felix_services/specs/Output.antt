@@ -1,0 +1,103 @@
+-- The output of a run over resources whose rules may name services: what each line writes, and what stands between two
+-- lines. It is the output of a replay over the updates that stand for those of the lines, but that a packet's reasons
+-- name rules by their places as they are written. The rules that it follows stand in docs/INPUT.md and docs/OUTPUT.md
+-- of this repository.
+use Rattle.std.specs.Prelude.{ℕ, List, [], Bool, Option, Some, None, Result, Ok, Err}
+use Rattle.std.specs.FinMap as maps
+use Rattle.fx_names.specs.Digests.{Digest}
+use Rattle.fx_names.specs.Claims.{Clash}
+use Rattle.fx_model.specs.declared.resources.Resources.{Resources}
+use Rattle.fx_model.specs.Claims.{clash}
+use Rattle.fx_model.specs.ViewTables.{tables_of}
+use Rattle.fx_fields.specs.declared.refusal.Refusal.{Refusal}
+use Rattle.fx_fields.specs.declared.refusal.Refusal.TheVariants.{Taken}
+use Rattle.fx_lines.specs.declared.commands.Command.TheVariants as replay_command
+use Rattle.fx_replay.specs.Output as replays
+use Rattle.fx_services.specs.declared.lowered.Lowered.{Lowered}
+use Rattle.fx_services.specs.Places.{PlacesByKey}
+use Rattle.felix_services.specs.declared.command.ServicesCommand.{ServicesCommand}
+use Rattle.felix_services.specs.declared.command.ServicesCommand.TheVariants as command
+use Rattle.felix_services.specs.Commands.{command_of}
+use Rattle.felix_services.specs.Noting.{noted_change}
+use Rattle.felix_services.specs.PacketLines.{packet_text}
+
+-- what stands between two lines: the replay of the updates that stand for those of the lines, and the lists of places,
+-- now and as they were at the last flush
+pub record State : Type 0 where
+  pub replay : replays.State
+  pub places : PlacesByKey
+  pub flushed : PlacesByKey
+
+-- before the first line of the node of this name
+abbrev pub start : Digest → List ℕ → State
+start dg node = record { replay = replays.start dg node; places = maps.empty; flushed = maps.empty }
+
+-- ---- what a line says of the resources
+
+-- an update whose claims clash is refused, with the first clash
+abbrev pub unless_taken : Option Clash → ServicesCommand → Result ServicesCommand Refusal
+unless_taken None asked = Ok asked
+unless_taken (Some c) asked = Err (Taken c.name c.holder)
+
+abbrev pub change_answer : Digest → Resources → Lowered → Result ServicesCommand Refusal
+change_answer dg R l = unless_taken (clash dg R l.update) (command.Change l)
+
+abbrev pub checked : Digest → Resources → Result ServicesCommand Refusal → Result ServicesCommand Refusal
+checked dg R (Ok command.Blank) = Ok command.Blank
+checked dg R (Ok command.Tables) = Ok command.Tables
+checked dg R (Ok command.Flush) = Ok command.Flush
+checked dg R (Ok (command.Change l)) = change_answer dg R l
+checked dg R (Ok (command.Packet a)) = Ok (command.Packet a)
+checked dg R (Err r) = Err r
+
+-- the command or the refusal of a line
+abbrev pub answer_of : State → List ℕ → Result ServicesCommand Refusal
+answer_of s line = checked s.replay.digest s.replay.resources (command_of line)
+
+-- ---- what a line does
+
+abbrev pub accepted : State → ServicesCommand → State
+accepted s command.Blank = s
+accepted s command.Tables = s
+accepted s command.Flush =
+    record s { replay = replays.accepted s.replay (replay_command.Flush None); flushed = s.places }
+accepted s (command.Change l) =
+    record s { replay = replays.accepted s.replay (replay_command.Update l.update); places = noted_change s.places l }
+accepted s (command.Packet a) = s
+
+-- what a counted line does; a refused one changes nothing
+abbrev pub settled : State → Result ServicesCommand Refusal → State
+settled s (Ok c) = accepted s c
+settled s (Err r) = record s { replay = replays.settled s.replay (Err r) }
+
+abbrev pub counted : State → State
+counted s = record s { replay = replays.counted s.replay }
+
+abbrev pub after_answer : State → Result ServicesCommand Refusal → State
+after_answer s answer = settled (counted s) answer
+
+abbrev pub next : State → List ℕ → State
+next s line = after_answer s (answer_of s line)
+
+-- ---- what a line writes
+
+abbrev pub command_text : State → ServicesCommand → List ℕ
+command_text s command.Blank = []
+command_text s command.Tables = replays.command_text s.replay replay_command.Tables
+command_text s command.Flush = replays.command_text s.replay (replay_command.Flush None)
+command_text s (command.Change l) = []
+command_text s (command.Packet a) = packet_text (tables_of s.replay.sent) s.flushed a
+
+-- what a counted line writes
+abbrev pub settled_text : State → Result ServicesCommand Refusal → List ℕ
+settled_text s (Ok c) = command_text s c
+settled_text s (Err r) = replays.settled_text s.replay (Err r)
+
+abbrev pub answer_text : State → Result ServicesCommand Refusal → List ℕ
+answer_text s answer = settled_text (counted s) answer
+
+abbrev pub text : State → List ℕ → List ℕ
+text s line = answer_text s (answer_of s line)
+
+abbrev pub was_refused : State → Bool
+was_refused s = s.replay.refused
