@@ -73,5 +73,5 @@ fn failsafe_text(alloc: Global, iface: &Text) -> Result<Text, Memory>
     let mut bytes = Vec::from_slice(alloc, b"reason ")?;
     bytes.extend_from_slice(iface.bytes())?;
     bytes.extend_from_slice(b" failsafe\n")?;
-    Ok(Text::from_vec(bytes))
+    Text::from_vec(bytes)
 }

@@ -82,5 +82,5 @@ fn count_text(alloc: Global, count: u64) -> Result<Text, Memory>
     let mut bytes = Vec::from_slice(alloc, b"restored ")?;
     push_decimal(&mut bytes, count)?;
     bytes.extend_from_slice(b"\n")?;
-    Ok(Text::from_vec(bytes))
+    Text::from_vec(bytes)
 }

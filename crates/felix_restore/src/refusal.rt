@@ -53,7 +53,7 @@ fn row_line(
     bytes.extend_from_slice(name)?;
     push_row(&mut bytes, row)?;
     bytes.extend_from_slice(b"\n")?;
-    Ok(Text::from_vec(bytes))
+    Text::from_vec(bytes)
 }
 
 fn push_row(line: &mut Vec<u8>, row: Option<u32>) -> Result<(), Memory>

@@ -1,21 +1,19 @@
 -- What the entries of a `BTreeMap` and the keys of a `BTreeSet` make, as a finite map and a finite set.
-use Rattle.std.proofs.Common.{◌≡◌, ◌↔◌, ℕ, suc, Bool, true, false, cond, ◌||◌, IsTrue, subst, List, [], ◌∷◌, length, Option, Some, None, is_some, IsSome, Ordering, refl, sym, ap, ◌∙◌, arith}
+use Rattle.std.proofs.Common.{◌≡◌, ◌↔◌, ℕ, Bool, true, false, cond, ◌||◌, IsTrue, subst, List, [], ◌∷◌, length, Option, Some, None, is_some, IsSome, Ordering, refl, sym, ap, ◌∙◌, arith}
 use Rattle.std.specs.declared.cmp.Ordering.TheVariants.{Less, Equal, Greater}
 use Rattle.std.specs.Ordering.{eq_by_cmp, match_ordering}
 use Rattle.std.specs.Cmp.{IsTotalOrder, eq_by_cmp_equiv}
 use Rattle.std.specs.List.{AllByRecursion, AllZip, list_any}
 use Rattle.std.specs.List.Sorted.{IsStrictlySortedBy}
-use Rattle.std.specs.Map.{lookup, keys_of, remove_entry, set_value}
+use Rattle.std.specs.Map.{lookup, keys_of}
 use Rattle.std.specs.BTreeMap.{is_at, insert_entry}
-use Rattle.std.proofs.lemmas.Map.{lookup-remove_entry, lookup-set_value}
 use Rattle.std.specs.FinMap.{FinMap, IsAntisymmetric, find, put, entries, empty, get, contains_key, insert, remove, from_entries, get-from_entries, get-insert, get-remove, same_map, entries-insert, same_entries_map, len, len-entries, len-empty}
 use Rattle.std.specs.FinMap.Entries.{by_order}
-use Rattle.fx_base.specs.Keyed.{keyed}
 use Rattle.fx_base.specs.Set.{Set, marked, from_list, contains, items}
 use Rattle.fx_base.specs.Set as set
 use Rattle.std.proofs.lemmas.List.{length-map}
 use Rattle.std.proofs.lemmas.Map.Entries.{entries_from_clone}
-use Rattle.std.proofs.lemmas.Map.Keys.{sorted_head, sorted_tail, IsDistinct-from_sorted}
+use Rattle.std.proofs.lemmas.Map.Keys.{sorted_head, sorted_tail}
 
 no_length : {A : Type 0} (es : List A) → length es ≡ 0 → es ≡ []
 no_length [] e = refl
@@ -76,6 +74,20 @@ module _ {K X : Type 0} {R : K → K → Ordering} (o : IsTotalOrder R) where
   pub emptied : (es : List (K × X)) (m : FinMap R X) → from_entries es ≡ m → IsStrictlySortedBy R (keys_of es) → (b : Bool) → (IsTrue b ↔ (length es ≡ 0)) → IsTrue b ↔ (entries m ≡ [])
   emptied es m is h b e = (λ t. sym (walked es m is h) ∙ no_length es (e.0 t), λ none. e.1 (ap length (walked es m is h ∙ none)))
 
+  -- an entry at its place among keys in order
+  insert-put : (es : List (K × X)) (k : K) (v : X) → insert_entry R es k v ≡ put R k v es
+  insert-put [] k v = refl
+  insert-put (e ∷ es) k v =
+      elim (R k e.0) as (λ r. match_ordering r ((k, v) ∷ e ∷ es) ((e.0, v) ∷ es) (e ∷ insert_entry R es k v) ≡ by_order r ((k, v) ∷ e ∷ es) ((e.0, v) ∷ es) (e ∷ put R k v es)) [
+        | Less ↦ refl
+        | Equal ↦ refl
+        | Greater ↦ ap (λ xs. e ∷ xs) (insert-put es k v)
+      ]
+
+  pub placed : (es fs : List (K × X)) (m : FinMap R X) → from_entries es ≡ m → IsStrictlySortedBy R (keys_of es) → IsStrictlySortedBy R (keys_of fs) → (k : K) (v : X) → fs ≡ insert_entry R es k v → from_entries fs ≡ insert m k v
+  placed es fs m is h g k v e = same_entries_map _ _ (
+      entries-view fs g ∙ e ∙ insert-put es k v ∙ ap (put R k v) (walked es m is h) ∙ sym (entries-insert o m k v))
+
   module _ (exact : IsAntisymmetric R) where
     pub inserted : (es fs : List (K × X)) (m : FinMap R X) → from_entries es ≡ m → (k : K) (v : X) → ((q : K) → lookup (is_at (R q)) fs ≡ cond (is_at (R k) q) (Some v) (lookup (is_at (R q)) es)) → from_entries fs ≡ insert m k v
     inserted es fs m is k v h = same_map o exact _ _ (λ q.
@@ -131,76 +143,3 @@ module _ {K : Type 0} {R : K → K → Ordering} (o : IsTotalOrder R) where
     pub taken_out : (ks js : List K) (s : Set R) → from_list ks ≡ s → (k : K) → ((q : K) → list_any (is_at (R q)) js ≡ cond (is_at (R k) q) false (list_any (is_at (R q)) ks)) → from_list js ≡ set.remove s k
     taken_out ks js s is k h = removed o exact (marked ks) (marked js) s is k (λ q.
         marked-lookup _ js ∙ ap mark (h q) ∙ turns (is_at (R k) q) false _ ∙ ap (cond (is_at (R k) q) None) (sym (marked-lookup _ ks)))
-
--- ---- maps whose keys are read by f, where each key that f gives has a stored form
-module _ {B K X : Type 0} {R : K → K → Ordering} (o : IsTotalOrder R) (f : B → K) where
-  read-lookup : (q : K) (es : List (B × X)) → lookup (λ b. is_at (R q) (f b)) es ≡ lookup (is_at (R q)) (keyed f es)
-  read-lookup q [] = refl
-  read-lookup q (e ∷ es) = ap (cond (eq_by_cmp R q (f e.0)) (Some e.1)) (read-lookup q es)
-
-  pub read : (es : List (B × X)) (m : FinMap R X) → from_entries (keyed f es) ≡ m → (k : K) (r : Option X) → r ≡ lookup (λ b. is_at (R k) (f b)) es → r ≡ get m k
-  read es m is k r e = got o (keyed f es) m is k r (e ∙ read-lookup k es)
-
-  -- the same by the entries, at keys in order, since a key may have no stored form
-  keyed-insert : (es : List (B × X)) (b : B) (v : X) → keyed f (insert_entry (λ x y. R (f x) (f y)) es b v) ≡ put R (f b) v (keyed f es)
-  keyed-insert [] b v = refl
-  keyed-insert (e ∷ es) b v =
-      elim (R (f b) (f e.0)) as (λ r. keyed f (match_ordering r ((b, v) ∷ e ∷ es) ((e.0, v) ∷ es) (e ∷ insert_entry (λ x y. R (f x) (f y)) es b v)) ≡ by_order r ((f b, v) ∷ keyed f (e ∷ es)) ((f e.0, v) ∷ keyed f es) ((f e.0, e.1) ∷ put R (f b) v (keyed f es))) [
-        | Less ↦ refl
-        | Equal ↦ refl
-        | Greater ↦ ap (λ xs. (f e.0, e.1) ∷ xs) (keyed-insert es b v)
-      ]
-
-  keyed-remove : (test : K → Bool) (es : List (B × X)) → keyed f (remove_entry (λ b. test (f b)) es) ≡ remove_entry test (keyed f es)
-  keyed-remove test [] = refl
-  keyed-remove test (e ∷ es) =
-      elim (test (f e.0)) as (λ b. keyed f (cond b es (e ∷ remove_entry (λ c. test (f c)) es)) ≡ cond b (keyed f es) ((f e.0, e.1) ∷ remove_entry test (keyed f es))) [
-        | true ↦ refl
-        | false ↦ ap (λ xs. (f e.0, e.1) ∷ xs) (keyed-remove test es)
-      ]
-
-  below-keyed : (k : K) (es : List (B × X)) → AllByRecursion (λ b. R k (f b) ≡ Less) (keys_of es) → AllByRecursion (λ y. R k y ≡ Less) (keys_of (keyed f es))
-  below-keyed k [] h = tt
-  below-keyed k (e ∷ es) h = (h.0, below-keyed k es h.1)
-
-  sorted-keyed : (es : List (B × X)) → IsStrictlySortedBy (λ x y. R (f x) (f y)) (keys_of es) → IsStrictlySortedBy R (keys_of (keyed f es))
-  unfolding IsStrictlySortedBy
-  sorted-keyed [] h = tt
-  sorted-keyed (e ∷ es) h = (below-keyed (f e.0) es h.0, sorted-keyed es h.1)
-
-  pub inserted_read : (es fs : List (B × X)) (m : FinMap R X) → from_entries (keyed f es) ≡ m → IsStrictlySortedBy (λ x y. R (f x) (f y)) (keys_of es) → IsStrictlySortedBy (λ x y. R (f x) (f y)) (keys_of fs) → (b : B) (v : X) → fs ≡ insert_entry (λ x y. R (f x) (f y)) es b v → from_entries (keyed f fs) ≡ insert m (f b) v
-  inserted_read es fs m is h g b v e = same_entries_map _ _ (
-      entries-view o (keyed f fs) (sorted-keyed fs g) ∙ ap (keyed f) e ∙ keyed-insert es b v
-      ∙ ap (put R (f b) v) (walked o (keyed f es) m is (sorted-keyed es h)) ∙ sym (entries-insert o m (f b) v))
-
-  keyed-set_value : (test : K → Bool) (es : List (B × X)) (w : X) → keyed f (set_value (λ b. test (f b)) es w) ≡ set_value test (keyed f es) w
-  keyed-set_value test [] w = refl
-  keyed-set_value test (e ∷ es) w =
-      elim (test (f e.0)) as (λ b. keyed f (cond b ((e.0, w) ∷ es) (e ∷ set_value (λ c. test (f c)) es w)) ≡ cond b ((f e.0, w) ∷ keyed f es) ((f e.0, e.1) ∷ set_value test (keyed f es) w)) [
-        | true ↦ refl
-        | false ↦ ap (λ xs. (f e.0, e.1) ∷ xs) (keyed-set_value test es w)
-      ]
-
-  length-keyed : (es : List (B × X)) → length (keyed f es) ≡ length es
-  length-keyed [] = refl
-  length-keyed (e ∷ es) = ap suc (length-keyed es)
-
-  pub missing_read : (es : List (B × X)) (m : FinMap R X) → from_entries (keyed f es) ≡ m → (k : K) → IsSome (get m k) → None ≡ lookup (λ b. is_at (R k) (f b)) es → ⊥
-  missing_read es m is k there e = none_there _ (read es m is k None e) there
-
-  pub counted_read : (es : List (B × X)) (m : FinMap R X) → from_entries (keyed f es) ≡ m → IsStrictlySortedBy (λ x y. R (f x) (f y)) (keys_of es) → (n : ℕ) → n ≡ length es → n ≡ len m
-  counted_read es m is h n e = counted o (keyed f es) m is (sorted-keyed es h) n (e ∙ sym (length-keyed es))
-
-  pub emptied_read : (es : List (B × X)) (m : FinMap R X) → from_entries (keyed f es) ≡ m → IsStrictlySortedBy (λ x y. R (f x) (f y)) (keys_of es) → (b : Bool) → (IsTrue b ↔ (length es ≡ 0)) → IsTrue b ↔ (entries m ≡ [])
-  emptied_read es m is h b e = emptied o (keyed f es) m is (sorted-keyed es h) b (λ t. length-keyed es ∙ e.0 t, λ none. e.1 (sym (length-keyed es) ∙ none))
-
-  -- where the value at a key that is there is exchanged
-  pub swapped_read : IsAntisymmetric R → (es fs : List (B × X)) (m : FinMap R X) → from_entries (keyed f es) ≡ m → (k : K) (v w : X) → Some v ≡ lookup (λ b. is_at (R k) (f b)) es → fs ≡ set_value (λ b. is_at (R k) (f b)) es w → from_entries (keyed f fs) ≡ insert m k w
-  swapped_read exact es fs m is k v w there e = inserted o exact (keyed f es) (keyed f fs) m is k w (λ q.
-      ap (lookup (is_at (R q))) (ap (keyed f) e ∙ keyed-set_value (is_at (R k)) es w)
-      ∙ lookup-set_value (eq_by_cmp_equiv o) (is_at (R k)) (λ x y t. (eq_by_cmp_equiv o).congr k x y t) q w (keyed f es) (some_there _ v (there ∙ read-lookup k es)))
-
-  pub removed_read : IsAntisymmetric R → (es fs : List (B × X)) (m : FinMap R X) → from_entries (keyed f es) ≡ m → IsStrictlySortedBy (λ x y. R (f x) (f y)) (keys_of es) → (k : K) → fs ≡ remove_entry (λ c. is_at (R k) (f c)) es → from_entries (keyed f fs) ≡ remove m k
-  removed_read exact es fs m is h k e = removed o exact (keyed f es) (keyed f fs) m is k (λ q.
-      ap (lookup (is_at (R q))) (ap (keyed f) e ∙ keyed-remove (is_at (R k)) es)
-      ∙ lookup-remove_entry (eq_by_cmp_equiv o) (is_at (R k)) (λ x y t. (eq_by_cmp_equiv o).congr k x y t) q (keyed f es) (IsDistinct-from_sorted R (keys_of (keyed f es)) (sorted-keyed es h)))

@@ -2,8 +2,8 @@ pub mod Extended
 pub mod Addresses
 pub mod Forms
 pub mod Given
+pub mod Held
 pub mod Grouped
-pub mod Keyed
 pub mod KernelName
 pub mod MemSink
 pub mod MemSource

@@ -8,10 +8,11 @@ ghost use Rattle.std.specs.Cmp.Lexicographic.{slice_cmp, pointwise, nat_list_cmp
 use crate::bytes_order::order;
 use crate::exact::Exact;
 use std::cmp::Ordering;
+use std::fmt;
 use std::marker::Model;
 
 /// A name of a kind that has a greatest length. The bytes past `len` are 0.
-#[derive(Clone, Copy, Debug)]
+#[derive(Clone, Copy)]
 pub struct FixedName<const N: usize> {
     held: [u8; N],
     len: u8,
@@ -33,6 +34,19 @@ impl<const N: usize> Model for FixedName<N> {
 }
 
 impl<const N: usize> FixedName<N> {
+    pub fn from_bytes(bytes: &[u8]) -> Self
+        requires counted { N < 256 }
+        requires fits { length bytes.now ≤ N }
+        ensures { result ≡ bytes.now }
+    {
+        let mut held = [0; N];
+        held[..bytes.len()].copy_from_slice(bytes);
+        FixedName {
+            held,
+            len: bytes.len() as u8,
+        }
+    }
+
     pub fn join(prefix: &[u8], rest: &[u8]) -> Self
         requires counted { N < 256 }
         requires fits { length prefix.now + length rest.now ≤ N }
@@ -53,6 +67,13 @@ impl<const N: usize> FixedName<N> {
         ensures short { length self.now ≤ N }
     {
         &self.held[..usize::from(self.len)]
+    }
+}
+
+// As the list of its bytes.
+impl<const N: usize> fmt::Debug for FixedName<N> {
+    fn fmt<W: fmt::Write>(&self, f: &mut fmt::Formatter<W>) -> fmt::Result {
+        f.debug_list().entries(self.bytes()).finish()
     }
 }
 

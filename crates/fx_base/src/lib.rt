@@ -2,7 +2,6 @@
 //! maps and finite sets.
 #![tactic(auto)]
 
-pub use bytes_map::BytesMap;
 pub use chain_name::ChainName;
 pub use counts::{CountSink, Counter, Ticker};
 pub use exact::{Exact, same};
@@ -23,7 +22,6 @@ pub use torn_sink::TornSink;
 pub use uses::Uses;
 
 mod address_text;
-mod bytes_map;
 mod bytes_order;
 mod chain_name;
 mod counts;

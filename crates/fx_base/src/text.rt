@@ -1,56 +1,101 @@
-//! A text on the heap, seen as the list of its bytes.
+//! A text on the heap, which its copies share, seen as the list of its bytes.
 ghost use Rattle.fx_base.specs.Same.{same_bytes};
-ghost use Rattle.std.specs.Prelude.{◌≡◌, ℕ, List, Some, IfOk, nat_eq, refl};
+ghost use Rattle.std.specs.Prelude.{◌≡◌, ◌≤◌, length, ℕ, List, Some, IfOk, nat_eq, refl};
 ghost use Rattle.std.specs.Ordering.{nat_cmp};
 ghost use Rattle.std.specs.Cmp.{partial_equiv_from_equiv};
 ghost use Rattle.std.specs.Cmp.Lexicographic.{slice_cmp, pointwise, nat_list_cmp_total, nat_list_eq_equiv, texts_po, texts_ties};
 
 use crate::bytes_order::order;
 use crate::exact::Exact;
+use crate::fixed_name::FixedName;
 use crate::memory::Memory;
 use std::alloc::{AllocError, Global};
 use std::cmp::Ordering;
+use std::fmt;
 use std::marker::Model;
+use std::rc::Rc;
 
-/// A byte string that may be empty.
-#[derive(Debug, Drop)]
+/// A byte string that may be empty. A copy of it takes no memory.
+#[derive(Drop)]
 pub struct Text {
-    held: Vec<u8>,
+    held: Rc<Bytes>,
+}
+
+// Few bytes lie beside the count of the copies, so that a short text is one block.
+enum Bytes {
+    Few(FixedName<31>),
+    Many(Vec<u8>),
+}
+
+// By hand, so that what drops bytes sees one call, and not a case for each way to hold them.
+impl Drop for Bytes {
+    fn drop(self) {
+        match self {
+            Bytes::Few(_) => {}
+            Bytes::Many(bytes) => drop(bytes),
+        }
+    }
 }
 
 impl Model for Text {
+    ghost use Rattle.std.specs.Prelude.{ℕ, List};
+    ghost use Rattle.fx_base.specs.Held.{bytes_of};
+
     ghost Value = { List ℕ };
 
-    ghost view = { λ a. a.held.items };
+    ghost view = { λ a. bytes_of a.held.value };
 }
 
 impl Text {
     pub fn new(alloc: Global, bytes: &[u8]) -> Result<Self, Memory>
         ensures { IfOk result (λ text. text ≡ bytes.now) }
     {
+        if bytes.len() <= 31 {
+            return Text::few(alloc, bytes);
+        }
+        let many = Bytes::Many(Vec::from_slice(alloc, bytes)?);
         Ok(Text {
-            held: Vec::from_slice(alloc, bytes)?,
+            held: Rc::new(alloc, many)?,
         })
     }
 
-    /// The text of these bytes, which are moved in.
-    pub fn from_vec(bytes: Vec<u8>) -> Self
-        ensures { result ≡ bytes.items }
+    /// The text of these bytes. Many of them are moved in.
+    pub fn from_vec(bytes: Vec<u8>) -> Result<Self, Memory>
+        ensures { IfOk result (λ text. text ≡ bytes.items) }
     {
-        Text { held: bytes }
+        let alloc = *bytes.allocator();
+        if bytes.len() <= 31 {
+            return Text::few(alloc, &bytes);
+        }
+        Ok(Text {
+            held: Rc::new(alloc, Bytes::Many(bytes))?,
+        })
+    }
+
+    fn few(alloc: Global, bytes: &[u8]) -> Result<Self, Memory>
+        requires { length bytes.now ≤ 31 }
+        ensures { IfOk result (λ text. text ≡ bytes.now) }
+    {
+        let few = Bytes::Few(FixedName::from_bytes(bytes));
+        Ok(Text {
+            held: Rc::new(alloc, few)?,
+        })
     }
 
     pub fn bytes(&self) -> &[u8]
         ensures { result.now ≡ self.now }
     {
-        &self.held
+        match self.held.as_ref() {
+            Bytes::Few(bytes) => bytes.bytes(),
+            Bytes::Many(bytes) => bytes,
+        }
     }
+}
 
-    /// Gives the bytes back, and takes no memory.
-    pub fn into_vec(self) -> Vec<u8>
-        ensures { result.items ≡ self }
-    {
-        self.held
+// As the list of its bytes.
+impl fmt::Debug for Text {
+    fn fmt<W: fmt::Write>(&self, f: &mut fmt::Formatter<W>) -> fmt::Result {
+        f.debug_list().entries(self.bytes()).finish()
     }
 }
 

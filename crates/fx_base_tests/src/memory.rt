@@ -1,5 +1,5 @@
 //! Each call that may want memory, with memory.
-use fx_base::{BytesMap, MemSink, NameKey, NameMap, Seq, Sink, Text, TextMap, Uses};
+use fx_base::{MemSink, NameKey, NameMap, Seq, Sink, Text, TextMap, Uses};
 use std::test::Fail;
 
 #[test]
@@ -31,13 +31,6 @@ fn maps_take_entries_and_are_cloned(rt: HostRuntime) -> Result<(), Fail> {
     let mut texts = TextMap::new(alloc);
     texts.insert(Text::new(alloc, b"web")?, Text::new(alloc, b"1")?)?;
     assert!(rt; texts.clone()? == texts);
-    let mut bytes = BytesMap::new(alloc);
-    bytes.insert(Text::new(alloc, b"web")?, 1u8)?;
-    assert_eq!(rt; bytes.get(b"web"), Some(&1));
-    let mut value = 2;
-    bytes.swap(b"web", &mut value);
-    assert_eq!(rt; value, 1);
-    assert_eq!(rt; bytes.get(b"web"), Some(&2));
     let mut names = NameMap::new(alloc);
     names.insert(&NameKey::new(b"web"), Text::new(alloc, b"1")?)?;
     assert!(rt; names.clone()? == names);
@@ -48,18 +41,11 @@ fn maps_take_entries_and_are_cloned(rt: HostRuntime) -> Result<(), Fail> {
 fn maps_tell_whether_they_are_empty(rt: HostRuntime) -> Result<(), Fail> {
     let alloc = rt.alloc();
     let mut texts = TextMap::new(alloc);
-    let mut bytes = BytesMap::new(alloc);
     let mut names = NameMap::new(alloc);
-    assert!(rt; texts.is_empty() && bytes.is_empty() && names.is_empty());
+    assert!(rt; texts.is_empty() && names.is_empty());
     texts.insert(Text::new(alloc, b"web")?, 1u8)?;
-    bytes.insert(Text::new(alloc, b"web")?, 1u8)?;
-    bytes.insert(Text::new(alloc, b"db")?, 2u8)?;
     names.insert(&NameKey::new(b"web"), 1u8)?;
-    assert!(rt; !texts.is_empty() && !bytes.is_empty() && !names.is_empty());
-    assert_eq!(rt; bytes.len(), 2);
-    bytes.remove(b"web");
-    bytes.remove(b"db");
-    assert!(rt; bytes.is_empty());
+    assert!(rt; !texts.is_empty() && !names.is_empty());
     Ok(())
 }
 

@@ -42,7 +42,7 @@ impl<'a> Path<'a> {
     pub fn text(&self, alloc: Global) -> Result<Text, Memory>
         ensures { IfOk result (λ text. text ≡ text_of self.now) }
     {
-        Ok(Text::from_vec(self.bytes(alloc)?))
+        Text::from_vec(self.bytes(alloc)?)
     }
 
     /// The path of a value inside the one that stands here, by its own path from here on.
@@ -52,7 +52,7 @@ impl<'a> Path<'a> {
         let mut path = self.bytes(alloc)?;
         path.extend_from_slice(b".")?;
         path.extend_from_slice(inner.bytes())?;
-        Ok(Text::from_vec(path))
+        Text::from_vec(path)
     }
 
     fn bytes(&self, alloc: Global) -> Result<Vec<u8>, Memory>

@@ -70,5 +70,5 @@ fn reads_as(
 fn ended(alloc: Global, line: &Text) -> Result<Text, Memory> {
     let mut bytes = Vec::from_slice(alloc, line.bytes())?;
     bytes.push(b'\n')?;
-    Ok(Text::from_vec(bytes))
+    Text::from_vec(bytes)
 }

@@ -22,7 +22,7 @@ pub fn make_line(alloc: Global, seed: u64, index: u64, node: &Text) -> Result<Te
         return Text::new(alloc, b"{\"flush\":{}}");
     }
     let line = drawn_line(alloc, drawn(seed, index), node.bytes())?;
-    Ok(Text::from_vec(line))
+    Text::from_vec(line)
 }
 
 #[tactic(auto, unfolding(crate::specs::Generator::drawn_line))]

@@ -101,7 +101,7 @@ fn name_of(alloc: Global, size: usize) -> Result<Vec<u8>, Fail> {
 
 // Whether another node than the one whose name has so many bytes is named by so many of them.
 fn keeps(alloc: Global, size: usize, kept: usize) -> Result<bool, Fail> {
-    let line = make_line(alloc, 0, 7, &Text::from_vec(name_of(alloc, size)?))?;
+    let line = make_line(alloc, 0, 7, &Text::from_vec(name_of(alloc, size)?)?)?;
     let mut want = Vec::from_slice(alloc, BEFORE_NAME.as_bytes())?;
     want.extend_from_slice(&name_of(alloc, kept)?)?;
     want.extend_from_slice(BEHIND_NAME.as_bytes())?;

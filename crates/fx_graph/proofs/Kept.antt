@@ -16,7 +16,8 @@ use Rattle.fx_scanner.specs.Scanned.{IsScanned}
 use Rattle.fx_sequencer.specs.Sides.{SameSentAndSets}
 use Rattle.fx_sequencer.specs.declared.sides.Sides.{Sides}
 use Rattle.fx_graph_rules.specs.Counting.{with_some}
-use Rattle.fx_graph_rules.specs.Run.{IsRun, IsPairRun}
+use Rattle.fx_graph_rules.specs.Run.{IsRun}
+use Rattle.fx_model.specs.PairRuns.{IsPairRun}
 use Rattle.fx_graph_rules.specs.Uppers.{AreInStep}
 use Rattle.fx_graph_rules.specs.declared.nodes.Upper.{Upper}
 use Rattle.fx_graph_rules.specs.declared.pair_log.PairChange.{PairChange}

@@ -5,7 +5,8 @@ use Rattle.fx_members.specs.Members.{AreMembers}
 use Rattle.fx_resolver.specs.Resolved.{IsResolved}
 use Rattle.fx_scanner.specs.Scanned.{IsScanned}
 use Rattle.fx_graph_rules.specs.Counting.{with_some}
-use Rattle.fx_graph_rules.specs.Run.{IsRun, IsPairRun}
+use Rattle.fx_graph_rules.specs.Run.{IsRun}
+use Rattle.fx_model.specs.PairRuns.{IsPairRun}
 use Rattle.fx_graph_rules.specs.Uppers.{AreInStep}
 use Rattle.fx_graph_view.specs.Knowing.{AreKnownBut}
 use Rattle.fx_graph_view.specs.Noted.{AreFormed}

@@ -9,10 +9,10 @@ use Rattle.fx_model.specs.declared.ids.PolicyId.{PolicyId}
 use Rattle.fx_model.specs.declared.policy.Policy.{Policy}
 use Rattle.fx_model.specs.declared.resources.Profile.{Profile}
 use Rattle.fx_graph_rules.specs.Logged.{IsLogged}
-use Rattle.fx_graph_rules.specs.Run.{IsPairRun}
+use Rattle.fx_model.specs.PairRuns.{IsPairRun}
 use Rattle.fx_graph_rules.specs.Touched.{Keys, IsTouched}
 use Rattle.fx_graph_rules.specs.declared.active_log.Logged.{Logged}
-use Rattle.fx_graph_rules.specs.declared.active_log.PolicyPairChange.{PolicyPairChange}
+use Rattle.fx_model.specs.declared.policy_pairs.PolicyPairChange.{PolicyPairChange}
 use Rattle.fx_graph_rules.specs.declared.active_told.ActiveTold.{ActiveTold}
 use Rattle.fx_graph_rules.proofs.LoggedLemmas.{touched_more, touched_set}
 

@@ -5,9 +5,10 @@ use Rattle.fx_base.specs.Set as set
 use Rattle.fx_model.specs.Pairs.{Pairs, PolicyPairs, put}
 use Rattle.fx_model.specs.declared.ids.ItemKey.{ItemKey}
 use Rattle.fx_model.specs.declared.ids.PolicyId.{PolicyId}
-use Rattle.fx_graph_rules.specs.declared.active_log.PolicyPairChange.{PolicyPairChange}
+use Rattle.fx_model.specs.declared.policy_pairs.PolicyPairChange.{PolicyPairChange}
 use Rattle.fx_graph_rules.specs.declared.pair_log.PairChange.{PairChange}
-use Rattle.fx_graph_rules.specs.Run.{IsRunOf, IsRun, IsPairRun, changed_pair, changed_policy_pair}
+use Rattle.fx_graph_rules.specs.Run.{IsRun, changed_pair}
+use Rattle.fx_model.specs.PairRuns.{IsRunOf, IsPairRun, changed_policy_pair}
 
 module _ {C P : Type 0} {R : P → P → Ordering} (pair : C → P) (on : C → Bool) where
   run_more : (cs : List C) (c : C) (m s : set.Set R) → IsRunOf pair on cs m s → set.contains s (pair c) ≡ not (on c) → IsRunOf pair on (cs ++ c ∷ []) m (put s (pair c) (on c))

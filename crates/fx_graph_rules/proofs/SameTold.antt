@@ -1,5 +1,5 @@
 -- What is told follows from items, parents, policies, profiles and endpoints alone.
-use Rattle.std.proofs.Common.{◌≡◌, Option, Some, None, is_some, refl, sym, ◌∙◌, subst}
+use Rattle.std.proofs.Common.{◌≡◌, sym, ◌∙◌, subst}
 use Rattle.std.specs.Cmp.Lexicographic.{nat_list_cmp_total}
 use Rattle.std.specs.FinMap.{same_map}
 use Rattle.fx_base.proofs.KeyCases.{bytes_exact}

@@ -1,5 +1,5 @@
 -- What the log of the active rules keeps.
-use Rattle.fx_graph_rules.specs.Run.{IsPairRun}
+use Rattle.fx_model.specs.PairRuns.{IsPairRun}
 use Rattle.fx_graph_rules.specs.Touched.{IsTouched}
 use Rattle.fx_graph_rules.specs.declared.active_log.Logged.{Logged}
 use Rattle.fx_graph_rules.specs.declared.active_told.ActiveTold.{ActiveTold}

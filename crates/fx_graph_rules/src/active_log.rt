@@ -7,17 +7,9 @@ ghost use Rattle.fx_graph_rules.specs.Logged.{IsLogged};
 
 use crate::active_told::ActiveTold;
 use fx_base::{Memory, Seq, Text, TextMap};
-use fx_model::{ActiveSink, ItemKey, Policy, PolicyId, PolicyMap, Profile};
+use fx_model::{ActiveSink, ItemKey, Policy, PolicyId, PolicyMap, PolicyPairChange, Profile};
 use std::alloc::Global;
 use std::marker::{Brand, Model, PhantomData};
-
-/// A pair of a policy and an endpoint that came or went.
-#[derive(Drop)]
-pub struct PolicyPairChange {
-    pub on: bool,
-    pub policy: PolicyId,
-    pub item: ItemKey,
-}
 
 /// What was told, the policies and profiles of which something was told since the start, and the changes of pairs in their order.
 #[derive(Drop)]

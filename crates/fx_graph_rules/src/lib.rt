@@ -10,7 +10,7 @@
 //!   nodes are the `InheritIndex` and the `ActiveRulesCalculator`.
 #![tactic(auto)]
 
-pub use active_log::{ActiveLog, ActiveStart, Logged, PolicyPairChange};
+pub use active_log::{ActiveLog, ActiveStart, Logged};
 pub use active_told::ActiveTold;
 pub use join::Joined;
 pub use nodes::{Replaced, Upper};

@@ -1,7 +1,8 @@
 //! Each node below the active rules, brought up to date over the sequencer, of which it tells its part alone.
 ghost use Rattle.std.specs.Prelude.{◌≡◌, IfOk, OnOk};
 ghost use Rattle.std.specs.FinMap as map;
-ghost use Rattle.fx_graph_rules.specs.Run.{IsRun, IsPairRun};
+ghost use Rattle.fx_graph_rules.specs.Run.{IsRun};
+ghost use Rattle.fx_model.specs.PairRuns.{IsPairRun};
 ghost use Rattle.fx_members.specs.Members.{AreMembers};
 ghost use Rattle.fx_resolver.specs.Resolved.{IsResolved};
 ghost use Rattle.fx_scanner.specs.Apart.{IsApart};

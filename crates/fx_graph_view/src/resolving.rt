@@ -2,11 +2,11 @@
 ghost use Rattle.std.specs.Prelude.{◌≡◌, OnOk};
 ghost use Rattle.fx_resolver.specs.Resolved.{IsResolved};
 ghost use Rattle.fx_graph_view.specs.Knowing.{AreKnownBut, AreKnown};
-ghost use Rattle.fx_graph_rules.specs.Run.{IsPairRun};
+ghost use Rattle.fx_model.specs.PairRuns.{IsPairRun};
 
 use fx_base::Memory;
-use fx_graph_rules::{Logged, PolicyPairChange};
-use fx_model::{Policy, PolicyMap, PolicyPairSet, ViewSink, policy_key};
+use fx_graph_rules::Logged;
+use fx_model::{Policy, PolicyMap, ViewSink, policy_key};
 use fx_names::{DigestFunction, DigestRule, Namer};
 use fx_resolver::Resolver;
 use std::alloc::Global;
@@ -39,30 +39,6 @@ fn resolve_policies<R: DigestRule, F: DigestFunction<R> + Drop, S: ViewSink>(
     Ok(())
 }
 
-/// Changes of pairs, in their order.
-fn resolve_pairs<S: ViewSink>(
-    changes: &[PolicyPairChange],
-    pairs: &PolicyPairSet,
-    resolver: &mut Resolver,
-    sink: &mut S,
-) -> Result<(), Memory>
-    requires run { IsPairRun changes.now resolver.old.pairs pairs.now }
-    requires resolved { IsResolved resolver.old (S.endpoints sink.old) }
-    ensures inputs { OnOk result (resolver.new ≡ record resolver.old { pairs = pairs.now }) }
-    ensures resolved { OnOk result (IsResolved resolver.new (S.endpoints sink.new)) }
-    ensures policies { OnOk result (S.policies sink.new ≡ S.policies sink.old) }
-    ensures profiles { OnOk result (S.profiles sink.new ≡ S.profiles sink.old) }
-{
-    for change in changes {
-        if change.on {
-            resolver.pair_on(&change.policy, &change.item, sink)?;
-        } else {
-            resolver.pair_off(&change.policy, &change.item, sink)?;
-        }
-    }
-    Ok(())
-}
-
 /// Brings the resolver to the policies and pairs that stand now.
 pub fn resolve_through<R: DigestRule, F: DigestFunction<R> + Drop, S: ViewSink>(
     alloc: Global,
@@ -89,6 +65,6 @@ pub fn resolve_through<R: DigestRule, F: DigestFunction<R> + Drop, S: ViewSink>(
         resolver,
         sink,
     )?;
-    resolve_pairs(logged.pairs.as_slice(), &logged.told.pairs, resolver, sink)?;
+    resolver.change_pairs(logged.pairs.as_slice(), sink)?;
     Ok(())
 }

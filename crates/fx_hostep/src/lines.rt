@@ -115,7 +115,7 @@ fn packet_at(
 ) -> Result<Packet, ReadFault>
     ensures { IsAnswerOf (packet_at inbound iface (text_of path.now) (view value.now)) result }
 {
-    let none = Text::from_vec(Vec::new(alloc));
+    let none = Text::from_vec(Vec::new(alloc))?;
     if inbound {
         read_packet_between(alloc, iface, none, path, value)
     } else {

@@ -7,7 +7,7 @@ ghost use Rattle.fx_fields.specs.Paths.{text_of};
 ghost use Rattle.fx_hostep.specs.HostFields.{host_delete, host_holdings, host_in, host_key, host_of, host_place, host_put, is_host_kind, is_named};
 
 use crate::forms::{HostAddressForm, HostInterfaceForm, addresses_of};
-use fx_base::{Ipv4, Seq, Text};
+use fx_base::{Ipv4, Memory, Seq, Text};
 use fx_fields::{
     GlobalMetadata, Path, ReadFault, TextForm, global_metadata_in, items, name_in, required,
     section, text_at,
@@ -60,7 +60,7 @@ fn host_put(alloc: Global, resource: &Value) -> Result<Update, ReadFault>
     let GlobalMetadata { name, labels } = global_metadata_in(alloc, resource)?;
     let endpoint = host_in(alloc, labels, resource)?;
     Ok(Update::Put {
-        key: host_key(alloc, name),
+        key: host_key(alloc, name)?,
         item: Item::Endpoint(endpoint),
     })
 }
@@ -71,18 +71,18 @@ fn host_delete(alloc: Global, resource: &Value) -> Result<Update, ReadFault>
 {
     let name = name_in(alloc, resource)?;
     Ok(Update::Delete {
-        key: host_key(alloc, name),
+        key: host_key(alloc, name)?,
     })
 }
 
 // One of the node itself stands in no namespace.
-fn host_key(alloc: Global, name: Text) -> Key
-    ensures { result ≡ host_key name }
+fn host_key(alloc: Global, name: Text) -> Result<Key, Memory>
+    ensures { IfOk result (λ key. key ≡ host_key name) }
 {
-    Key::Item(ItemKey::Endpoint {
-        ns: Text::from_vec(Vec::new(alloc)),
+    Ok(Key::Item(ItemKey::Endpoint {
+        ns: Text::from_vec(Vec::new(alloc))?,
         name,
-    })
+    }))
 }
 
 #[tactic(auto, unfolding(crate::specs::HostFields::host_in))]

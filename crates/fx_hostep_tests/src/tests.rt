@@ -18,16 +18,14 @@ const HOST: &str =
 "ports":[{"name":"b","port":80},{"name":"c","protocol":"SCTP","port":53}]}}"#;
 
 // It has the labels that it is given, and no others.
-const READ_HOST: &str =
-    "Put { key: Item(Endpoint { ns: Text { held: [] }, name: Text { held: [104] } }), \
-item: Endpoint(Endpoint { node: Text { held: [110] }, iface: Text { held: [101, 116, 104] }, \
-labels: Labels { alloc: Global, held: [([114], Text { held: [115] })] }, \
-addresses: Seq { held: [Ipv4(167772161), Ipv4(167772162)] }, profiles: Seq { held: [Text { held: [112] }] }, \
-ports: Seq { held: [EndpointPort { name: Text { held: [98] }, proto: Proto(6), number: 80 }, \
-EndpointPort { name: Text { held: [99] }, proto: Proto(132), number: 53 }] } }) }";
+const READ_HOST: &str = "Put { key: Item(Endpoint { ns: [], name: [104] }), \
+item: Endpoint(Endpoint { node: [110], iface: [101, 116, 104], \
+labels: Labels { alloc: Global, held: [([114], [115])] }, \
+addresses: Seq { held: [Ipv4(167772161), Ipv4(167772162)] }, profiles: Seq { held: [[112]] }, \
+ports: Seq { held: [EndpointPort { name: [98], proto: Proto(6), number: 80 }, \
+EndpointPort { name: [99], proto: Proto(132), number: 53 }] } }) }";
 
-const DELETED_HOST: &str =
-    "Delete { key: Item(Endpoint { ns: Text { held: [] }, name: Text { held: [104] } }) }";
+const DELETED_HOST: &str = "Delete { key: Item(Endpoint { ns: [], name: [104] }) }";
 
 // What is read of it, as `Debug` prints it.
 fn answered(alloc: Global, answer: &Result<Update, ReadFault>) -> Result<String, Fail> {
@@ -136,12 +134,12 @@ fn packets_of_processes_are_read(rt: HostRuntime) -> Result<(), Fail> {
     let rows = [
         (
             r#"{"direction":"in","interface":"e","src":"0.0.0.1","dst":"0.0.0.2","proto":"TCP","dport":3}"#,
-            "HostPacket { inbound: true, iface: Text { held: [101] }, packet: Packet { iface_in: Text { held: [101] }, iface_out: Text { held: [] }, \
+            "HostPacket { inbound: true, iface: [101], packet: Packet { iface_in: [101], iface_out: [], \
 src: Ipv4(1), dst: Ipv4(2), proto: Proto(6), sport: 0, dport: 3, icmp_kind: 0, icmp_code: 0, state: New } }",
         ),
         (
             r#"{"direction":"out","interface":"e","src":"0.0.0.1","dst":"0.0.0.2","proto":"ICMP","icmpType":8,"state":"INVALID"}"#,
-            "HostPacket { inbound: false, iface: Text { held: [101] }, packet: Packet { iface_in: Text { held: [] }, iface_out: Text { held: [101] }, \
+            "HostPacket { inbound: false, iface: [101], packet: Packet { iface_in: [], iface_out: [101], \
 src: Ipv4(1), dst: Ipv4(2), proto: Proto(1), sport: 0, dport: 0, icmp_kind: 8, icmp_code: 0, state: Invalid } }",
         ),
     ];

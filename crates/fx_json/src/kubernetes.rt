@@ -63,7 +63,7 @@ fn namespace_profile(alloc: Global, name: &Text) -> Result<Text, Memory>
 {
     let mut profile = Vec::from_slice(alloc, b"kns.")?;
     profile.extend_from_slice(name.bytes())?;
-    Ok(Text::from_vec(profile))
+    Text::from_vec(profile)
 }
 
 /// The key of a ServiceAccount: that of the profile which its endpoints list.
@@ -81,7 +81,7 @@ fn account_profile(alloc: Global, named: &NamespacedName) -> Result<Text, Memory
     profile.extend_from_slice(named.ns.bytes())?;
     profile.extend_from_slice(b".")?;
     profile.extend_from_slice(named.name.bytes())?;
-    Ok(Text::from_vec(profile))
+    Text::from_vec(profile)
 }
 
 /// The key of a NetworkPolicy of Kubernetes.

@@ -121,8 +121,7 @@ fn change_all(
         (has_both (map.get by_key.old k) p)) }
 {
     for (key, value) in labels.iter() {
-        let key = Text::new(alloc, key.as_slice())?;
-        change_one(alloc, by_key, &key, value, item, standing)?;
+        change_one(alloc, by_key, key, value, item, standing)?;
     }
     Ok(())
 }
@@ -141,7 +140,7 @@ fn change_others(
         standing (has_both (map.get by_key.old k) p)) }
 {
     for (key, value) in labels.iter() {
-        change_unless(alloc, by_key, others, key.as_slice(), value, item, standing)?;
+        change_unless(alloc, by_key, others, key, value, item, standing)?;
     }
     Ok(())
 }
@@ -151,7 +150,7 @@ fn change_unless(
     alloc: Global,
     by_key: &mut TextMap<ItemRows>,
     others: &Labels,
-    key: &[u8],
+    key: &Text,
     value: &Text,
     item: &ItemKey,
     standing: bool,
@@ -160,11 +159,10 @@ fn change_unless(
         ≡ cond (((same_text k key.now && same_text p.0 value.now) && not (has_label (Some others.now) k p.0))
         && same_item p.1 item.now) standing (has_both (map.get by_key.old k) p)) }
 {
-    if has_value(others, key, value) {
+    if has_value(others, key.bytes(), value) {
         return Ok(());
     }
-    let key = Text::new(alloc, key)?;
-    change_one(alloc, by_key, &key, value, item, standing)?;
+    change_one(alloc, by_key, key, value, item, standing)?;
     Ok(())
 }
 

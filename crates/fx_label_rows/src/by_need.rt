@@ -10,7 +10,7 @@ ghost use Rattle.fx_label_rows.specs.Spots.{Spot, at, stands, found};
 ghost use Rattle.fx_label_rows.specs.TextGroups.{has_pair};
 
 use crate::text_rows::{TextRows, put_all, put_found, set_text};
-use fx_base::{BytesMap, Memory, Text, TextMap};
+use fx_base::{Memory, Text, TextMap};
 use fx_selector::{Labels, Requirement};
 use std::alloc::Global;
 
@@ -18,7 +18,7 @@ use std::alloc::Global;
 #[derive(Drop)]
 pub struct TextsByNeed {
     alloc: Global,
-    by_value: BytesMap<TextRows>,
+    by_value: TextMap<TextRows>,
     by_key: TextRows,
     free: TextMap<()>,
 }
@@ -31,7 +31,7 @@ impl TextsByNeed {
     {
         TextsByNeed {
             alloc,
-            by_value: BytesMap::new(alloc),
+            by_value: TextMap::new(alloc),
             by_key: TextRows::new(alloc),
             free: TextMap::new(alloc),
         }
@@ -52,7 +52,7 @@ impl TextsByNeed {
             return Ok(());
         };
         let Some(values) = requirement.values else {
-            self.by_key.change(requirement.key.bytes(), text, standing)?;
+            self.by_key.change(requirement.key, text, standing)?;
             return Ok(());
         };
         change_values(
@@ -73,18 +73,18 @@ impl TextsByNeed {
         let mut texts = TextMap::new(self.alloc);
         put_all(&mut texts, &self.free)?;
         for (key, value) in labels.iter() {
-            put_found(&mut texts, self.by_key.get(key.as_slice()))?;
-            put_found(&mut texts, self.at_value(key.as_slice(), value))?;
+            put_found(&mut texts, self.by_key.get(key))?;
+            put_found(&mut texts, self.at_value(key, value))?;
         }
         Ok(texts)
     }
 
-    fn at_value(&self, key: &[u8], value: &Text) -> Option<&TextMap<()>>
+    fn at_value(&self, key: &Text, value: &Text) -> Option<&TextMap<()>>
         ensures { (t : List ℕ) → has_key (option_copied result) t
             ≡ has_pair (map.get self.now.by_value key.now) (value.now, t) }
     {
         match self.by_value.get(key) {
-            Some(rows) => rows.get(value.bytes()),
+            Some(rows) => rows.get(value),
             None => None,
         }
     }
@@ -92,7 +92,7 @@ impl TextsByNeed {
 
 fn change_value(
     alloc: Global,
-    by_value: &mut BytesMap<TextRows>,
+    by_value: &mut TextMap<TextRows>,
     key: &Text,
     value: &Text,
     text: &Text,
@@ -102,15 +102,15 @@ fn change_value(
         ≡ cond (same_text k key.now && (same_text p.0 value.now && same_text p.1 text.now)) standing
         (has_pair (map.get by_value.old k) p)) }
 {
-    let mut rows = by_value.remove(key.bytes()).unwrap_or(TextRows::new(alloc));
-    rows.change(value.bytes(), text, standing)?;
+    let mut rows = by_value.remove(key).unwrap_or(TextRows::new(alloc));
+    rows.change(value, text, standing)?;
     by_value.insert(key.clone()?, rows)?;
     Ok(())
 }
 
 fn change_values(
     alloc: Global,
-    by_value: &mut BytesMap<TextRows>,
+    by_value: &mut TextMap<TextRows>,
     key: &Text,
     values: &[Text],
     text: &Text,

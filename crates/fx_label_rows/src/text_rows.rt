@@ -1,4 +1,4 @@
-//! Sets of texts, below byte strings and below items.
+//! Sets of texts, below texts and below items.
 ghost use Rattle.std.specs.Prelude.{◌≡◌, ◌&&◌, ◌||◌, ℕ, List, OnOk, cond};
 ghost use Rattle.std.specs.Option.{option_copied};
 ghost use Rattle.std.specs.FinMap as map;
@@ -7,16 +7,16 @@ ghost use Rattle.fx_base.specs.Grouped.{has_key, same_text};
 ghost use Rattle.fx_model.specs.declared.ids.ItemKey.{ItemKey};
 ghost use Rattle.fx_label_rows.specs.Labelled.{same_item};
 
-use fx_base::{BytesMap, Memory, Text, TextMap};
+use fx_base::{Memory, Text, TextMap};
 use fx_model::{ItemKey, ItemMap};
 use std::alloc::Global;
 use std::marker::Model;
 
-/// Texts below byte strings. No set is left empty by a change.
+/// Texts below texts. No set is left empty by a change.
 #[derive(Drop)]
 pub struct TextRows {
     alloc: Global,
-    held: BytesMap<TextMap<()>>,
+    held: TextMap<TextMap<()>>,
 }
 
 impl Model for TextRows {
@@ -38,18 +38,18 @@ impl TextRows {
     {
         TextRows {
             alloc,
-            held: BytesMap::new(alloc),
+            held: TextMap::new(alloc),
         }
     }
 
-    pub fn get(&self, key: &[u8]) -> Option<&TextMap<()>>
+    pub fn get(&self, key: &Text) -> Option<&TextMap<()>>
         ensures { option_copied result ≡ map.get self.now key.now }
     {
         self.held.get(key)
     }
 
     /// Makes the text stand below the key, or not.
-    pub fn change(&mut self, key: &[u8], text: &Text, standing: bool) -> Result<(), Memory>
+    pub fn change(&mut self, key: &Text, text: &Text, standing: bool) -> Result<(), Memory>
         ensures { OnOk result ((k t : List ℕ) → has_key (map.get self.new k) t
             ≡ cond (same_text k key.now && same_text t text.now) standing (has_key (map.get self.old k) t)) }
     {
@@ -58,7 +58,7 @@ impl TextRows {
         if texts.len() == 0 {
             return Ok(());
         }
-        self.held.insert(Text::new(self.alloc, key)?, texts)?;
+        self.held.insert(key.clone()?, texts)?;
         Ok(())
     }
 }

@@ -53,7 +53,8 @@ fn do_next<K: Sink>(
 fn line_of(alloc: Global, op: &Op, goal: &Tables) -> Result<Text, Memory>
     ensures { IfOk result (λ line. line ≡ op_line goal.now op.now) }
 {
-    let mut bytes = op_text(alloc, op, goal)?.into_vec();
+    let text = op_text(alloc, op, goal)?;
+    let mut bytes = Vec::from_slice(alloc, text.bytes())?;
     bytes.extend_from_slice(b"\n")?;
-    Ok(Text::from_vec(bytes))
+    Text::from_vec(bytes)
 }

@@ -1,5 +1,6 @@
 pub mod Orders
 pub mod PairAt
+pub mod PairRunLemmas
 pub mod Serving
 pub mod TierLemmas
 pub mod PlaceLemmas

@@ -11,6 +11,7 @@ pub mod Criteria
 pub mod Resources
 pub mod Labels
 pub mod Pairs
+pub mod PairRuns
 pub mod Active
 pub mod Sets
 pub mod Sinks

@@ -40,7 +40,7 @@ fn in_no_namespace(alloc: Global, name: &Text) -> Result<Text, Memory>
 {
     let mut text = Vec::from_slice(alloc, b"gnp/")?;
     text.extend_from_slice(name.bytes())?;
-    Ok(Text::from_vec(text))
+    Text::from_vec(text)
 }
 
 fn in_namespace(alloc: Global, kind: &[u8], ns: &Text, name: &Text) -> Result<Text, Memory>
@@ -50,7 +50,7 @@ fn in_namespace(alloc: Global, kind: &[u8], ns: &Text, name: &Text) -> Result<Te
     text.extend_from_slice(ns.bytes())?;
     text.extend_from_slice(b"/")?;
     text.extend_from_slice(name.bytes())?;
-    Ok(Text::from_vec(text))
+    Text::from_vec(text)
 }
 
 /// The key of what has addresses: an endpoint of a namespace, or a network set of a namespace or of none.

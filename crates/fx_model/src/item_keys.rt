@@ -14,7 +14,7 @@ pub fn namespace_of(alloc: Global, key: &ItemKey) -> Result<Text, Memory>
     match key {
         ItemKey::Endpoint { ns, .. } => Ok(ns.clone()?),
         ItemKey::NetSet { ns: Some(ns), .. } => Ok(ns.clone()?),
-        ItemKey::NetSet { ns: None, .. } => Ok(Text::from_vec(Vec::new(alloc))),
+        ItemKey::NetSet { ns: None, .. } => Ok(Text::new(alloc, b"")?),
     }
 }
 
@@ -35,7 +35,7 @@ pub fn namespace_parents(alloc: Global, key: &ItemKey) -> Result<Vec<Text>, Memo
     if let ItemKey::NetSet { ns: Some(ns), .. } = key {
         let mut name = Vec::from_slice(alloc, b"kns.")?;
         name.extend_from_slice(ns.bytes())?;
-        parents.push(Text::from_vec(name))?;
+        parents.push(Text::from_vec(name)?)?;
     }
     Ok(parents)
 }

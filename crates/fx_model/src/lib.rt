@@ -19,7 +19,7 @@ pub use pairs::PairSet;
 pub use place_map::PlaceMap;
 pub use policy::{NetSet, Policy, Tier};
 pub use policy_map::PolicyMap;
-pub use policy_pairs::PolicyPairSet;
+pub use policy_pairs::{PolicyPairChange, PolicyPairSet};
 pub use resources::{Endpoint, EndpointPort, Item, Profile, Resources, Update};
 pub use rules::{Action, Icmp, PortSpec, Rule, Side};
 pub use set_use::{SetUse, ports_protocol, push_both, push_uses};

@@ -1,4 +1,4 @@
-//! A set of pairs of a policy's id and an item's key, seen as a finite set.
+//! A set of pairs of a policy's id and an item's key, seen as a finite set, and changes of it.
 ghost use Rattle.std.specs.Prelude.{◌≡◌, OnOk, OnErr};
 ghost use Rattle.fx_base.specs.Set as set;
 
@@ -8,6 +8,14 @@ use std::alloc::Global;
 use std::collections::BTreeSet;
 use std::collections::btree_set::Iter;
 use std::marker::Model;
+
+/// A pair of a policy and an item that came or went.
+#[derive(Drop)]
+pub struct PolicyPairChange {
+    pub on: bool,
+    pub policy: PolicyId,
+    pub item: ItemKey,
+}
 
 #[derive(Drop)]
 pub struct PolicyPairSet {

@@ -91,7 +91,7 @@ fn ports_text(alloc: Global, proto: Proto, name: &Text, selector: &Selector) -> 
     text.extend_from_slice(name.bytes())?;
     text.push(b',')?;
     text.extend_from_slice(selector.canonical(alloc)?.bytes())?;
-    Ok(Text::from_vec(text))
+    Text::from_vec(text)
 }
 
 fn ports_protocol_text(proto: Proto) -> &'static [u8]

@@ -39,7 +39,7 @@ fn named_text(alloc: Global, word: &[u8], name: &[u8]) -> Result<Text, Memory>
     let mut bytes = Vec::from_slice(alloc, word)?;
     bytes.extend_from_slice(name)?;
     bytes.extend_from_slice(b"\n")?;
-    Ok(Text::from_vec(bytes))
+    Text::from_vec(bytes)
 }
 
 fn set_add_text(alloc: Global, name: &SetName, members: &MemberList<'_>) -> Result<Text, Memory>
@@ -51,7 +51,7 @@ fn set_add_text(alloc: Global, name: &SetName, members: &MemberList<'_>) -> Resu
     bytes.extend_from_slice(type_name(name))?;
     push_listed(&mut bytes, b" ", members)?;
     bytes.extend_from_slice(b"\n")?;
-    Ok(Text::from_vec(bytes))
+    Text::from_vec(bytes)
 }
 
 fn set_delta_text(
@@ -67,7 +67,7 @@ fn set_delta_text(
     push_listed(&mut bytes, b" +", adds)?;
     push_listed(&mut bytes, b" -", removes)?;
     bytes.extend_from_slice(b"\n")?;
-    Ok(Text::from_vec(bytes))
+    Text::from_vec(bytes)
 }
 
 // Each member behind a lead.
@@ -95,7 +95,7 @@ fn policy_text(alloc: Global, key: &NameKey, policy: &ViewPolicy) -> Result<Text
         policy.egress.as_slice(),
     )?;
     bytes.extend_from_slice(b"\n")?;
-    Ok(Text::from_vec(bytes))
+    Text::from_vec(bytes)
 }
 
 /// The name of a policy with its kind, as `gnp/NAME`.
@@ -138,7 +138,7 @@ fn profile_text(alloc: Global, key: &NameKey, profile: &ViewProfile) -> Result<T
     bytes.extend_from_slice(b" ")?;
     push_rules(&mut bytes, profile)?;
     bytes.extend_from_slice(b"\n")?;
-    Ok(Text::from_vec(bytes))
+    Text::from_vec(bytes)
 }
 
 fn push_rules(line: &mut Vec<u8>, profile: &ViewProfile) -> Result<(), Memory>
@@ -159,7 +159,7 @@ fn endpoint_text(alloc: Global, iface: &Text, endpoint: &ViewEndpoint) -> Result
     bytes.extend_from_slice(b" ")?;
     push_endpoint(&mut bytes, endpoint)?;
     bytes.extend_from_slice(b"\n")?;
-    Ok(Text::from_vec(bytes))
+    Text::from_vec(bytes)
 }
 
 fn push_endpoint(line: &mut Vec<u8>, endpoint: &ViewEndpoint) -> Result<(), Memory>

@@ -42,7 +42,7 @@ fn path_text(alloc: Global, path: &[Hop]) -> Result<Text, Memory>
     let mut bytes = Vec::from_slice(alloc, b"path")?;
     push_hops(&mut bytes, path)?;
     bytes.extend_from_slice(b"\n")?;
-    Ok(Text::from_vec(bytes))
+    Text::from_vec(bytes)
 }
 
 fn push_hops(line: &mut Vec<u8>, path: &[Hop]) -> Result<(), Memory>
@@ -90,7 +90,7 @@ pub fn side_text(alloc: Global, side: &[u8], iface: &Text, why: &Reason) -> Resu
     bytes.extend_from_slice(b" ")?;
     push_reason(&mut bytes, why)?;
     bytes.extend_from_slice(b"\n")?;
-    Ok(Text::from_vec(bytes))
+    Text::from_vec(bytes)
 }
 
 fn push_reason(line: &mut Vec<u8>, why: &Reason) -> Result<(), Memory>

@@ -20,7 +20,7 @@ pub fn refusal_text(alloc: Global, line: u64, refusal: &Refusal) -> Result<Text,
     bytes.extend_from_slice(refusal.name())?;
     push_detail(&mut bytes, refusal)?;
     bytes.extend_from_slice(b"\n")?;
-    Ok(Text::from_vec(bytes))
+    Text::from_vec(bytes)
 }
 
 fn push_detail(line: &mut Vec<u8>, refusal: &Refusal) -> Result<(), Memory>
@@ -73,7 +73,7 @@ pub fn flushed_text(alloc: Global, count: u64, more: bool) -> Result<Text, Memor
     push_decimal(&mut bytes, count)?;
     push_more(&mut bytes, more)?;
     bytes.extend_from_slice(b"\n")?;
-    Ok(Text::from_vec(bytes))
+    Text::from_vec(bytes)
 }
 
 fn push_more(line: &mut Vec<u8>, more: bool) -> Result<(), Memory>
@@ -103,7 +103,7 @@ pub fn soak_text(
     push_numbered(&mut bytes, b" messages ", messages)?;
     push_numbered(&mut bytes, b" ticks ", ticks)?;
     bytes.extend_from_slice(b"\n")?;
-    Ok(Text::from_vec(bytes))
+    Text::from_vec(bytes)
 }
 
 fn push_numbered(line: &mut Vec<u8>, word: &[u8], number: u64) -> Result<(), Memory>

@@ -36,10 +36,10 @@ const PROFILE: &str =
 "egress":[{"action":"Log","protocol":1,"icmp":{"type":8},"destination":{"notNets":["::","1.2.3.4"]}}],"labelsToApply":{"a":"b"}}}"#;
 
 const READ_PROFILE: &str =
-    "Put { key: Profile { name: Text { held: [112] } }, item: Profile(Profile { labels: Labels { alloc: Global, held: [([97], Text { held: [98] })] }, \
+    "Put { key: Profile { name: [112] }, item: Profile(Profile { labels: Labels { alloc: Global, held: [([97], [98])] }, \
 ingress: Seq { held: [Rule { action: Deny, never: false, protocol: Some(Proto(6)), not_protocol: Some(Proto(17)), icmp: None, not_icmp: None, \
 source: Side { nets: Seq { held: [Net { addr: Ipv4(167772160), len: 8 }] }, not_nets: Seq { held: [] }, selector: None, not_selector: None, \
-ports: Seq { held: [Number(PortRange { low: 80, high: 80 }), Number(PortRange { low: 1, high: 9 }), Named(Text { held: [100, 110, 115] })] }, \
+ports: Seq { held: [Number(PortRange { low: 80, high: 80 }), Number(PortRange { low: 1, high: 9 }), Named([100, 110, 115])] }, \
 not_ports: Seq { held: [] } }, \
 destination: Side { nets: Seq { held: [] }, not_nets: Seq { held: [] }, selector: None, not_selector: None, ports: Seq { held: [] }, not_ports: Seq { held: [] } } }] }, \
 egress: Seq { held: [Rule { action: Log, never: false, protocol: Some(Proto(1)), not_protocol: None, icmp: Some(Icmp { kind: 8, code: None }), not_icmp: None, \
@@ -53,37 +53,35 @@ const ENDPOINT: &str =
 "ports":[{"name":"b","port":80},{"name":"c","protocol":"UDP","port":53}]}}"#;
 
 // The bytes of `projectcalico.org/namespace`.
-const READ_ENDPOINT: &str =
-    "Put { key: Item(Endpoint { ns: Text { held: [97] }, name: Text { held: [119] } }), \
-item: Endpoint(Endpoint { node: Text { held: [110] }, iface: Text { held: [99, 97, 108, 105] }, \
+const READ_ENDPOINT: &str = "Put { key: Item(Endpoint { ns: [97], name: [119] }), \
+item: Endpoint(Endpoint { node: [110], iface: [99, 97, 108, 105], \
 labels: Labels { alloc: Global, held: [([112, 114, 111, 106, 101, 99, 116, 99, 97, 108, 105, 99, 111, 46, 111, 114, 103, 47, \
-110, 97, 109, 101, 115, 112, 97, 99, 101], Text { held: [97] })] }, \
+110, 97, 109, 101, 115, 112, 97, 99, 101], [97])] }, \
 addresses: Seq { held: [Ipv4(167772161), Ipv4(167772162)] }, \
-profiles: Seq { held: [Text { held: [112] }, Text { held: [113] }] }, \
-ports: Seq { held: [EndpointPort { name: Text { held: [98] }, proto: Proto(6), number: 80 }, \
-EndpointPort { name: Text { held: [99] }, proto: Proto(17), number: 53 }] } }) }";
+profiles: Seq { held: [[112], [113]] }, \
+ports: Seq { held: [EndpointPort { name: [98], proto: Proto(6), number: 80 }, \
+EndpointPort { name: [99], proto: Proto(17), number: 53 }] } }) }";
 
 const NET_SET: &str =
     r#"{"apiVersion":"projectcalico.org/v3","kind":"NetworkSet","metadata":{"name":"s","namespace":"a","labels":{
 "projectcalico.org/namespace":"x"}},"spec":{"nets":["10.0.0.0/8","::"]}}"#;
 
-const READ_NET_SET: &str =
-    "Put { key: Item(NetSet { ns: Some(Text { held: [97] }), name: Text { held: [115] } }), \
+const READ_NET_SET: &str = "Put { key: Item(NetSet { ns: Some([97]), name: [115] }), \
 item: NetSet(NetSet { labels: Labels { alloc: Global, held: [([112, 114, 111, 106, 101, 99, 116, 99, 97, 108, 105, 99, 111, 46, \
-111, 114, 103, 47, 110, 97, 109, 101, 115, 112, 97, 99, 101], Text { held: [97] })] }, \
+111, 114, 103, 47, 110, 97, 109, 101, 115, 112, 97, 99, 101], [97])] }, \
 nets: Seq { held: [Net { addr: Ipv4(167772160), len: 8 }] } }) }";
 
 const GLOBAL_SET: &str =
     r#"{"apiVersion":"projectcalico.org/v3","kind":"GlobalNetworkSet","metadata":{"name":"s","namespace":"a","labels":{"a":"b"}}}"#;
 
-const READ_GLOBAL_SET: &str = "Put { key: Item(NetSet { ns: None, name: Text { held: [115] } }), \
-item: NetSet(NetSet { labels: Labels { alloc: Global, held: [([97], Text { held: [98] })] }, nets: Seq { held: [] } }) }";
+const READ_GLOBAL_SET: &str = "Put { key: Item(NetSet { ns: None, name: [115] }), \
+item: NetSet(NetSet { labels: Labels { alloc: Global, held: [([97], [98])] }, nets: Seq { held: [] } }) }";
 
 const TIER: &str =
     r#"{"apiVersion":"projectcalico.org/v3","kind":"Tier","metadata":{"name":"t"},"spec":{"order":-9223372036854775808,"defaultAction":"Pass"}}"#;
 
 const READ_TIER: &str =
-    "Put { key: Tier { name: Text { held: [116] } }, item: Tier(Tier { order: Some(-9223372036854775808), pass_at_end: true }) }";
+    "Put { key: Tier { name: [116] }, item: Tier(Tier { order: Some(-9223372036854775808), pass_at_end: true }) }";
 
 #[test]
 fn resources_are_read(rt: HostRuntime) -> Result<(), Fail> {
@@ -106,17 +104,14 @@ fn resources_are_read(rt: HostRuntime) -> Result<(), Fail> {
 fn deletes_are_read(rt: HostRuntime) -> Result<(), Fail> {
     let alloc = rt.alloc();
     let rows = [
-        (
-            PROFILE,
-            "Delete { key: Profile { name: Text { held: [112] } } }",
-        ),
+        (PROFILE, "Delete { key: Profile { name: [112] } }"),
         (
             NET_SET,
-            "Delete { key: Item(NetSet { ns: Some(Text { held: [97] }), name: Text { held: [115] } }) }",
+            "Delete { key: Item(NetSet { ns: Some([97]), name: [115] }) }",
         ),
         (
             GLOBAL_SET,
-            "Delete { key: Item(NetSet { ns: None, name: Text { held: [115] } }) }",
+            "Delete { key: Item(NetSet { ns: None, name: [115] }) }",
         ),
     ];
     for (text, want) in rows {
@@ -459,7 +454,7 @@ const PACKET: &str =
     r#"{"in":"a","out":"b","src":"0.0.0.0","dst":"255.255.255.255","proto":"icmpV6","sport":65535,"icmpCode":255,"state":"RELATED","more":[]}"#;
 
 const READ_PACKET: &str =
-    "Packet { iface_in: Text { held: [97] }, iface_out: Text { held: [98] }, src: Ipv4(0), dst: Ipv4(4294967295), \
+    "Packet { iface_in: [97], iface_out: [98], src: Ipv4(0), dst: Ipv4(4294967295), \
 proto: Proto(58), sport: 65535, dport: 0, icmp_kind: 0, icmp_code: 255, state: Related }";
 
 #[test]

@@ -41,7 +41,7 @@ fn named_text(alloc: Global, word: &[u8], name: &[u8]) -> Result<Text, Memory>
 {
     let mut bytes = Vec::from_slice(alloc, word)?;
     bytes.extend_from_slice(name)?;
-    Ok(Text::from_vec(bytes))
+    Text::from_vec(bytes)
 }
 
 fn create_text(alloc: Global, name: &SetName) -> Result<Text, Memory>
@@ -51,7 +51,7 @@ fn create_text(alloc: Global, name: &SetName) -> Result<Text, Memory>
     bytes.extend_from_slice(name.bytes())?;
     bytes.extend_from_slice(b" ")?;
     bytes.extend_from_slice(type_name(name))?;
-    Ok(Text::from_vec(bytes))
+    Text::from_vec(bytes)
 }
 
 fn member_op_text(
@@ -66,7 +66,7 @@ fn member_op_text(
     bytes.extend_from_slice(name.bytes())?;
     bytes.extend_from_slice(b" ")?;
     push_member(&mut bytes, member)?;
-    Ok(Text::from_vec(bytes))
+    Text::from_vec(bytes)
 }
 
 fn write_text(alloc: Global, name: &ChainName, rules: u64) -> Result<Text, Memory>
@@ -76,5 +76,5 @@ fn write_text(alloc: Global, name: &ChainName, rules: u64) -> Result<Text, Memor
     bytes.extend_from_slice(name.bytes())?;
     bytes.extend_from_slice(b" ")?;
     push_decimal(&mut bytes, rules)?;
-    Ok(Text::from_vec(bytes))
+    Text::from_vec(bytes)
 }

@@ -5,7 +5,7 @@ use Rattle.std.specs.Option.{option_copied}
 use Rattle.std.specs.FinMap as map
 use Rattle.fx_base.specs.Extended.{put_or_removed}
 use Rattle.fx_base.specs.Set as set
-use Rattle.fx_model.specs.Pairs.{PolicyPairs, put}
+use Rattle.fx_model.specs.Pairs.{PolicyPairs}
 use Rattle.fx_model.specs.Messages.{Named}
 use Rattle.fx_model.specs.declared.ids.ItemKey.{ItemKey}
 use Rattle.fx_model.specs.declared.ids.PolicyId.{PolicyId}
@@ -26,24 +26,14 @@ use Rattle.fx_resolver.specs.Placed.{TierStands, at_place, placed, with_stand}
 use Rattle.fx_resolver.specs.Resolved.{HaveOwnInterfaces}
 use Rattle.fx_resolver.specs.Rows.{IsToldBut, rows_by, with_row, without_row, if_other}
 use Rattle.fx_resolver.proofs.OrderLemmas.{same_orders, none_in, tier_moved, tier_idle}
-use Rattle.fx_resolver.proofs.Placing.{policy_moved, policy_idle, pair_moved}
+use Rattle.fx_resolver.proofs.Placing.{policy_moved, policy_idle}
 use Rattle.fx_resolver.proofs.RowLemmas.{told_but}
-use Rattle.fx_resolver.proofs.EndpointLemmas.{one_told, apart_without, row_gone, row_put}
+use Rattle.fx_resolver.proofs.EndpointLemmas.{apart_without, row_gone, row_put}
 
 -- what is lent on a condition
 pub lent_if : {A : Type 0} (b : Bool) (x : Bor A) → option_copied (then_some b x) ≡ cond b (Some x.now) None
 lent_if true x = refl
 lent_if false x = refl
-
--- without a policy nothing moves
-unmoved : (added here : Bool) (o : Option PlacedPolicy) → o ≡ None → (l : ItemLists) → l ≡ cond here (moved (cond (not added) o None) (cond added o None) l) l
-unmoved added here o none l = by_cases added here ∙ ap (λ p. cond here (moved (cond (not added) p None) (cond added p None) l) l) (sym none)
-  where
-    by_cases : (a h : Bool) → l ≡ cond h (moved (cond (not a) None None) (cond a None None) l) l
-    by_cases true true = refl
-    by_cases true false = refl
-    by_cases false true = refl
-    by_cases false false = refl
 
 unless : (b c : Bool) → (c ≡ true → b ≡ true) → b ≡ false → c ≡ false
 unless b true h isnt = sym (h refl) ∙ isnt
@@ -88,19 +78,6 @@ module _ {orders : TierStands} {policies : KnownPolicies} {pairs : PolicyPairs} 
 
     pub policy_kept : (now : Rows) → now.lists ≡ lists → now.told ≡ rows_by (row_in lists) endpoints → IsKept orders (put_or_removed policies id o) pairs endpoints now
     policy_kept now same told = kept_anew orders (put_or_removed policies id o) pairs lists now (policy_moved orders policies pairs id o was.lists lists kept.lists_are keys own moves) same told
-
-  -- ---- a pair that is added or removed
-  module _ (id : PolicyId) (item : ItemKey) (added : Bool) (is : set.contains pairs (id, item) ≡ not added) where
-    pub pair_absent : map.get policies id ≡ None → IsKept orders policies (put pairs (id, item) added) endpoints was
-    pair_absent none = kept_anew orders policies (put pairs (id, item) added) was.lists was
-        (pair_moved orders policies pairs id item added was.lists was.lists kept.lists_are is (λ i. unmoved added (same_item i item) (placed orders id (map.get policies id)) (ap (placed orders id) none) (item_lists was.lists i)))
-        refl kept.told_is
-
-    module _ (lists : AllLists) (moves : (i : ItemKey) → item_lists lists i ≡ cond (same_item i item) (moved (cond (not added) (placed orders id (map.get policies id)) None) (cond added (placed orders id (map.get policies id)) None) (item_lists was.lists i)) (item_lists was.lists i)) where
-      pub pair_kept : (now : Rows) → now.lists ≡ lists → now.told ≡ with_row (row_in lists) item (map.get endpoints item) was.told → IsKept orders policies (put pairs (id, item) added) endpoints now
-      pair_kept now same told = kept_anew orders policies (put pairs (id, item) added) lists now
-          (pair_moved orders policies pairs id item added was.lists lists kept.lists_are is moves) same
-          (told ∙ one_told (row_in lists) endpoints kept.apart item was.told (untold (λ i. same_item i item) lists (λ i isnt. sym (moves i ∙ ap (λ b. cond b (moved (cond (not added) (placed orders id (map.get policies id)) None) (cond added (placed orders id (map.get policies id)) None) (item_lists was.lists i)) (item_lists was.lists i)) isnt))))
 
   -- ---- an endpoint that changes
   pub endpoint_gone : (item : ItemKey) (now : Rows) → now.lists ≡ was.lists → now.told ≡ without_row (map.get endpoints item) was.told → IsKept orders policies pairs (map.remove endpoints item) now

@@ -8,6 +8,7 @@ pub mod RowLemmas
 pub mod OrderLemmas
 pub mod EndpointLemmas
 pub mod Keeping
+pub mod Retelling
 pub mod Resolving
 pub mod Examples
 pub mod Alone

@@ -1,22 +1,26 @@
-//! What the sink is told where one policy, one pair or one endpoint changes.
-ghost use Rattle.std.specs.Prelude.{◌≡◌, OnOk, not};
+//! What changes in lists, and what the sink is told, where one policy, one pair or one endpoint changes.
+ghost use Rattle.std.specs.Prelude.{◌≡◌, OnOk, not, false};
 ghost use Rattle.std.specs.Option.{option_copied};
 ghost use Rattle.std.specs.FinMap as map;
 ghost use Rattle.fx_base.specs.Extended.{put_or_removed};
 ghost use Rattle.fx_base.specs.Set as set;
 ghost use Rattle.fx_model.specs.Pairs.{put};
+ghost use Rattle.fx_model.specs.PairRuns.{changed_policy_pair};
+ghost use Rattle.fx_model.specs.declared.ids.ItemKey.{ItemKey};
+ghost use Rattle.fx_resolver.specs.Indexes.{same_item};
 ghost use Rattle.fx_resolver.specs.Kept.{IsKept};
+ghost use Rattle.fx_resolver.specs.Lists.{AreLists, item_lists};
 ghost use Rattle.fx_resolver.specs.Placed.{stands_of};
 ghost use Rattle.fx_resolver.specs.Resolved.{HaveOwnInterfaces};
 ghost use Rattle.fx_resolver.specs.Rows.{if_other};
 
 use crate::inputs::Inputs;
 use crate::known::{KnownEndpoint, KnownPolicy};
-use crate::lists::{move_in_item, move_in_items};
+use crate::lists::{ItemLists, move_in_item, move_in_items};
 use crate::placed::{place_in_tiers, place_policy};
-use crate::rows::{Rows, row_in, tell_item, tell_items, tell_row, withdraw};
+use crate::rows::{Rows, row_in, tell_items, tell_row, withdraw};
 use fx_base::{Memory, Text};
-use fx_model::{ItemKey, PolicyId, TierStand, ViewSink};
+use fx_model::{ItemKey, ItemMap, PolicyId, PolicyPairChange, TierStand, ViewSink};
 use std::alloc::Global;
 
 /// Moves a policy that changes in the lists of the items to which it applies, and tells these. It may be absent then.
@@ -45,34 +49,29 @@ pub fn change_policy<S: ViewSink>(
     Ok(())
 }
 
-/// Adds or removes a policy in the lists of an item, and tells the item.
-pub fn change_pair<S: ViewSink>(
+/// Adds or removes a policy in the lists of an item, which is told of that later.
+pub fn move_pair(
     alloc: Global,
     inputs: &Inputs,
-    id: &PolicyId,
-    item: &ItemKey,
-    added: bool,
-    rows: &mut Rows,
-    sink: &mut S,
+    change: &PolicyPairChange,
+    lists: &mut ItemMap<ItemLists>,
 ) -> Result<(), Memory>
-    requires pair { set.contains inputs.now.pairs (id.now, item.now) ≡ not added }
-    requires kept { IsKept (stands_of inputs.now.tiers) inputs.now.policies inputs.now.pairs inputs.now.endpoints rows.old }
-    requires sink { S.endpoints sink.old ≡ rows.old.told }
-    ensures kept { OnOk result (IsKept (stands_of inputs.now.tiers) inputs.now.policies
-        (put inputs.now.pairs (id.now, item.now) added) inputs.now.endpoints rows.new) }
-    ensures endpoints { OnOk result (S.endpoints sink.new ≡ rows.new.told) }
-    ensures policies { OnOk result (S.policies sink.new ≡ S.policies sink.old) }
-    ensures profiles { OnOk result (S.profiles sink.new ≡ S.profiles sink.old) }
+    requires pair { set.contains inputs.now.pairs (changed_policy_pair change.now) ≡ not change.now.on }
+    requires lists { AreLists (stands_of inputs.now.tiers) inputs.now.policies inputs.now.pairs lists.old }
+    ensures lists { OnOk result (AreLists (stands_of inputs.now.tiers) inputs.now.policies
+        (put inputs.now.pairs (changed_policy_pair change.now) change.now.on) lists.new) }
+    ensures others { OnOk result ((i : ItemKey) → same_item i change.now.item ≡ false
+        → item_lists lists.new i ≡ item_lists lists.old i) }
 {
+    let id = &change.policy;
     let Some(policy) = inputs.policies.get(id) else {
         return Ok(());
     };
     let stand = TierStand::of_tier(inputs.tiers.get(&policy.tier));
     let placed = place_policy(alloc, stand, id, policy)?;
-    let from = (!added).then_some(&placed);
-    let to = added.then_some(&placed);
-    move_in_item(alloc, item, from, to, &mut rows.lists)?;
-    tell_item(alloc, &inputs.endpoints, item, rows, sink)?;
+    let from = (!change.on).then_some(&placed);
+    let to = change.on.then_some(&placed);
+    move_in_item(alloc, &change.item, from, to, lists)?;
     Ok(())
 }
 

@@ -5,9 +5,11 @@ ghost use Rattle.std.specs.FinMap as map;
 ghost use Rattle.fx_base.specs.Set as set;
 ghost use Rattle.fx_base.specs.Grouped.{has_key};
 ghost use Rattle.fx_model.specs.declared.ids.ItemKey.{ItemKey};
+ghost use Rattle.fx_model.specs.Pairs.{put};
+ghost use Rattle.fx_model.specs.PairRuns.{changed_policy_pair};
 
 use fx_base::Memory;
-use fx_model::{ItemKey, ItemMap, PolicyId, PolicyMap};
+use fx_model::{ItemKey, ItemMap, PolicyId, PolicyMap, PolicyPairChange};
 use std::alloc::Global;
 use std::marker::Model;
 
@@ -52,7 +54,17 @@ impl PairIndex {
     }
 
     /// On want of memory the items of the policy are lost.
-    pub fn insert(&mut self, id: &PolicyId, item: &ItemKey) -> Result<(), Memory>
+    pub fn change(&mut self, change: &PolicyPairChange) -> Result<(), Memory>
+        ensures { OnOk result (self.new ≡ put self.old (changed_policy_pair change.now) change.now.on) }
+    {
+        if change.on {
+            self.insert(&change.policy, &change.item)
+        } else {
+            self.remove(&change.policy, &change.item)
+        }
+    }
+
+    fn insert(&mut self, id: &PolicyId, item: &ItemKey) -> Result<(), Memory>
         ensures { OnOk result (self.new ≡ set.insert self.old (id.now, item.now)) }
     {
         let mut items = self
@@ -64,8 +76,7 @@ impl PairIndex {
         Ok(())
     }
 
-    /// On want of memory the items of the policy are lost.
-    pub fn remove(&mut self, id: &PolicyId, item: &ItemKey) -> Result<(), Memory>
+    fn remove(&mut self, id: &PolicyId, item: &ItemKey) -> Result<(), Memory>
         ensures { OnOk result (self.new ≡ set.remove self.old (id.now, item.now)) }
     {
         let mut items = self

@@ -7,16 +7,17 @@
 //! - **Holds** its inputs, and beside them the items of each policy, the policies of each tier, for each item the keys of its
 //!   policies by their places, and what the sink has of endpoints.
 //! - **Definition**: `IsResolved`. In Felix this node is the `PolicyResolver`.
-ghost use Rattle.std.specs.Prelude.{◌≡◌, ◌≤◌, OnOk, true, false, length};
+ghost use Rattle.std.specs.Prelude.{◌≡◌, ◌≤◌, OnOk, length};
 ghost use Rattle.std.specs.FinMap as map;
 ghost use Rattle.fx_base.specs.Set as set;
+ghost use Rattle.fx_model.specs.PairRuns.{IsPairRun, pairs_after};
 ghost use Rattle.fx_resolver.specs.Known.{known_policy};
 ghost use Rattle.fx_resolver.specs.Resolved.{IsResolved, HaveOwnInterfaces};
 
 use crate::known::{KnownEndpoint, KnownPolicy, is_known};
 use crate::state::State;
 use fx_base::{Memory, NameKey, Seq, Text};
-use fx_model::{ItemKey, Policy, PolicyId, Tier, ViewSink};
+use fx_model::{ItemKey, Policy, PolicyId, PolicyPairChange, Tier, ViewSink};
 use std::alloc::Global;
 use std::marker::Model;
 use std::mem;
@@ -174,42 +175,22 @@ impl Resolver {
         Ok(())
     }
 
-    /// The policy applies to the item from now on. Either of them, or both, may be absent.
-    pub fn pair_on<S: ViewSink>(
+    /// Policies come to apply to items, or apply to them no more, in this order. Either of a pair, or both, may be absent. Each
+    /// endpoint is told once, behind all changes.
+    pub fn change_pairs<S: ViewSink>(
         &mut self,
-        id: &PolicyId,
-        item: &ItemKey,
+        changes: &[PolicyPairChange],
         sink: &mut S,
     ) -> Result<(), Memory>
-        requires absent { set.contains self.old.pairs (id.now, item.now) ≡ false }
+        requires run { IsPairRun changes.now self.old.pairs (pairs_after changes.now self.old.pairs) }
         requires resolved { IsResolved self.old (S.endpoints sink.old) }
-        ensures inputs { OnOk result (self.new ≡ record self.old { pairs = set.insert self.old.pairs (id.now, item.now) }) }
+        ensures inputs { OnOk result (self.new ≡ record self.old { pairs = pairs_after changes.now self.old.pairs }) }
         ensures resolved { OnOk result (IsResolved self.new (S.endpoints sink.new)) }
         ensures policies { OnOk result (S.policies sink.new ≡ S.policies sink.old) }
         ensures profiles { OnOk result (S.profiles sink.new ≡ S.profiles sink.old) }
     {
         let mut state = mem::replace(&mut self.state, State::new(self.alloc));
-        state.add_pair(self.alloc, id, item, sink)?;
-        self.state = state;
-        Ok(())
-    }
-
-    /// The policy applies to the item no more.
-    pub fn pair_off<S: ViewSink>(
-        &mut self,
-        id: &PolicyId,
-        item: &ItemKey,
-        sink: &mut S,
-    ) -> Result<(), Memory>
-        requires present { set.contains self.old.pairs (id.now, item.now) ≡ true }
-        requires resolved { IsResolved self.old (S.endpoints sink.old) }
-        ensures inputs { OnOk result (self.new ≡ record self.old { pairs = set.remove self.old.pairs (id.now, item.now) }) }
-        ensures resolved { OnOk result (IsResolved self.new (S.endpoints sink.new)) }
-        ensures policies { OnOk result (S.policies sink.new ≡ S.policies sink.old) }
-        ensures profiles { OnOk result (S.profiles sink.new ≡ S.profiles sink.old) }
-    {
-        let mut state = mem::replace(&mut self.state, State::new(self.alloc));
-        state.remove_pair(self.alloc, id, item, sink)?;
+        state.change_pairs(self.alloc, changes, sink)?;
         self.state = state;
         Ok(())
     }

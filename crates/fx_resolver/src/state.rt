@@ -1,17 +1,19 @@
 //! All that the node holds.
-ghost use Rattle.std.specs.Prelude.{◌≡◌, OnOk, true, false};
+ghost use Rattle.std.specs.Prelude.{◌≡◌, OnOk, not};
 ghost use Rattle.std.specs.FinMap as map;
 ghost use Rattle.fx_base.specs.Set as set;
-ghost use Rattle.fx_resolver.specs.Kept.{IsKeptState};
+ghost use Rattle.fx_model.specs.Pairs.{put};
+ghost use Rattle.fx_model.specs.PairRuns.{IsPairRun, changed_policy_pair, pairs_after};
+ghost use Rattle.fx_resolver.specs.Kept.{IsKeptState, IsKeptStateBut};
 ghost use Rattle.fx_resolver.specs.Resolved.{HaveOwnInterfaces};
 
-use crate::changes::{change_pair, change_policy, put_row, remove_row};
+use crate::changes::{change_policy, move_pair, put_row, remove_row};
 use crate::inputs::Inputs;
 use crate::known::{KnownEndpoint, KnownPolicy};
 use crate::orders::change_order;
-use crate::rows::Rows;
+use crate::rows::{Rows, tell_items};
 use fx_base::{Memory, Text};
-use fx_model::{ItemKey, PolicyId, Tier, TierStand, ViewSink};
+use fx_model::{ItemKey, ItemMap, PolicyId, PolicyPairChange, Tier, TierStand, ViewSink};
 use std::alloc::Global;
 
 /// What the node is told, and what it makes of that.
@@ -165,49 +167,69 @@ impl State {
         Ok(())
     }
 
-    pub fn add_pair<S: ViewSink>(
+    /// Each endpoint whose pairs change is told once, behind all of them.
+    pub fn change_pairs<S: ViewSink>(
         &mut self,
         alloc: Global,
-        id: &PolicyId,
-        item: &ItemKey,
+        changes: &[PolicyPairChange],
         sink: &mut S,
     ) -> Result<(), Memory>
-        requires absent { set.contains self.old.inputs.pairs (id.now, item.now) ≡ false }
+        requires run { IsPairRun changes.now self.old.inputs.pairs (pairs_after changes.now self.old.inputs.pairs) }
         requires kept { IsKeptState self.old }
         requires sink { S.endpoints sink.old ≡ self.old.rows.told }
         ensures inputs { OnOk result (self.new.inputs ≡ record self.old.inputs {
-          pairs = set.insert self.old.inputs.pairs (id.now, item.now);
+          pairs = pairs_after changes.now self.old.inputs.pairs;
         }) }
         ensures kept { OnOk result (IsKeptState self.new) }
         ensures endpoints { OnOk result (S.endpoints sink.new ≡ self.new.rows.told) }
         ensures policies { OnOk result (S.policies sink.new ≡ S.policies sink.old) }
         ensures profiles { OnOk result (S.profiles sink.new ≡ S.profiles sink.old) }
     {
-        change_pair(alloc, &self.inputs, id, item, true, &mut self.rows, sink)?;
-        self.inputs.pairs.insert(id, item)?;
+        let mut touched = ItemMap::new(alloc);
+        self.move_pairs(alloc, changes, &mut touched)?;
+        let items = Some(&touched);
+        tell_items(alloc, &self.inputs.endpoints, items, &mut self.rows, sink)?;
         Ok(())
     }
 
-    pub fn remove_pair<S: ViewSink>(
+    // Items whose lists change are noted.
+    fn move_pairs(
         &mut self,
         alloc: Global,
-        id: &PolicyId,
-        item: &ItemKey,
-        sink: &mut S,
+        changes: &[PolicyPairChange],
+        touched: &mut ItemMap<()>,
     ) -> Result<(), Memory>
-        requires present { set.contains self.old.inputs.pairs (id.now, item.now) ≡ true }
-        requires kept { IsKeptState self.old }
-        requires sink { S.endpoints sink.old ≡ self.old.rows.told }
+        requires run { IsPairRun changes.now self.old.inputs.pairs (pairs_after changes.now self.old.inputs.pairs) }
+        requires kept { IsKeptStateBut (set.contains touched.old) self.old }
         ensures inputs { OnOk result (self.new.inputs ≡ record self.old.inputs {
-          pairs = set.remove self.old.inputs.pairs (id.now, item.now);
+          pairs = pairs_after changes.now self.old.inputs.pairs;
         }) }
-        ensures kept { OnOk result (IsKeptState self.new) }
-        ensures endpoints { OnOk result (S.endpoints sink.new ≡ self.new.rows.told) }
-        ensures policies { OnOk result (S.policies sink.new ≡ S.policies sink.old) }
-        ensures profiles { OnOk result (S.profiles sink.new ≡ S.profiles sink.old) }
+        ensures told { OnOk result (self.new.rows.told ≡ self.old.rows.told) }
+        ensures kept { OnOk result (IsKeptStateBut (set.contains touched.new) self.new) }
     {
-        change_pair(alloc, &self.inputs, id, item, false, &mut self.rows, sink)?;
-        self.inputs.pairs.remove(id, item)?;
+        for change in changes {
+            self.move_pair(alloc, change, touched)?;
+        }
+        Ok(())
+    }
+
+    fn move_pair(
+        &mut self,
+        alloc: Global,
+        change: &PolicyPairChange,
+        touched: &mut ItemMap<()>,
+    ) -> Result<(), Memory>
+        requires pair { set.contains self.old.inputs.pairs (changed_policy_pair change.now) ≡ not change.now.on }
+        requires kept { IsKeptStateBut (set.contains touched.old) self.old }
+        ensures inputs { OnOk result (self.new.inputs ≡ record self.old.inputs {
+          pairs = put self.old.inputs.pairs (changed_policy_pair change.now) change.now.on;
+        }) }
+        ensures told { OnOk result (self.new.rows.told ≡ self.old.rows.told) }
+        ensures kept { OnOk result (IsKeptStateBut (set.contains touched.new) self.new) }
+    {
+        move_pair(alloc, &self.inputs, change, &mut self.rows.lists)?;
+        self.inputs.pairs.change(change)?;
+        touched.insert(change.item.clone()?, ())?;
         Ok(())
     }
 }

@@ -4,7 +4,9 @@ ghost use Rattle.fx_base.specs.Set as set;
 ghost use Rattle.fx_resolver_tests.specs.Benches.{IsBench};
 
 use fx_base::{Memory, NameKey, Seq, Text};
-use fx_model::{ItemKey, Policy, PolicyId, PolicyPairSet, ViewEndpoint, ViewTier};
+use fx_model::{
+    ItemKey, Policy, PolicyId, PolicyPairChange, PolicyPairSet, ViewEndpoint, ViewTier,
+};
 use fx_record::RecordView;
 use fx_resolver::Resolver;
 use fx_selector::Selector;
@@ -147,7 +149,8 @@ impl Bench {
         requires bench { IsBench self.old.node self.old.sink.endpoints self.old.pairs self.old.item }
         ensures { OnOk result (IsBench self.new.node self.new.sink.endpoints self.new.pairs self.new.item) }
     {
-        self.node.pair_on(&pair.0, &pair.1, &mut self.sink)?;
+        let change = changed_pair(true, &pair)?;
+        self.node.change_pairs(&[change], &mut self.sink)?;
         self.pairs.insert(pair)?;
         Ok(())
     }
@@ -157,7 +160,8 @@ impl Bench {
         requires bench { IsBench self.old.node self.old.sink.endpoints self.old.pairs self.old.item }
         ensures { OnOk result (IsBench self.new.node self.new.sink.endpoints self.new.pairs self.new.item) }
     {
-        self.node.pair_off(&pair.0, &pair.1, &mut self.sink)?;
+        let change = changed_pair(false, pair)?;
+        self.node.change_pairs(&[change], &mut self.sink)?;
         self.pairs.remove(pair);
         Ok(())
     }
@@ -183,6 +187,16 @@ impl Bench {
         self.node.remove_endpoint(&self.item, &mut self.sink)?;
         Ok(())
     }
+}
+
+fn changed_pair(on: bool, pair: &(PolicyId, ItemKey)) -> Result<PolicyPairChange, Memory>
+    ensures { IfOk result (λ change. change ≡ record { on = on; policy = pair.now.0; item = pair.now.1 }) }
+{
+    Ok(PolicyPairChange {
+        on,
+        policy: pair.0.clone()?,
+        item: pair.1.clone()?,
+    })
 }
 
 fn policy_id(alloc: Global, number: u8) -> Result<PolicyId, Memory> {

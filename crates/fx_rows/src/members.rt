@@ -13,7 +13,7 @@ pub fn member_text(alloc: Global, member: Member) -> Result<Text, Memory>
 {
     let mut bytes = Vec::new(alloc);
     push_member(&mut bytes, member)?;
-    Ok(Text::from_vec(bytes))
+    Text::from_vec(bytes)
 }
 
 /// `a.b.c.d/len`, or `a.b.c.d,proto:port`.

@@ -18,7 +18,7 @@ pub fn create_text(alloc: Global, name: &SetName) -> Result<Text, Memory>
     bytes.extend_from_slice(name.bytes())?;
     bytes.extend_from_slice(b" ")?;
     bytes.extend_from_slice(type_name(name))?;
-    Ok(Text::from_vec(bytes))
+    Text::from_vec(bytes)
 }
 
 /// The row that adds a member to a set.
@@ -29,7 +29,7 @@ pub fn add_text(alloc: Global, name: &SetName, member: Member) -> Result<Text, M
     bytes.extend_from_slice(name.bytes())?;
     bytes.extend_from_slice(b" ")?;
     push_member(&mut bytes, member)?;
-    Ok(Text::from_vec(bytes))
+    Text::from_vec(bytes)
 }
 
 /// The row that declares a chain.
@@ -39,7 +39,7 @@ pub fn header_text(alloc: Global, chain: &ChainName) -> Result<Text, Memory>
     let mut bytes = Vec::from_slice(alloc, b":")?;
     bytes.extend_from_slice(chain.bytes())?;
     bytes.extend_from_slice(b" - [0:0]")?;
-    Ok(Text::from_vec(bytes))
+    Text::from_vec(bytes)
 }
 
 /// The row of a rule in its chain.
@@ -50,7 +50,7 @@ pub fn chain_rule_text(alloc: Global, chain: &ChainName, rule: &ChainRule) -> Re
     bytes.extend_from_slice(chain.bytes())?;
     bytes.extend_from_slice(b" ")?;
     push_rule(&mut bytes, rule)?;
-    Ok(Text::from_vec(bytes))
+    Text::from_vec(bytes)
 }
 
 /// A rule without its chain: its matches, and what is done.
@@ -59,7 +59,7 @@ pub fn rule_text(alloc: Global, rule: &ChainRule) -> Result<Text, Memory>
 {
     let mut bytes = Vec::new(alloc);
     push_rule(&mut bytes, rule)?;
-    Ok(Text::from_vec(bytes))
+    Text::from_vec(bytes)
 }
 
 fn push_rule(line: &mut Vec<u8>, rule: &ChainRule) -> Result<(), Memory>

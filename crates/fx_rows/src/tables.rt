@@ -65,13 +65,13 @@ fn push_members(
 fn create_line(alloc: Global, name: &SetName) -> Result<Text, Memory>
     ensures { IfOk result (λ text. text ≡ create_line name.now) }
 {
-    ended(create_text(alloc, name)?)
+    ended(alloc, &create_text(alloc, name)?)
 }
 
 fn add_line(alloc: Global, name: &SetName, member: Member) -> Result<Text, Memory>
     ensures { IfOk result (λ text. text ≡ add_line name.now member) }
 {
-    ended(add_text(alloc, name, member)?)
+    ended(alloc, &add_text(alloc, name, member)?)
 }
 
 fn push_headers(
@@ -90,7 +90,7 @@ fn push_headers(
 fn header_line(alloc: Global, chain: &ChainName) -> Result<Text, Memory>
     ensures { IfOk result (λ text. text ≡ header_line chain.now) }
 {
-    ended(header_text(alloc, chain)?)
+    ended(alloc, &header_text(alloc, chain)?)
 }
 
 fn push_chains(
@@ -123,14 +123,14 @@ fn push_rules(
 fn rule_line(alloc: Global, chain: &ChainName, rule: &ChainRule) -> Result<Text, Memory>
     ensures { IfOk result (λ text. text ≡ rule_line chain.now rule.now) }
 {
-    ended(chain_rule_text(alloc, chain, rule)?)
+    ended(alloc, &chain_rule_text(alloc, chain, rule)?)
 }
 
 // With a newline behind it.
-fn ended(text: Text) -> Result<Text, Memory>
-    ensures { IfOk result (λ line. line ≡ text ++ codes "\n") }
+fn ended(alloc: Global, text: &Text) -> Result<Text, Memory>
+    ensures { IfOk result (λ line. line ≡ text.now ++ codes "\n") }
 {
-    let mut bytes = text.into_vec();
+    let mut bytes = Vec::from_slice(alloc, text.bytes())?;
     bytes.extend_from_slice(b"\n")?;
-    Ok(Text::from_vec(bytes))
+    Text::from_vec(bytes)
 }

@@ -89,5 +89,5 @@ fn answer_text(alloc: Global, number: u64, is_barred: bool) -> Result<Text, Memo
     let mut buffer = Buffer::new();
     bytes.extend_from_slice(buffer.format(number).as_bytes())?;
     bytes.extend_from_slice(b"\n")?;
-    Ok(Text::from_vec(bytes))
+    Text::from_vec(bytes)
 }

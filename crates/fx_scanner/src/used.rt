@@ -57,7 +57,7 @@ pub fn use_key(alloc: Global, set: &SetUse) -> Result<Text, Memory>
     };
     let mut key = Vec::from_slice(alloc, kind)?;
     key.extend_from_slice(set.text.bytes())?;
-    Ok(Text::from_vec(key))
+    Text::from_vec(key)
 }
 
 fn same_use(a: &SetUse, b: &SetUse) -> bool

@@ -18,7 +18,6 @@ pub mod Parsing
 pub mod Sets
 pub mod Spelling
 pub mod Places
-pub mod LabelEntries
 pub mod LabelPlaces
 pub mod SameTree
 pub mod Others

@@ -1,4 +1,5 @@
 //! Why and where reading stops.
+use fx_base::Memory;
 use std::alloc::{AllocError, AllocFailed};
 
 /// Why a text is no selector. A place is counted in bytes from 0.
@@ -47,6 +48,17 @@ impl<T: Drop> From<AllocFailed<T>> for ParseError {
     ghost from_gives = { λ _ e. e ≡ Memory };
 
     fn from(_refused: AllocFailed<T>) -> Self {
+        ParseError::Memory
+    }
+}
+
+impl From<Memory> for ParseError {
+    ghost use Rattle.std.specs.Prelude.{◌≡◌};
+    ghost use Rattle.fx_selector.specs.declared.fault.ParseError.TheVariants as reasons;
+
+    ghost from_gives = { λ _ e. e ≡ reasons.Memory };
+
+    fn from(_refused: Memory) -> Self {
         ParseError::Memory
     }
 }

@@ -7,7 +7,6 @@ ghost use Rattle.std.specs.Cmp.{on_per, and_per, on_equiv, and_equiv, partial_eq
 ghost use Rattle.std.specs.Ordering.{nat_cmp};
 ghost use Rattle.std.specs.Cmp.Lexicographic.{slice_cmp, pointwise, lists_per, lists_equiv, nat_list_eq_equiv};
 ghost use Rattle.fx_base.specs.Extended.{extended};
-ghost use Rattle.fx_base.specs.Keyed.{keyed};
 ghost use Rattle.fx_base.specs.Same.{same_bytes, same_finite};
 ghost use Rattle.fx_selector.specs.LabelPlaces.{Ascends, StandsAt, BelongsAt};
 ghost use Rattle.fx_selector.specs.Prefixed.{prefixed};
@@ -19,7 +18,7 @@ use std::marker::Model;
 use std::slice::Iter;
 
 /// A label: its key and its value.
-type Label = (Vec<u8>, Text);
+type Label = (Text, Text);
 
 /// Label values by their keys, both texts of any bytes.
 ///
@@ -36,14 +35,13 @@ impl Model for Labels {
     ghost use Rattle.std.specs.Cmp.Lexicographic.{slice_cmp};
     ghost use Rattle.std.specs.FinMap as map;
     ghost use Rattle.std.specs.Coded.{coded_ℕ, coded_list};
-    ghost use Rattle.fx_base.specs.Keyed.{keyed};
     ghost use Rattle.fx_selector.specs.LabelPlaces.{Ascends};
 
     ghost Value = { map.FinMap (slice_cmp nat_cmp) (List ℕ) };
 
     ghost coded = { map.code (coded_list coded_ℕ) (coded_list coded_ℕ) };
 
-    ghost view = { λ a. map.from_entries (keyed (λ k. k.items) a.held.items) };
+    ghost view = { λ a. map.from_entries a.held.items };
 
     ghost invariant = { λ a. Ascends a.held.items };
 }
@@ -62,13 +60,19 @@ impl Labels {
     pub fn put(&mut self, key: &[u8], value: &[u8]) -> Result<(), Memory>
         ensures { OnOk result (self.new ≡ map.insert self.old key.now value.now) }
     {
+        let key = Text::new(self.alloc, key)?;
         let value = Text::new(self.alloc, value)?;
-        match place(&self.held, key) {
+        self.put_text(key, value)?;
+        Ok(())
+    }
+
+    /// Sets the value at a key, both moved in. After want of memory the labels are not used again.
+    fn put_text(&mut self, key: Text, value: Text) -> Result<(), Memory>
+        ensures { OnOk result (self.new ≡ map.insert self.old key value) }
+    {
+        match place(&self.held, key.bytes()) {
             Ok(at) => self.held[at].1 = value,
-            Err(at) => {
-                let key = Vec::from_slice(self.alloc, key)?;
-                self.held.insert(at, (key, value))?;
-            }
+            Err(at) => self.held.insert(at, (key, value))?,
         }
         Ok(())
     }
@@ -77,8 +81,9 @@ impl Labels {
     pub fn put_all(&mut self, labels: &Labels) -> Result<(), Memory>
         ensures { OnOk result (self.new ≡ extended self.old (map.entries labels.now)) }
     {
+        self.held.reserve_exact(labels.held.len())?;
         for (key, value) in labels.held.iter() {
-            self.put(key, value.bytes())?;
+            self.put_text(key.clone()?, value.clone()?)?;
         }
         Ok(())
     }
@@ -89,15 +94,15 @@ impl Labels {
     {
         let mut labels = Labels::new(self.alloc);
         for (key, value) in self.held.iter() {
-            let key = with_prefix(self.alloc, prefix, key.as_slice())?;
-            labels.put(key.as_slice(), value.bytes())?;
+            let key = with_prefix(self.alloc, prefix, key.bytes())?;
+            labels.put_text(key, value.clone()?)?;
         }
         Ok(labels)
     }
 
     /// The labels, by ascending keys.
-    pub fn iter(&self) -> Iter<'_, (Vec<u8>, Text)>
-        ensures { keyed (λ k. k.items) (iter_rest result) ≡ map.entries self.now }
+    pub fn iter(&self) -> Iter<'_, (Text, Text)>
+        ensures { iter_rest result ≡ map.entries self.now }
     {
         self.held.iter()
     }
@@ -120,17 +125,17 @@ fn place(labels: &[Label], key: &[u8]) -> Result<usize, usize>
 {
     labels.binary_search_by(
         |label| -> Ordering
-            ensures { result ≡ slice_cmp nat_cmp label.now.0.items key.entry.now }
-        { label.0.as_slice().cmp(key) },
+            ensures { result ≡ slice_cmp nat_cmp label.now.0 key.entry.now }
+        { label.0.bytes().cmp(key) },
     )
 }
 
-fn with_prefix(alloc: Global, prefix: &[u8], key: &[u8]) -> Result<Vec<u8>, Memory>
-    ensures { IfOk result (λ whole. whole.items ≡ prefix.now ++ key.now) }
+fn with_prefix(alloc: Global, prefix: &[u8], key: &[u8]) -> Result<Text, Memory>
+    ensures { IfOk result (λ whole. whole ≡ prefix.now ++ key.now) }
 {
     let mut whole = Vec::from_slice(alloc, prefix)?;
     whole.extend_from_slice(key)?;
-    Ok(whole)
+    Text::from_vec(whole)
 }
 
 impl Clone for Labels {

@@ -51,5 +51,5 @@ fn prefixed(alloc: Global, prefix: &[u8], key: &Text) -> Result<Text, Memory>
 {
     let mut bytes = Vec::from_slice(alloc, prefix)?;
     bytes.extend_from_slice(key.bytes())?;
-    Ok(Text::from_vec(bytes))
+    Text::from_vec(bytes)
 }

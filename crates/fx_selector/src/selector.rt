@@ -94,7 +94,7 @@ impl Selector {
     {
         let mut out = Vec::new(alloc);
         canonical::write_node(&mut out, &self.node)?;
-        Ok(Text::from_vec(out))
+        Ok(Text::from_vec(out)?)
     }
 
     /// The selector of namespaces as one of endpoints.

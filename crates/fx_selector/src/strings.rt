@@ -26,7 +26,7 @@ fn closed_of<'a>(alloc: Global, quote: u8, rest: &'a [u8]) -> Result<(Text, &'a 
     let mut after = rest;
     while let Some((c, more)) = after.split_first() {
         if *c == quote {
-            return Ok((Text::from_vec(bytes), past_blanks(more)));
+            return Ok((Text::from_vec(bytes)?, past_blanks(more)));
         }
         if !is_text_byte(quote, *c) {
             break;

@@ -72,7 +72,7 @@ pub fn word_of<'a>(
     if bytes.is_empty() {
         return Err(ParseError::At(Fault::Unexpected, after.len()));
     }
-    Ok((Text::from_vec(bytes), after))
+    Ok((Text::from_vec(bytes)?, after))
 }
 
 pub fn begins(byte: u8, rest: &[u8]) -> bool

@@ -24,7 +24,7 @@ pub fn full_name(alloc: Global, ns: &Text, name: &Text) -> Result<Text, Memory>
     let mut text = Vec::from_slice(alloc, ns.bytes())?;
     text.extend_from_slice(b"/")?;
     text.extend_from_slice(name.bytes())?;
-    Ok(Text::from_vec(text))
+    Text::from_vec(text)
 }
 
 // ---- the labels of other resources

@@ -27,7 +27,7 @@ fn argument<E: Env>(alloc: Global, environment: &E, index: usize) -> Result<Opti
         match environment.arg(index, bytes.as_mut_slice()) {
             Ok(len) => {
                 bytes.truncate(len);
-                return Ok(Some(Text::from_vec(bytes)));
+                return Ok(Some(Text::from_vec(bytes)?));
             }
             Err(FillError::TooLong) => size = size.saturating_mul(2),
             Err(FillError::NotPresent) => return Ok(None),

@@ -309,7 +309,7 @@ fn set_claim<R: DigestRule, F: DigestFunction<R> + Drop>(
     holder.extend_from_slice(set.text.bytes())?;
     Ok(Claim {
         name: KernelName::Set(set.name(namer)),
-        holder: Text::from_vec(holder),
+        holder: Text::from_vec(holder)?,
     })
 }
 
@@ -338,7 +338,7 @@ fn policy_holder(alloc: Global, id: &Text) -> Result<Text, Memory>
 {
     let mut text = Vec::from_slice(alloc, b"policy ")?;
     text.extend_from_slice(id.bytes())?;
-    Ok(Text::from_vec(text))
+    Text::from_vec(text)
 }
 
 // `profile NAME`
@@ -347,7 +347,7 @@ fn profile_holder(alloc: Global, name: &Text) -> Result<Text, Memory>
 {
     let mut text = Vec::from_slice(alloc, b"profile ")?;
     text.extend_from_slice(name.bytes())?;
-    Ok(Text::from_vec(text))
+    Text::from_vec(text)
 }
 
 // `endpoint NS/NAME`
@@ -360,7 +360,7 @@ fn item_holder(alloc: Global, key: &ItemKey) -> Result<Text, Memory>
         ItemKey::NetSet { ns: Some(ns), name } => push_pair(ns, name, &mut text)?,
         ItemKey::NetSet { ns: None, name } => text.extend_from_slice(name.bytes())?,
     }
-    Ok(Text::from_vec(text))
+    Text::from_vec(text)
 }
 
 // `NS/NAME`

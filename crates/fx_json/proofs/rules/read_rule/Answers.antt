@@ -20,6 +20,19 @@ unfolding rule_fields
 refused_http form path d a asked source destination told acts asks from to (inl memory) = inl memory
 refused_http form path d a asked source destination told acts asks from to (inr fault) = inr (rw (acts, asks, from, to, fault) refl)
 
+-- where all before the destination is read, its fault is the rule's
+refused_destination : (form : RuleForm) (path : List ℕ) (d : Data) (a : Action) (asked : ReadProtocols) (source : ReadSide) (told : ReadFault) → required (action (may_pass form.place)) path (codes "action") d ≡ Ok a → protocols path d ≡ Ok asked → side_at form asked.protocol path (codes "source") d ≡ Ok source → IsReadFault (side_at form asked.protocol path (codes "destination") d) told → IsReadFault (rule_fields form path d) told
+unfolding rule_fields
+refused_destination form path d a asked source told acts asks from (inl memory) = inl memory
+refused_destination form path d a asked source told acts asks from (inr fault) = inr (rw (acts, asks, from, fault) refl)
+
+pub returns-in_err-destination : goal.returns-in_err-destination
+returns-in_err-destination c =
+    let acts : required (action (may_pass c.args.form.now.place)) (text_of c.args.path.now) (codes "action") (view c.args.rule.now) ≡ Ok c.in_ok-action.action = rw (sym c.may_pass-may_pass.ensures) c.in_ok-action.ensures in
+    let told = err_from_is_err_and c.from_residual-in_err-destination.result c.from_residual-in_err-destination.ensures.1 in
+    rw (told.1, told.2)
+    (refused_destination c.args.form.now (text_of c.args.path.now) (view c.args.rule.now) c.in_ok-action.action c.in_ok-asked.asked c.in_ok-source.source _ acts c.in_ok-asked.ensures c.in_ok-source.ensures c.in_err-destination.ensures)
+
 pub returns-in_err-optional : goal.returns-in_err-optional
 returns-in_err-optional c =
     let acts : required (action (may_pass c.args.form.now.place)) (text_of c.args.path.now) (codes "action") (view c.args.rule.now) ≡ Ok c.in_ok-action.action = rw (sym c.may_pass-may_pass.ensures) c.in_ok-action.ensures in

@@ -1,9 +1,7 @@
 use Rattle.std.specs.Slice.Iter.{iter_rest}
 use Rattle.std.proofs.Common.{◌≡◌, ℕ, ◌&&◌, not, cond, List, Some, ap, ◌∙◌, subst}
 use Rattle.std.specs.FinMap as map
-use Rattle.fx_base.specs.Keyed.{keyed}
 use Rattle.fx_model.specs.declared.ids.ItemKey.{ItemKey}
-use Rattle.fx_base.specs.Grouped.{same_text}
 use Rattle.fx_label_rows.specs.Labelled.{same_item, has_both, has_entry, has_label}
 use Rattle.fx_label_rows.proofs.ItemLemmas.{entries_label}
 use Rattle.fx_label_rows.proofs.Exchanging.{other_next}
@@ -13,14 +11,13 @@ pub loop-key-init : goal.loop-key-init
 loop-key-init c = λ k p.
     let there = has_both (map.get c.args.by_key.now k) p in
     let lacks = not (has_label (Some c.args.others.now) k p.0) in
-    ap (λ es. cond ((has_entry es k p.0 && lacks) && same_item p.1 c.args.item.now) c.args.standing there) (ap (λ it. keyed (λ k. k.items) (iter_rest it)) c.into_iter-key-iterator.ensures.into_iter_gives ∙ c.iter-key-items.ensures)
+    ap (λ es. cond ((has_entry es k p.0 && lacks) && same_item p.1 c.args.item.now) c.args.standing there) (ap iter_rest c.into_iter-key-iterator.ensures.into_iter_gives ∙ c.iter-key-items.ensures)
     ∙ ap (λ b. cond ((b && lacks) && same_item p.1 c.args.item.now) c.args.standing there) (entries_label c.args.labels.now k p.0)
 
 pub loop-key-preserved : goal.loop-key-preserved
 loop-key-preserved c =
     let item = c.args.item.now in
     let others = c.args.others.now in
-    let whole = subst (λ es. (k : List ℕ) (p : List ℕ × ItemKey) → cond ((has_entry (keyed (λ k. k.items) es) k p.0 && not (has_label (Some others) k p.0)) && same_item p.1 item) c.args.standing (has_both (map.get c.loop-key.by_key k) p) ≡ cond ((has_label (Some c.args.labels.now) k p.0 && not (has_label (Some others) k p.0)) && same_item p.1 item) c.args.standing (has_both (map.get c.args.by_key.now k) p)) c.in-Some.ensures.steps c.loop-key.invariant in
-    other_next c.loop-key.by_key c.change_unless.new.by_key c.in-Some.field-0.now.0.items c.in-Some.field-0.now.1 others item c.args.standing _
-    (λ k p. cond ((has_label (Some c.args.labels.now) k p.0 && not (has_label (Some others) k p.0)) && same_item p.1 item) c.args.standing (has_both (map.get c.args.by_key.now k) p)) whole
-    (λ k p. c.in_ok-change_unless.ensures k p ∙ ap (λ q. cond (((same_text k q && same_text p.0 c.in-Some.field-0.now.1) && not (has_label (Some others) k p.0)) && same_item p.1 item) c.args.standing (has_both (map.get c.loop-key.by_key k) p)) c.as_slice.ensures.value)
+    let whole = subst (λ es. (k : List ℕ) (p : List ℕ × ItemKey) → cond ((has_entry es k p.0 && not (has_label (Some others) k p.0)) && same_item p.1 item) c.args.standing (has_both (map.get c.loop-key.by_key k) p) ≡ cond ((has_label (Some c.args.labels.now) k p.0 && not (has_label (Some others) k p.0)) && same_item p.1 item) c.args.standing (has_both (map.get c.args.by_key.now k) p)) c.in-Some.ensures.steps c.loop-key.invariant in
+    other_next c.loop-key.by_key c.change_unless.new.by_key c.in-Some.field-0.now.0 c.in-Some.field-0.now.1 others item c.args.standing _
+    (λ k p. cond ((has_label (Some c.args.labels.now) k p.0 && not (has_label (Some others) k p.0)) && same_item p.1 item) c.args.standing (has_both (map.get c.args.by_key.now k) p)) whole c.in_ok-change_unless.ensures

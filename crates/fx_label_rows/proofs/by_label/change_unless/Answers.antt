@@ -1,4 +1,4 @@
-use Rattle.std.proofs.Common.{true, false, cond, ◌&&◌, Some, sym, ap, ◌∙◌}
+use Rattle.std.proofs.Common.{true, false, ◌&&◌, Some, sym, ap, ◌∙◌}
 use Rattle.std.specs.FinMap as map
 use Rattle.fx_base.specs.Grouped.{same_text}
 use Rattle.fx_label_rows.specs.Labelled.{same_item, has_both, has_label}
@@ -11,7 +11,7 @@ returns-then-has_value c = λ k p.
     let value = c.args.value.now in
     let others = c.args.others.now in
     unless_same (same_text k key && same_text p.0 value) (has_label (Some others) k p.0) (same_item p.1 c.args.item.now) c.args.standing (has_both (map.get c.args.by_key.now k) p)
-    (λ e. at_one others k key p.0 value true (sym c.has_value.ensures ∙ c.if-has_value.true) e)
+    (λ e. at_one others k key p.0 value true (ap (λ q. has_label (Some others) q value) (sym c.bytes.ensures) ∙ sym c.has_value.ensures ∙ c.if-has_value.true) e)
 
 pub returns : goal.returns
 returns c = λ k p.
@@ -21,6 +21,5 @@ returns c = λ k p.
     let item = c.args.item.now in
     let there = has_both (map.get c.args.by_key.now k) p in
     c.in_ok-change_one.ensures k p
-    ∙ ap (λ q. cond (same_text k q && (same_text p.0 value && same_item p.1 item)) c.args.standing there) c.in_ok-key.ensures
     ∙ unless_other (same_text k key) (same_text p.0 value) (has_label (Some others) k p.0) (same_item p.1 item) c.args.standing there
-    (λ e. at_one others k key p.0 value false (sym c.has_value.ensures ∙ c.if-has_value.false) e)
+    (λ e. at_one others k key p.0 value false (ap (λ q. has_label (Some others) q value) (sym c.bytes.ensures) ∙ sym c.has_value.ensures ∙ c.if-has_value.false) e)

@@ -1,7 +1,7 @@
 use Rattle.std.proofs.Common.{cond, ◌&&◌, unwrap_or, ap, ◌∙◌}
 use Rattle.std.specs.FinMap as map
 use Rattle.fx_label_rows.specs.TextGroups.{has_pair}
-use Rattle.fx_base.specs.Grouped.{has_key, same_text}
+use Rattle.fx_base.specs.Grouped.{same_text}
 use Rattle.fx_label_rows.proofs.TextLemmas.{row_put, rows_found}
 use Rattle.std.specs.Cmp.Lexicographic.{nat_list_cmp_total}
 use Rattle.fx_base.proofs.KeyCases.{bytes_exact}
@@ -13,9 +13,8 @@ returns c = λ k p.
     let key = c.args.key.now in
     let value = c.args.value.now in
     let text = c.args.text.now in
-    let rows = c.unwrap_or-rows.ensures ∙ (λ j. unwrap_or ((c.remove.ensures.before ∙ ap (map.get m) c.bytes.ensures) j) (c.new.ensures j)) in
+    let rows = c.unwrap_or-rows.ensures ∙ (λ j. unwrap_or (c.remove.ensures.before j) (c.new.ensures j)) in
     row_put nat_list_cmp_total bytes_exact has_pair (λ q. same_text q.0 value && same_text q.1 text) c.args.standing m key c.change.new.self c.insert.new.self
-    (c.in_ok-insert.ensures.ok ∙ (λ j. map.insert ((c.remove.ensures.removed ∙ ap (map.remove m) c.bytes.ensures) j) (c.in_ok-clone.ensures.cases j) c.change.new.self))
+    (c.in_ok-insert.ensures.ok ∙ (λ j. map.insert (c.remove.ensures.removed j) (c.in_ok-clone.ensures.cases j) c.change.new.self))
     (λ q. c.in_ok-change.ensures q.0 q.1
-    ∙ ap (λ v. cond (same_text q.0 v && same_text q.1 text) c.args.standing (has_key (map.get c.unwrap_or-rows.result q.0) q.1)) c.bytes-2.ensures
     ∙ ap (cond (same_text q.0 value && same_text q.1 text) c.args.standing) (rows_found (map.get m key) c.unwrap_or-rows.result q rows)) k p

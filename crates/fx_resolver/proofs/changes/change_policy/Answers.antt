@@ -1,4 +1,4 @@
-use Rattle.std.proofs.Common.{◌≡◌, cond, ap, sym, ◌∙◌}
+use Rattle.std.proofs.Common.{◌≡◌, cond, ap, ◌∙◌}
 use Rattle.std.specs.Option.{option_copied}
 use Rattle.std.specs.FinMap as map
 use Rattle.fx_model.specs.declared.ids.ItemKey.{ItemKey}

@@ -1,4 +1,4 @@
-use Rattle.std.proofs.Common.{◌≡◌, ap, sym, ◌∙◌}
+use Rattle.std.proofs.Common.{ap, sym, ◌∙◌}
 use Rattle.std.specs.FinMap as map
 use Rattle.fx_resolver.specs.Lists.{row_in}
 use Rattle.fx_resolver.specs.Rows.{if_other, without_row}

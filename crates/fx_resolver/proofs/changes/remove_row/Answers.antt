@@ -1,5 +1,4 @@
-use Rattle.std.proofs.Common.{IsSome, ap, sym, ◌∙◌}
-use Rattle.std.specs.FinMap as map
+use Rattle.std.proofs.Common.{ap, sym, ◌∙◌}
 use Rattle.fx_resolver.specs.Lists.{row_in}
 use Rattle.fx_resolver.specs.Rows.{without_row}
 use Rattle.fx_resolver.proofs.EndpointLemmas.{row_is}

@@ -1,8 +1,7 @@
-use Rattle.std.proofs.Common.{◌≡◌, unwrap_or, cond, ap, sym, ◌∙◌}
+use Rattle.std.proofs.Common.{◌≡◌, unwrap_or, cond, ap, ◌∙◌}
 use Rattle.std.specs.Option.{option_copied}
 use Rattle.std.specs.FinMap as map
 use Rattle.fx_model.proofs.Orders.{item_total}
-use Rattle.fx_resolver.specs.declared.lists.ItemLists.{ItemLists}
 use Rattle.fx_resolver.specs.Indexes.{same_item}
 use Rattle.fx_resolver.specs.Lists.{item_lists, moved, without, with_policy}
 use Rattle.fx_base.proofs.Keyed.{get_removed}

@@ -1,4 +1,4 @@
-use Rattle.std.proofs.Common.{◌≡◌, ap, sym, ◌∙◌}
+use Rattle.std.proofs.Common.{ap, sym, ◌∙◌}
 use Rattle.fx_model.specs.SamePlaces.{same_stand}
 use Rattle.fx_model.specs.TierOrder.{tier_stand}
 use Rattle.fx_resolver.proofs.Keeping.{order_same, order_none, order_untold, order_kept}

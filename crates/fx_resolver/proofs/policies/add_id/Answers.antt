@@ -1,4 +1,4 @@
-use Rattle.std.proofs.Common.{unwrap_or, ap, ◌∙◌}
+use Rattle.std.proofs.Common.{unwrap_or, ◌∙◌}
 use Rattle.std.specs.Cmp.Lexicographic.{nat_list_cmp_total}
 use Rattle.std.specs.FinMap as map
 use Rattle.fx_base.specs.Set as set

@@ -1,4 +1,4 @@
-use Rattle.std.proofs.Common.{◌≡◌, refl, ap, sym, ◌∙◌, subst}
+use Rattle.std.proofs.Common.{refl, ap, sym, ◌∙◌, subst}
 use Rattle.std.specs.FinMap as map
 use Rattle.fx_resolver.specs.Lists.{row_in}
 use Rattle.fx_resolver.specs.Rows.{IsToldBut, with_row}

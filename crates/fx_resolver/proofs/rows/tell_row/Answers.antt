@@ -1,7 +1,6 @@
 use Rattle.std.proofs.Common.{◌≡◌, sym, ◌∙◌}
 use Rattle.std.specs.FinMap as map
 use Rattle.fx_base.proofs.AtKey.{insert_same_bytes}
-use Rattle.fx_model.specs.declared.view.ViewEndpoint.{ViewEndpoint}
 use Rattle.fx_resolver.proofs.rows.tell_row.Goals as goal
 
 pub returns-then-is_told-clause-told : goal.returns-then-is_told-clause-told

@@ -1,7 +1,7 @@
 use Rattle.std.proofs.Common.{false, refl, ap, ◌∙◌}
 use Rattle.fx_base.specs.Set as set
 use Rattle.fx_model.specs.SameIds.{copies_item, copies_policy_id}
-use Rattle.fx_graph_rules.specs.declared.active_log.PolicyPairChange.{PolicyPairChange}
+use Rattle.fx_model.specs.declared.policy_pairs.PolicyPairChange.{PolicyPairChange}
 use Rattle.fx_graph_rules.proofs.ActiveChanges.{pairs_changed}
 use Rattle.fx_graph_rules.proofs.Runs.{policy_pushed}
 use Rattle.fx_graph_rules.proofs.active_log.ActiveLogActiveSink.pair_off.Goals as goal

@@ -5,8 +5,8 @@ use Rattle.fx_model.specs.SameIds.{copies_item, copies_policy_id}
 use Rattle.fx_model.specs.declared.ids.ItemKey.{ItemKey}
 use Rattle.fx_model.specs.declared.ids.PolicyId.{PolicyId}
 use Rattle.fx_model.proofs.Orders.{policy_pairs_total, exact_policy_pair}
-use Rattle.fx_graph_rules.specs.Run.{IsPairRun}
-use Rattle.fx_graph_rules.specs.declared.active_log.PolicyPairChange.{PolicyPairChange}
+use Rattle.fx_model.specs.PairRuns.{IsPairRun}
+use Rattle.fx_model.specs.declared.policy_pairs.PolicyPairChange.{PolicyPairChange}
 use Rattle.fx_graph_rules.proofs.ActiveChanges.{pairs_changed}
 use Rattle.fx_graph_rules.proofs.Runs.{policy_pushed}
 use Rattle.fx_graph_rules.proofs.active_log.ActiveLogActiveSink.pair_on.Goals as goal
@@ -32,3 +32,6 @@ invariant_of-self-in-Err g c =
     pairs_changed g.K.ActiveStart.told_then c.self.inside.logged (record c.pair_on.new.self { pairs = c.remove.new.self }) c.self.invariant c.push.new.self
     (ap (λ t. t.policies) c.in_ok-pair_on.ensures.ok) (ap (λ t. t.profiles) c.in_ok-pair_on.ensures.ok)
     (subst (λ es. IsPairRun es g.K.ActiveStart.told_then.pairs c.remove.new.self) (sym c.in-Err.ensures.err) (subst (IsPairRun c.self.inside.logged.pairs g.K.ActiveStart.told_then.pairs) (sym e) c.self.invariant.pairs))
+
+pub returns-in-Ok-clause-pairs : goal.returns-in-Ok-clause-pairs
+returns-in-Ok-clause-pairs g c = ap (λ t. t.pairs) c.in_ok-pair_on.ensures.ok ∙ ap (λ v. set.insert v.told.pairs (c.args.id.now, c.args.item.now)) c.self.view_is

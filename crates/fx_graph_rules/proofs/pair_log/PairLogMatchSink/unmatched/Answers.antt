@@ -13,3 +13,6 @@ invariant_of-self-2 g c =
     (ap (λ v. set.contains v.0 (c.args.selector.now, c.args.item.now)) c.self.view_is ∙ c.requires)
     c.in_ok-push.ensures.ok
     (c.remove.ensures ∙ (λ j. set.remove c.self.inside.pairs (c.in_ok-clone-3.ensures.cases j, copies_item _ _ c.in_ok-clone-4.ensures.cases j)))
+
+pub returns : goal.returns
+returns g c = c.remove.ensures ∙ (λ j. set.remove (c.self.view_is j).0 (c.in_ok-clone-3.ensures.cases j, copies_item _ _ c.in_ok-clone-4.ensures.cases j))

@@ -23,6 +23,6 @@ returns c = λ k t.
     let text = c.args.text.now in
     let texts = c.unwrap_or-texts.ensures ∙ (λ j. unwrap_or (c.remove.ensures.before j) (c.new.ensures j)) in
     row_put nat_list_cmp_total bytes_exact has_key (λ q. same_text q text) c.args.standing m key c.set_text.new.texts c.insert.new.self
-    (c.in_ok-insert.ensures.ok ∙ (λ j. map.insert (c.remove.ensures.removed j) (c.in_ok-new.ensures j) c.set_text.new.texts))
+    (c.in_ok-insert.ensures.ok ∙ (λ j. map.insert (c.remove.ensures.removed j) (c.in_ok-clone.ensures.cases j) c.set_text.new.texts))
     (λ q. c.in_ok-set_text.ensures q ∙ ap (cond (same_text q text) c.args.standing) (texts_found (map.get m key) c.unwrap_or-texts.result q texts)) k t
     ∙ ap (λ n. cond (same_text k key && same_text t text) c.args.standing (has_key (map.get n k) t)) c.self.view_is

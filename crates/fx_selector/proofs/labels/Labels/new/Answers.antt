@@ -1,4 +1,3 @@
-use Rattle.std.proofs.Common.{refl}
 use Rattle.fx_selector.proofs.LabelPlaces.{none_ascend}
 use Rattle.fx_selector.proofs.labels.Labels.new.Goals as goal
 
