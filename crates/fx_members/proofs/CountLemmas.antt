@@ -23,10 +23,10 @@ pub member_total : IsTotalOrder member_cmp.cmp-value.it
 member_total = member_laws.total-law
 
 pub place_total : IsTotalOrder place_cmp
-place_total = then_total (on_total (λ (p : List ℕ × Member). p.0) nat_list_cmp_total) (on_total (λ (p : List ℕ × Member). p.1) member_laws.total-law)
+place_total = then_total (on_total (λ (p : Member × List ℕ). p.0) member_laws.total-law) (on_total (λ (p : Member × List ℕ). p.1) nat_list_cmp_total)
 
 pub exact_place : IsAntisymmetric place_cmp
-exact_place = exact_pairs (slice_cmp nat_cmp) member_cmp.cmp-value.it bytes_exact exact_member
+exact_place = exact_pairs member_cmp.cmp-value.it (slice_cmp nat_cmp) exact_member bytes_exact
 
 -- a place is that of its name and its member
 pub place_same : (name : List ℕ) (member : Member) (q : List ℕ) (m : Member) → is_place name member q m ≡ true → (q ≡ name) × (m ≡ member)
@@ -36,6 +36,17 @@ place_same name member q m h =
 
 own_place : (name : List ℕ) (member : Member) → is_place name member name member ≡ true
 own_place name member = λ j. own_key nat_list_cmp_total name j && own_key member_total member j
+
+swapped : (a b : Bool) → (a && b) ≡ (b && a)
+swapped true true = refl
+swapped true false = refl
+swapped false true = refl
+swapped false false = refl
+
+-- places are told apart as their members and names are
+tied_place : (name : List ℕ) (member : Member) (q : List ℕ) (m : Member) → eq_by_cmp place_cmp (m, q) (member, name) ≡ is_place name member q m
+tied_place name member q m =
+    tied_pair (member_cmp.cmp-value.it m member) (slice_cmp nat_cmp q name) ∙ swapped (same_member m member) (eq_by_cmp (slice_cmp nat_cmp) q name)
 
 -- nothing more or less
 pub unmoved : (more : Bool) (n : ℕ) → shifted more 0 n ≡ n
@@ -47,34 +58,34 @@ by_place more true x n h = ap (shifted more 1) h
 by_place more false x n h = sym (unmoved more n)
 
 module _ (counts : Counts) (name : List ℕ) (member : Member) where
-  count_insert : (x : ℕ) (q : List ℕ) (m : Member) → count_at (map.insert counts (name, member) x) q m ≡ cond (is_place name member q m) x (count_at counts q m)
+  count_insert : (x : ℕ) (q : List ℕ) (m : Member) → count_at (map.insert counts (member, name) x) q m ≡ cond (is_place name member q m) x (count_at counts q m)
   count_insert x q m =
-      ap (λ o. unwrap_or o 0) (map.get-insert place_total counts (name, member) x (q, m))
-      ∙ either (eq_by_cmp place_cmp (q, m) (name, member)) (Some x) (map.get counts (q, m))
-      ∙ ap (λ b. cond b x (count_at counts q m)) (tied_pair (slice_cmp nat_cmp q name) (member_cmp.cmp-value.it m member))
+      ap (λ o. unwrap_or o 0) (map.get-insert place_total counts (member, name) x (m, q))
+      ∙ either (eq_by_cmp place_cmp (m, q) (member, name)) (Some x) (map.get counts (m, q))
+      ∙ ap (λ b. cond b x (count_at counts q m)) (tied_place name member q m)
 
-  count_remove : (q : List ℕ) (m : Member) → count_at (map.remove counts (name, member)) q m ≡ cond (is_place name member q m) 0 (count_at counts q m)
+  count_remove : (q : List ℕ) (m : Member) → count_at (map.remove counts (member, name)) q m ≡ cond (is_place name member q m) 0 (count_at counts q m)
   count_remove q m =
-      ap (λ o. unwrap_or o 0) (map.get-remove place_total counts (name, member) (q, m))
-      ∙ either (eq_by_cmp place_cmp (q, m) (name, member)) None (map.get counts (q, m))
-      ∙ ap (λ b. cond b 0 (count_at counts q m)) (tied_pair (slice_cmp nat_cmp q name) (member_cmp.cmp-value.it m member))
+      ap (λ o. unwrap_or o 0) (map.get-remove place_total counts (member, name) (m, q))
+      ∙ either (eq_by_cmp place_cmp (m, q) (member, name)) None (map.get counts (m, q))
+      ∙ ap (λ b. cond b 0 (count_at counts q m)) (tied_place name member q m)
 
   own_count : (q : List ℕ) (m : Member) → cond (is_place name member q m) (count_at counts name member) (count_at counts q m) ≡ count_at counts q m
   own_count q m =
-      ap (λ b. cond b (count_at counts name member) (count_at counts q m)) (sym (tied_pair (slice_cmp nat_cmp q name) (member_cmp.cmp-value.it m member)))
-      ∙ at_key exact_place (λ p. count_at counts p.0 p.1) (name, member) (q, m) (count_at counts name member) refl
+      ap (λ b. cond b (count_at counts name member) (count_at counts q m)) (sym (tied_place name member q m))
+      ∙ at_key exact_place (λ p. count_at counts p.1 p.0) (member, name) (m, q) (count_at counts name member) refl
 
   -- taken out, and put back with one more or one less
-  pub count_put : (more : Bool) (x : ℕ) (now : Counts) → x ≡ count_at counts name member → now ≡ map.insert (map.remove counts (name, member)) (name, member) (shifted more 1 x)
+  pub count_put : (more : Bool) (x : ℕ) (now : Counts) → x ≡ count_at counts name member → now ≡ map.insert (map.remove counts (member, name)) (member, name) (shifted more 1 x)
       → (q : List ℕ) (m : Member) → count_at now q m ≡ shifted more (cond (is_place name member q m) 1 0) (count_at counts q m)
   count_put more x now was is q m =
       let b = is_place name member q m in
-      ap (λ n. count_at n q m) (is ∙ insert_removed place_total exact_place counts (name, member) (shifted more 1 x))
+      ap (λ n. count_at n q m) (is ∙ insert_removed place_total exact_place counts (member, name) (shifted more 1 x))
       ∙ count_insert (shifted more 1 x) q m
       ∙ by_place more b x (count_at counts q m) (ap (λ n. cond b n (count_at counts q m)) was ∙ own_count q m)
 
   -- taken out, with one that is the last
-  pub count_out : (x : ℕ) (now : Counts) → x ≡ count_at counts name member → x - 1 ≡ 0 → now ≡ map.remove counts (name, member)
+  pub count_out : (x : ℕ) (now : Counts) → x ≡ count_at counts name member → x - 1 ≡ 0 → now ≡ map.remove counts (member, name)
       → (q : List ℕ) (m : Member) → count_at now q m ≡ shifted false (cond (is_place name member q m) 1 0) (count_at counts q m)
   count_out x now was none is q m =
       let b = is_place name member q m in

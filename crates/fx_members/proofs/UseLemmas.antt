@@ -62,6 +62,6 @@ nothing_kept = record {
       ap (λ (o : Option Texts). has_key o t) (map.get-empty item_cmp.cmp-value.it i)
       ∙ sym (ap is_some (map.get-empty pair_cmp (t, i)));
   counted = λ name m.
-      ap (λ (o : Option ℕ). unwrap_or o 0) (map.get-empty place_cmp (name, m))
+      ap (λ (o : Option ℕ). unwrap_or o 0) (map.get-empty place_cmp (m, name))
       ∙ sym (ap (λ (o : Option SetUse). due map.empty set.empty o m) (get_empty name));
 }

@@ -19,15 +19,15 @@ use Rattle.fx_members.specs.UseText.{text_of}
 
 -- ---- what is counted
 
--- by a set's name, and then by member
-abbrev pub place_cmp : List ℕ × Member → List ℕ × Member → Ordering
-place_cmp p q = ordering_then (slice_cmp nat_cmp p.0 q.0) (member_cmp.cmp-value.it p.1 q.1)
+-- by member, and then by a set's name
+abbrev pub place_cmp : Member × List ℕ → Member × List ℕ → Ordering
+place_cmp p q = ordering_then (member_cmp.cmp-value.it p.0 q.0) (slice_cmp nat_cmp p.1 q.1)
 
 abbrev pub Counts : Type 0
 Counts = map.FinMap place_cmp ℕ
 
 abbrev pub count_at : Counts → List ℕ → Member → ℕ
-count_at counts name m = unwrap_or (map.get counts (name, m)) 0
+count_at counts name m = unwrap_or (map.get counts (m, name)) 0
 
 abbrev pub same_member : Member → Member → Bool
 same_member m k = eq_by_cmp member_cmp.cmp-value.it m k

@@ -10,11 +10,11 @@ use std::alloc::Global;
 use std::collections::BTreeMap;
 use std::marker::Model;
 
-/// A count for each member of each set, by the set's name.
+/// A count for each member of each set, by member first: numbers are soon compared, and names of sets begin alike.
 #[derive(Drop)]
 pub struct MemberCounts {
     alloc: Global,
-    held: BTreeMap<(SetName, Member), Uses>,
+    held: BTreeMap<(Member, SetName), Uses>,
 }
 
 impl Model for MemberCounts {
@@ -26,7 +26,7 @@ impl Model for MemberCounts {
 
     ghost Value = { Counts };
 
-    ghost coded = { map.code (coded× (coded_list coded_ℕ) member.the_row.coded) coded_ℕ };
+    ghost coded = { map.code (coded× member.the_row.coded (coded_list coded_ℕ)) coded_ℕ };
 
     ghost view = { λ a. map.from_entries a.held.entries };
 
@@ -44,17 +44,17 @@ impl MemberCounts {
     }
 
     fn insert(&mut self, name: SetName, member: Member, uses: Uses) -> Result<(), Memory>
-        ensures { OnOk result (self.new ≡ map.insert self.old (name, member) uses) }
+        ensures { OnOk result (self.new ≡ map.insert self.old (member, name) uses) }
     {
-        self.held.insert((name, member), uses)?;
+        self.held.insert((member, name), uses)?;
         Ok(())
     }
 
     fn remove(&mut self, name: SetName, member: Member) -> Option<Uses>
-        ensures before { result ≡ map.get self.old (name, member) }
-        ensures removed { self.new ≡ map.remove self.old (name, member) }
+        ensures before { result ≡ map.get self.old (member, name) }
+        ensures removed { self.new ≡ map.remove self.old (member, name) }
     {
-        self.held.remove(&(name, member))
+        self.held.remove(&(member, name))
     }
 
     /// Whether this is the member's first count. On want of memory its count is lost.

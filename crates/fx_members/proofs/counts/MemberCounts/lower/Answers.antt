@@ -26,7 +26,7 @@ returns-clause-counts c =
     let was : c.unwrap_or-uses.result ≡ count_at c.args.self.now c.args.name c.args.member =
     c.unwrap_or-uses.ensures ∙ (λ j. unwrap_or (c.remove.ensures.before j) (c.new.ensures j)) in
     count_put c.args.self.now c.args.name c.args.member false c.unwrap_or-uses.result c.insert.new.self was
-    (c.in_ok-insert.ensures ∙ (λ j. map.insert (c.remove.ensures.removed j) (c.args.name, c.args.member) (c.lower.ensures j)))
+    (c.in_ok-insert.ensures ∙ (λ j. map.insert (c.remove.ensures.removed j) (c.args.member, c.args.name) (c.lower.ensures j)))
 
 pub returns-clause-last : goal.returns-clause-last
 returns-clause-last c =
