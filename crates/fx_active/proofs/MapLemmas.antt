@@ -1,15 +1,13 @@
 -- Finite maps after a removal and an insertion at one key.
-use Rattle.std.proofs.Common.{◌≡◌, Bool, true, false, cond, Option, Some, None, is_some, refl, sym, ap, ◌∙◌}
+use Rattle.std.proofs.Common.{◌≡◌, true, false, cond, Option, Some, None, is_some, refl, sym, ap, ◌∙◌}
 use Rattle.std.specs.declared.cmp.Ordering.{Ordering}
-use Rattle.std.specs.declared.cmp.Ordering.TheVariants.{Less, Equal, Greater}
 use Rattle.std.specs.Ordering.{eq_by_cmp, is_eq}
 use Rattle.std.specs.Cmp.{IsTotalOrder, tied_itself}
 use Rattle.std.specs.FinMap.{FinMap, IsAntisymmetric, get, insert, remove, get-insert, get-remove, same_map}
 use Rattle.fx_base.specs.Set as set
-use Rattle.fx_base.proofs.SetAt.{at_none}
 use Rattle.fx_base.proofs.AtKey.{insert_removed}
 use Rattle.fx_base.proofs.Keyed.{at_key}
-use Rattle.fx_base.proofs.Cases.{hidden, absent_value}
+use Rattle.fx_base.proofs.Cases.{hidden}
 
 module _ {K X : Type 0} {R : K → K → Ordering} (o : IsTotalOrder R) (exact : IsAntisymmetric R) where
   pub remove_inserted : (m : FinMap R X) (k : K) (v : X) → remove (insert m k v) k ≡ remove m k

@@ -2,7 +2,6 @@
 use Rattle.std.proofs.Common.{◌≡◌, ℕ, Bool, true, false, cond, List, Option, Some, None, is_some, refl, sym, ap, ◌∙◌, subst}
 use Rattle.std.specs.declared.cmp.Ordering.TheVariants.{Less, Equal, Greater}
 use Rattle.std.specs.Ordering.{nat_cmp, eq_by_cmp, is_eq}
-use Rattle.std.specs.Cmp.{tied_itself}
 use Rattle.std.specs.Cmp.Lexicographic.{slice_cmp}
 use Rattle.std.specs.List.{list_any}
 use Rattle.std.specs.FinMap as map
@@ -25,7 +24,6 @@ use Rattle.fx_active.specs.Active.{where_active, applies_to, is_in, is_listed, A
 use Rattle.fx_active.specs.Node.{IsActive}
 use Rattle.fx_active.specs.Steps.{same_id, insert_or_remove, IsRowSet}
 use Rattle.fx_active.proofs.UpdateWalk.{get_either}
-use Rattle.fx_base.proofs.Cases.{hidden}
 
 -- what stands of the value at entry stands of what it is inside
 module _ {n m : Inputs} {P : Policies} {Q : Profiles} {S : PolicyPairs} where

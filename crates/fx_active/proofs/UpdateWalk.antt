@@ -15,7 +15,6 @@ use Rattle.fx_model.proofs.Orders.{policy_total, exact_policy}
 use Rattle.fx_model.proofs.PairAt.{contains_put_policy_pair}
 use Rattle.fx_model.specs.Active.{has_types}
 use Rattle.fx_active.specs.Steps.{same_id, same_item, insert_or_remove, typed, is_typed, IsUpdated}
-use Rattle.fx_base.proofs.Cases.{first_true, both_true}
 
 abbrev pub own_policy : Policies → PolicyId → Unit {0} → Option Policy
 own_policy m id u = get m id

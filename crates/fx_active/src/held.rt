@@ -15,6 +15,7 @@ use crate::matches::Matches;
 use crate::policies::PolicyIndex;
 use fx_base::{Memory, Text, TextMap};
 use fx_model::{ActiveSink, ItemKey, ItemMap, PolicyId, Profile};
+use fx_text_sets::TextSet;
 use std::alloc::Global;
 use std::marker::Model;
 use std::mem;
@@ -76,7 +77,7 @@ impl Held {
     }
 
     /// The texts of the selectors that hold on an item.
-    pub fn texts(&self, item: &ItemKey) -> Option<&TextMap<()>>
+    pub fn texts(&self, item: &ItemKey) -> Option<&TextSet>
         ensures { (t : List ℕ) → has_key (option_copied result) t ≡ set.contains self.now.matched (t, item.now) }
     {
         self.inputs.matched.texts(item)

@@ -12,6 +12,7 @@ use crate::endpoints::Endpoints;
 use crate::matches::Matches;
 use fx_base::{Memory, Text, TextMap};
 use fx_model::{ItemKey, ItemMap};
+use fx_text_sets::TextSet;
 use std::alloc::Global;
 use std::marker::Model;
 
@@ -132,7 +133,7 @@ impl Here {
         }
     }
 
-    fn insert_all(&mut self, texts: &TextMap<()>, item: &ItemKey) -> Result<(), Memory>
+    fn insert_all(&mut self, texts: &TextSet, item: &ItemKey) -> Result<(), Memory>
         ensures { OnOk result ((t : List ℕ) (i : ItemKey) → has_key (map.get self.new t) i
             ≡ cond (set.contains texts.now t && same_item i item.now) true (has_key (map.get self.old t) i)) }
     {
@@ -142,7 +143,7 @@ impl Here {
         Ok(())
     }
 
-    fn remove_all(&mut self, texts: &TextMap<()>, item: &ItemKey)
+    fn remove_all(&mut self, texts: &TextSet, item: &ItemKey)
         requires { (t : List ℕ) → set.contains texts.now t ≡ true → has_key (map.get self.old t) item.now ≡ true }
         ensures { (t : List ℕ) (i : ItemKey) → has_key (map.get self.new t) i
             ≡ cond (set.contains texts.now t && same_item i item.now) false (has_key (map.get self.old t) i) }

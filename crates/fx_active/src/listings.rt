@@ -12,7 +12,6 @@ use std::marker::Model;
 /// A count for each profile that is listed.
 #[derive(Drop)]
 pub struct Listings {
-    alloc: Global,
     counts: TextMap<Uses>,
 }
 
@@ -33,7 +32,6 @@ impl Listings {
         ensures { result ≡ map.empty }
     {
         Listings {
-            alloc,
             counts: TextMap::new(alloc),
         }
     }
@@ -53,7 +51,7 @@ impl Listings {
             → count_at self.new q ≡ cond (pointwise nat_eq name.now q) 1 0 + count_at self.old q) }
         ensures first { IfOk result (λ first. first ≡ (count_at self.old name.now == 0)) }
     {
-        let mut uses = self.counts.remove(name).unwrap_or(Uses::new(self.alloc));
+        let mut uses = self.counts.remove(name).unwrap_or(Uses::new());
         let first = uses.is_zero();
         uses.raise()?;
         self.counts.insert(name.clone()?, uses)?;
@@ -66,7 +64,7 @@ impl Listings {
         ensures counts { (q : List ℕ) → cond (pointwise nat_eq name.now q) 1 0 + count_at self.new q ≡ count_at self.old q }
         ensures last { result ≡ (count_at self.new name.now == 0) }
     {
-        let mut uses = Uses::new(self.alloc);
+        let mut uses = Uses::new();
         self.counts.swap(name, &mut uses);
         uses.lower();
         if uses.is_zero() {

@@ -5,8 +5,9 @@ ghost use Rattle.std.specs.FinMap as map;
 ghost use Rattle.fx_base.specs.Set as set;
 ghost use Rattle.fx_base.specs.Grouped.{has_key};
 
-use fx_base::{Memory, Text, TextMap};
+use fx_base::{Memory, Text};
 use fx_model::{ItemKey, ItemMap};
+use fx_text_sets::TextSet;
 use std::alloc::Global;
 use std::marker::Model;
 
@@ -14,7 +15,7 @@ use std::marker::Model;
 #[derive(Drop)]
 pub struct Matches {
     alloc: Global,
-    by_item: ItemMap<TextMap<()>>,
+    by_item: ItemMap<TextSet>,
 }
 
 impl Model for Matches {
@@ -43,7 +44,7 @@ impl Matches {
     }
 
     /// The texts of the selectors that hold on an item.
-    pub fn texts(&self, item: &ItemKey) -> Option<&TextMap<()>>
+    pub fn texts(&self, item: &ItemKey) -> Option<&TextSet>
         ensures { (text : List ℕ) → has_key (option_copied result) text ≡ set.contains self.now (text, item.now) }
     {
         self.by_item.get(item)
@@ -56,8 +57,8 @@ impl Matches {
         let mut texts = self
             .by_item
             .remove(item)
-            .unwrap_or(TextMap::new(self.alloc));
-        texts.insert(text.clone()?, ())?;
+            .unwrap_or(TextSet::new(self.alloc));
+        texts.insert(text.clone()?)?;
         self.by_item.insert(item.clone()?, texts)?;
         Ok(())
     }
@@ -69,7 +70,7 @@ impl Matches {
         let mut texts = self
             .by_item
             .remove(item)
-            .unwrap_or(TextMap::new(self.alloc));
+            .unwrap_or(TextSet::new(self.alloc));
         texts.remove(text);
         if texts.is_empty() {
             return Ok(());

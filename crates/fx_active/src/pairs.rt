@@ -15,8 +15,9 @@ use crate::held::Held;
 use crate::indexed_policy::IndexedPolicy;
 use crate::policies::PolicyIndex;
 use crate::reach::{applies, holds_somewhere, row_of};
-use fx_base::{Memory, Text, TextMap};
+use fx_base::{Memory, Text};
 use fx_model::{ActiveSink, ItemKey, ItemMap, Policy, PolicyId, PolicyMap};
+use fx_text_sets::TextSet;
 
 /// A policy is active no more.
 pub fn deactivate<S: ActiveSink>(id: &PolicyId, was: bool, sink: &mut S) -> Result<(), Memory>
@@ -157,7 +158,7 @@ pub fn update_endpoint<S: ActiveSink>(
 // Selector by selector of those that hold on the endpoint.
 fn update_texts<S: ActiveSink>(
     held: &Held,
-    texts: &TextMap<()>,
+    texts: &TextSet,
     item: &ItemKey,
     added: bool,
     sink: &mut S,

@@ -27,24 +27,28 @@ ghost use Rattle.fx_graph.specs.Graphs.{IsGraphOf, sides_of};
 ghost use Rattle.fx_agent.specs.Answers.{IsAnswer, IsKubernetesVerdict, IsUpdateCause, StaysIfRefused, StaysIfTaken, UpdateLeaves};
 
 use crate::faults::UpdateFault;
+use crate::sharing::with_shared_texts;
 use fx_base::{Memory, Text, Ticker};
 use fx_driver::Driver;
 use fx_graph::Graph;
 use fx_model::{Packet, Update};
 use fx_names::{DigestFunction, DigestRule, Namer};
+use fx_sharing::TextTable;
 use fx_store::{CheckFault, Store};
 use fx_tables::Tables;
 use fx_walk::{Outcome, decide};
 use std::alloc::Global;
 use std::marker::Model;
 
-/// The resources of a node, the graph that follows them, the driver that holds the tables of what was sent, and whether memory has
-/// run out. Contracts see what these stand for; that they agree, until memory has run out, is the type's invariant.
+/// The resources of a node, the graph that follows them, the driver that holds the tables of what was sent, texts that updates had
+/// lately, and whether memory has run out. Contracts see what these but the texts stand for; that they agree, until memory has run
+/// out, is the type's invariant.
 #[derive(Drop)]
 pub struct Agent<R: DigestRule, F: DigestFunction<R> + Drop> {
     pub(crate) store: Store,
     pub(crate) graph: Graph<R, F>,
     pub(crate) driver: Driver,
+    pub(crate) texts: TextTable,
     pub(crate) failed: bool,
 }
 
@@ -78,6 +82,7 @@ impl<R: DigestRule, F: DigestFunction<R> + Drop> Agent<R, F> {
         ensures ready { IfOk result (λ a. a.failed ≡ false) }
     {
         let driver = Driver::new(alloc)?;
+        let texts = TextTable::new(alloc)?;
         let graph_node = node.clone()?;
         let store = Store::new(alloc, node);
         let graph = Graph::new(alloc, graph_node, namer);
@@ -85,6 +90,7 @@ impl<R: DigestRule, F: DigestFunction<R> + Drop> Agent<R, F> {
             store,
             graph,
             driver,
+            texts,
             failed: false,
         })
     }
@@ -110,7 +116,13 @@ impl<R: DigestRule, F: DigestFunction<R> + Drop> Agent<R, F> {
         if self.failed {
             return Err(UpdateFault::NeedsResync);
         }
-        match make(&mut self.store, &mut self.graph, update, ticks) {
+        match make(
+            &mut self.store,
+            &mut self.graph,
+            &mut self.texts,
+            update,
+            ticks,
+        ) {
             Ok(()) => Ok(()),
             Err(CheckFault::Taken { name, holder }) => Err(UpdateFault::Taken { name, holder }),
             Err(CheckFault::Memory) => {
@@ -173,6 +185,7 @@ impl<R: DigestRule, F: DigestFunction<R> + Drop> Agent<R, F> {
 fn make<T: Ticker, R: DigestRule, F: DigestFunction<R> + Drop>(
     store: &mut Store,
     graph: &mut Graph<R, F>,
+    texts: &mut TextTable,
     update: Update,
     ticks: &mut T,
 ) -> Result<(), CheckFault>
@@ -195,8 +208,9 @@ fn make<T: Ticker, R: DigestRule, F: DigestFunction<R> + Drop>(
     if store.is_unchanged_by(&update) {
         return Ok(());
     }
-    let change = store.checked_claims(&update, graph.namer())?;
-    graph.apply(&update, ticks)?;
-    store.apply_with::<R>(update, &change)?;
+    let shared = with_shared_texts(update, texts)?;
+    let change = store.checked_claims(&shared, graph.namer())?;
+    graph.apply(&shared, ticks)?;
+    store.apply_with::<R>(shared, &change)?;
     Ok(())
 }

@@ -19,10 +19,12 @@ ghost use Rattle.fx_agent.specs.Handing.{AreAccepted, CanFollowAll, FollowsAll};
 
 use crate::agent::Agent;
 use crate::faults::UpdateFault;
+use crate::sharing::all_with_shared_texts;
 use fx_base::{Memory, Ticker};
 use fx_graph::Graph;
 use fx_model::Update;
 use fx_names::{DigestFunction, DigestRule};
+use fx_sharing::TextTable;
 use fx_store::{CheckFault, Store};
 
 impl<R: DigestRule, F: DigestFunction<R> + Drop> Agent<R, F> {
@@ -55,7 +57,13 @@ impl<R: DigestRule, F: DigestFunction<R> + Drop> Agent<R, F> {
         if self.failed {
             return Err(UpdateFault::NeedsResync);
         }
-        match make_all(&mut self.store, &mut self.graph, updates, ticks) {
+        match make_all(
+            &mut self.store,
+            &mut self.graph,
+            &mut self.texts,
+            updates,
+            ticks,
+        ) {
             Ok(()) => Ok(()),
             Err(CheckFault::Taken { name, holder }) => Err(UpdateFault::Taken { name, holder }),
             Err(CheckFault::Memory) => {
@@ -71,6 +79,7 @@ impl<R: DigestRule, F: DigestFunction<R> + Drop> Agent<R, F> {
 fn make_all<T: Ticker, R: DigestRule, F: DigestFunction<R> + Drop>(
     store: &mut Store,
     graph: &mut Graph<R, F>,
+    texts: &mut TextTable,
     updates: Vec<Update>,
     ticks: &mut T,
 ) -> Result<(), CheckFault>
@@ -92,10 +101,11 @@ fn make_all<T: Ticker, R: DigestRule, F: DigestFunction<R> + Drop>(
         (T.number ticks.old) (T.number ticks.new)) }
     ensures quiet { IfErr result (StaysIfTaken (T.number ticks.new ≡ T.number ticks.old)) }
 {
-    store.check_all(&updates, graph.namer())?;
-    let steps = store.steps(&updates)?;
+    let shared = all_with_shared_texts(updates, texts)?;
+    store.check_all(&shared, graph.namer())?;
+    let steps = store.steps(&shared)?;
     follow_all(graph, &steps, ticks)?;
-    store.apply_all(&updates, graph.namer())?;
+    store.apply_all(&shared, graph.namer())?;
     Ok(())
 }
 

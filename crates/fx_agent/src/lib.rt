@@ -8,3 +8,4 @@ mod agent;
 mod batches;
 mod faults;
 mod pulling;
+mod sharing;

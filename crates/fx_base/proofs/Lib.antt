@@ -3,6 +3,8 @@ pub mod Sorted
 pub mod Entries
 pub mod AtKey
 pub mod PaddedLemmas
+pub mod WordLemmas
+pub mod TextPlaces
 pub mod ExtendedLemmas
 pub mod KeyCases
 pub mod AllEntries

@@ -19,6 +19,7 @@ pub mod SameNet
 pub mod Set
 pub mod SetName
 pub mod Streams
+pub mod TextPlaces
 pub mod TextValues
 pub mod Ticks
 pub mod TornSink

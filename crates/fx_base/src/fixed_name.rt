@@ -5,7 +5,7 @@ ghost use Rattle.std.specs.Ordering.{nat_cmp};
 ghost use Rattle.std.specs.Cmp.{partial_equiv_from_equiv};
 ghost use Rattle.std.specs.Cmp.Lexicographic.{slice_cmp, pointwise, nat_list_cmp_total, nat_list_eq_equiv, texts_po, texts_ties};
 
-use crate::bytes_order::order;
+use crate::bytes_order::order_by_words;
 use crate::exact::Exact;
 use std::cmp::Ordering;
 use std::fmt;
@@ -110,8 +110,9 @@ impl<const N: usize> Ord for FixedName<N> {
 
     ghost matches_eq = { texts_ties };
 
+    // A name's bytes and the 0s past them decide, and where these are the same, the lengths.
     fn cmp(&self, other: &FixedName<N>) -> Ordering {
-        order(self.bytes(), other.bytes())
+        order_by_words(&self.held, &other.held).then(self.len.cmp(&other.len))
     }
 }
 

@@ -143,7 +143,10 @@ impl Ord for Text {
     ghost matches_eq = { texts_ties };
 
     fn cmp(&self, other: &Text) -> Ordering {
-        order(self.bytes(), other.bytes())
+        match (self.held.as_ref(), other.held.as_ref()) {
+            (Bytes::Few(few), Bytes::Few(others)) => few.cmp(others),
+            _ => order(self.bytes(), other.bytes()),
+        }
     }
 }
 

@@ -1,64 +1,64 @@
-//! A count of uses, which has no last value.
+//! A count of uses.
 ghost use Rattle.std.specs.Prelude.{◌≡◌, ◌+◌, ◌-◌, ◌==◌, nat_lt, OnOk, OnErr};
 
 use crate::Memory;
-use std::alloc::Global;
 use std::marker::Model;
 
-/// A count, kept as the length of a list that grows with it.
-#[derive(Drop)]
+/// A count. Behind its last value, which no run comes to, it answers as where memory is wanting.
+#[derive(Debug, Drop)]
 pub struct Uses {
-    held: Vec<u8>,
+    held: u64,
 }
 
 impl Model for Uses {
-    ghost use Rattle.std.specs.Prelude.{ℕ, length};
+    ghost use Rattle.std.specs.Prelude.{ℕ};
 
     ghost Value = { ℕ };
 
-    ghost view = { λ a. length a.held.items };
+    ghost view = { λ a. a.held };
 }
 
 impl Uses {
-    pub fn new(alloc: Global) -> Self
+    pub fn new() -> Self
         ensures { result ≡ 0 }
     {
-        Uses {
-            held: Vec::new(alloc),
-        }
+        Uses { held: 0 }
     }
 
     pub fn is_zero(&self) -> bool
         ensures { result ≡ (self.now == 0) }
     {
-        self.held.is_empty()
+        self.held == 0
     }
 
     /// Whether there are more uses than this.
     pub fn exceeds(&self, number: usize) -> bool
         ensures { result ≡ nat_lt number self.now }
     {
-        number < self.held.len()
+        (number as u64) < self.held
     }
 
     /// Whether there are more uses than the other counts.
     pub fn exceeds_uses(&self, other: &Uses) -> bool
         ensures { result ≡ nat_lt other.now self.now }
     {
-        self.exceeds(other.held.len())
+        other.held < self.held
     }
 
     pub fn raise(&mut self) -> Result<(), Memory>
         ensures ok { OnOk result (self.new ≡ self.old + 1) }
         ensures err { OnErr result (self.new ≡ self.old) }
     {
-        self.held.push(0)?;
+        if self.held == u64::MAX {
+            return Err(Memory);
+        }
+        self.held += 1;
         Ok(())
     }
 
     pub fn lower(&mut self)
         ensures { self.new ≡ self.old - 1 }
     {
-        let _ = self.held.pop();
+        self.held = self.held.saturating_sub(1);
     }
 }

@@ -1,4 +1,5 @@
-//! The tests of `fx_base`: texts, lists, maps and sinks, and the order of names that the kernel knows.
+//! The tests of `fx_base`, `fx_sharing` and `fx_text_sets`: texts, lists, maps, sets and sinks, and the order of names that the
+//! kernel knows.
 #![tactic(auto)]
 
 #[cfg(test)]
@@ -7,5 +8,9 @@ mod kernel_names;
 mod memory;
 #[cfg(test)]
 mod sinks;
+#[cfg(test)]
+mod text_sets;
+#[cfg(test)]
+mod text_table;
 #[cfg(test)]
 mod texts;

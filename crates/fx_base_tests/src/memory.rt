@@ -51,12 +51,12 @@ fn maps_tell_whether_they_are_empty(rt: HostRuntime) -> Result<(), Fail> {
 
 #[test]
 fn uses_are_counted(rt: HostRuntime) -> Result<(), Fail> {
-    let mut uses = Uses::new(rt.alloc());
+    let mut uses = Uses::new();
     uses.raise()?;
     uses.raise()?;
     uses.lower();
     assert!(rt; uses.exceeds(0) && !uses.exceeds(1));
-    let none = Uses::new(rt.alloc());
+    let none = Uses::new();
     assert!(rt; uses.exceeds_uses(&none) && !none.exceeds_uses(&uses));
     uses.lower();
     assert!(rt; uses.is_zero());

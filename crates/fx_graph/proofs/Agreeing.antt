@@ -1,5 +1,5 @@
 -- Nodes that agree told what they define, and so they make the view of the resources.
-use Rattle.std.proofs.Common.{◌≡◌, ℕ, ◌+◌, ◌<◌, Bool, List, Some, None, ap, ◌∙◌, arith}
+use Rattle.std.proofs.Common.{◌≡◌, ℕ, ◌+◌, ◌<◌, List, Some, None, ap, ◌∙◌, arith}
 use Rattle.std.specs.FinMap as map
 use Rattle.fx_base.specs.Set as set
 use Rattle.fx_names.specs.Digests.{Digest}
@@ -18,7 +18,7 @@ use Rattle.fx_node_laws.specs.Tied.{IsTied}
 use Rattle.fx_node_laws.specs.Told.{IsTold}
 use Rattle.fx_node_laws.specs.Waits.{AreWaiting}
 use Rattle.fx_node_laws.proofs.Viewing.{view_is_made}
-use Rattle.fx_graph.specs.Graphs.{AreOf, IsGraphOf}
+use Rattle.fx_graph.specs.Graphs.{IsGraphOf}
 use Rattle.fx_graph.specs.InStep.{IsInStep}
 use Rattle.fx_graph.specs.declared.nodes.Nodes.{Nodes}
 use Rattle.fx_graph.specs.declared.state.GraphState.{GraphState}

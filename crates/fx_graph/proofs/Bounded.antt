@@ -1,10 +1,10 @@
 -- The tests of an update lie between the least and the most that it calls for.
-use Rattle.std.proofs.Common.{◌≡◌, ◌⊎◌, inl, inr, ℕ, zero, suc, ◌+◌, ◌<◌, true, cond, List, [], ◌∷◌, Some, None, refl, arith}
+use Rattle.std.proofs.Common.{◌≡◌, ◌⊎◌, inl, inr, ℕ, zero, suc, ◌+◌, ◌<◌, cond, List, [], ◌∷◌, Some, None, refl, arith}
 use Rattle.std.specs.declared.cmp.Ordering.TheVariants.{Less, Equal, Greater}
 use Rattle.std.specs.Ordering.{nat_cmp, is_eq}
 use Rattle.std.specs.List.{AllByRecursion}
 use Rattle.std.specs.Cmp.Lexicographic.{slice_cmp, nat_list_cmp_total}
-use Rattle.std.specs.FinMap.{get, entries, contains_key}
+use Rattle.std.specs.FinMap.{get, entries}
 use Rattle.fx_base.specs.Ticks.{IsTicked}
 use Rattle.fx_base.proofs.Found.{entries_found}
 use Rattle.fx_base.proofs.KeyCases.{bytes_exact}
@@ -23,7 +23,7 @@ use Rattle.fx_label_index.specs.Canonicals.{Selectors}
 use Rattle.fx_label_index.specs.Tested.{IsTested, least_between, most_between}
 use Rattle.fx_active.specs.Active.{text_of as policy_text}
 use Rattle.fx_members.specs.UseText.{text_of}
-use Rattle.fx_graph_rules.specs.Counting.{times_among, times, total, IsCounted}
+use Rattle.fx_graph_rules.specs.Counting.{times_among, times, total}
 use Rattle.fx_graph_rules.proofs.Counts.{counted_there, there_counted, policy_counted}
 use Rattle.fx_node_laws.specs.Counted.{IsTextOfPolicy, IsTextOfSet, CountsUsed}
 use Rattle.fx_node_laws.proofs.UpdateTests.{most_of_update, least_of_update}

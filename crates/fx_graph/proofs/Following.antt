@@ -19,16 +19,15 @@ use Rattle.fx_model.specs.declared.resources.Endpoint.{Endpoint}
 use Rattle.fx_model.specs.declared.resources.Item.TheVariants as item
 use Rattle.fx_model.specs.declared.resources.Profile.{Profile}
 use Rattle.fx_model.specs.declared.resources.Resources.{Resources}
-use Rattle.fx_model.specs.declared.resources.Update.{Update}
 use Rattle.fx_model.specs.declared.resources.Update.TheVariants as update
 use Rattle.fx_resolver.specs.Resolved.{HaveOwnInterfaces}
 use Rattle.fx_node_laws.specs.Changes.{Taken, with_profile, without_profile, with_tier, without_tier, with_policy, without_policy}
 use Rattle.fx_node_laws.specs.Tied.{known_endpoint}
-use Rattle.fx_node_laws.specs.Waits.{AreWaiting, Queue, waits, waiting_of}
+use Rattle.fx_node_laws.specs.Waits.{AreWaiting, waiting_of}
 use Rattle.fx_node_laws.proofs.ItemTies.{put_served_taken, put_other_taken, endpoint_gone_taken, net_set_put_taken, net_set_gone_taken}
 use Rattle.fx_node_laws.proofs.RuleTies.{profile_put_taken, profile_gone_taken, policy_put_taken, policy_gone_taken, tier_put_taken, tier_gone_taken}
 use Rattle.fx_node_laws.proofs.TakenTies.{IsTaken, taken_is, tied_by}
-use Rattle.fx_node_laws.proofs.WaitTies.{waiting_put, other_put, waiting_gone, waiting_stays, served_waits_not, waiting_in_sync}
+use Rattle.fx_node_laws.proofs.WaitTies.{waiting_put, other_put, waiting_gone, waiting_stays, waiting_in_sync}
 use Rattle.fx_graph.specs.Graphs.{IsGraphOf, IsAccepted}
 use Rattle.fx_graph.specs.InStep.{IsInStep}
 use Rattle.fx_graph.specs.Taking.{AreApart, IsBeside, taken_of, with_served, with_other, without_item, labelled_other, unlabelled, contributing, withdrawn}

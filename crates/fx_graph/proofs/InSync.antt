@@ -1,10 +1,10 @@
 -- Once the datastore is in sync, all endpoints of the node that wait come into service.
-use Rattle.std.proofs.Common.{◌≡◌, ◌≤◌, ℕ, Bool, true, false, cond, ◌⊎◌, inl, inr, length, map as each, List, Option, Some, None, refl, sym, ap, ◌∙◌, subst}
+use Rattle.std.proofs.Common.{◌≡◌, ◌≤◌, Bool, true, false, cond, inl, inr, length, map as each, Option, Some, None, refl, sym, ap, ◌∙◌, subst}
 use Rattle.std.proofs.lemmas.Bool.{leb-true}
 use Rattle.std.specs.FinMap as map
 use Rattle.fx_base.specs.Extended.{extended}
 use Rattle.fx_base.proofs.Entries.{entries-empty}
-use Rattle.std.specs.Prelude.{nat_le, option_map}
+use Rattle.std.specs.Prelude.{option_map}
 use Rattle.fx_base.specs.Same.{both_pass}
 use Rattle.fx_names.specs.Digests.{Digest}
 use Rattle.fx_model.proofs.Orders.{item_total, exact_item}
@@ -21,7 +21,7 @@ use Rattle.fx_resolver.specs.declared.known.KnownEndpoint.{KnownEndpoint}
 use Rattle.fx_laws.proofs.FormedLemmas.{endpoints_formed}
 use Rattle.fx_laws.proofs.Removing.{found_passes}
 use Rattle.fx_node_laws.specs.Changes.{Taken}
-use Rattle.fx_node_laws.specs.Waits.{AreWaiting, Queue, known_waiting, waiting_if, waiting_of, waits, with_waiting}
+use Rattle.fx_node_laws.specs.Waits.{AreWaiting, known_waiting, waiting_if, waiting_of, waits, with_waiting}
 use Rattle.fx_model.specs.declared.waiting.Waiting.{Waiting}
 use Rattle.fx_node_laws.proofs.TakenTies.{IsTaken, taken_is, tied_by}
 use Rattle.fx_node_laws.proofs.UpdateTies.{second_in_sync}

@@ -1,5 +1,5 @@
 -- Resources without a clash make rules and endpoints that have names of their own.
-use Rattle.std.proofs.Common.{◌≡◌, true, List, Some, refl}
+use Rattle.std.proofs.Common.{◌≡◌, true, refl}
 use Rattle.std.specs.FinMap as map
 use Rattle.fx_base.specs.Set as set
 use Rattle.fx_names.specs.Digests.{Digest}

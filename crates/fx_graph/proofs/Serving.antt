@@ -1,5 +1,5 @@
 -- Walks over the endpoints that wait: what those that are left bring is what all of them were to bring.
-use Rattle.std.proofs.Common.{◌≡◌, ℕ, List, [], ◌∷◌, ◌⊎◌, inl, inr, map as each, Some, refl, sym, ap, ◌∙◌}
+use Rattle.std.proofs.Common.{◌≡◌, ℕ, List, [], ◌∷◌, inr, map as each, Some, refl, sym, ap, ◌∙◌}
 use Rattle.std.specs.FinMap as map
 use Rattle.fx_base.specs.Extended.{extended}
 use Rattle.fx_names.specs.Digests.{Digest}

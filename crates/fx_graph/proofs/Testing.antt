@@ -1,14 +1,14 @@
 -- Selectors that come are tested once, and those that go were there at first, so that no test is made of them.
-use Rattle.std.proofs.Common.{◌≡◌, ℕ, ◌+◌, ◌<◌, true, List, [], ◌∷◌, Option, Some, None, Result, Ok, Err, sym, ap, ◌∙◌, arith}
+use Rattle.std.proofs.Common.{◌≡◌, ℕ, ◌+◌, ◌<◌, List, [], ◌∷◌, Option, Some, None, Result, Ok, Err, sym, arith}
 use Rattle.std.specs.Prelude.{OnOk}
 use Rattle.std.specs.List.{AllByRecursion}
 use Rattle.std.specs.Cmp.Lexicographic.{nat_list_cmp_total}
-use Rattle.std.specs.FinMap.{get, entries, contains_key}
+use Rattle.std.specs.FinMap.{get, entries}
 use Rattle.fx_base.proofs.Found.{each, entries_found}
 use Rattle.fx_selector.specs.Tree.{Tree, IsSelector}
 use Rattle.fx_selector.specs.Canonical.{canonical_text}
-use Rattle.fx_label_index.specs.Canonicals.{Selectors, AreCanonical}
-use Rattle.fx_label_index.specs.Counts.{raised, lowered}
+use Rattle.fx_label_index.specs.Canonicals.{Selectors}
+use Rattle.fx_label_index.specs.Counts.{raised}
 use Rattle.fx_label_index.specs.Tested.{IsTested}
 use Rattle.fx_label_index.specs.declared.counted.Counted.{Counted}
 use Rattle.fx_label_index.specs.declared.held.Inputs.{Inputs}
@@ -17,7 +17,7 @@ use Rattle.fx_label_index.proofs.Tested.{raise_then_raise, then_lower}
 use Rattle.fx_members.specs.UseText.{text_of}
 use Rattle.fx_model.specs.Sinks.{Policies, Uses}
 use Rattle.fx_model.specs.declared.set_use.SetUse.{SetUse}
-use Rattle.fx_graph_rules.specs.Counting.{times, total, IsCounted, StillCounted}
+use Rattle.fx_graph_rules.specs.Counting.{times, total, IsCounted}
 use Rattle.fx_graph_rules.proofs.Counts.{raised_still, counted_there}
 use Rattle.fx_graph_view.specs.Noted.{Before, AreNoted}
 use Rattle.fx_graph_view.proofs.NotedLemmas.{noted_was}

@@ -15,6 +15,7 @@ use fx_fields::{
 use fx_json::EndpointPortForm;
 use fx_model::{Endpoint, EndpointPort, Item, ItemKey, Key, Update};
 use fx_selector::Labels;
+use fx_sharing::Shared;
 use serde_json::Value;
 use std::alloc::Global;
 
@@ -61,7 +62,7 @@ fn host_put(alloc: Global, resource: &Value) -> Result<Update, ReadFault>
     let endpoint = host_in(alloc, labels, resource)?;
     Ok(Update::Put {
         key: host_key(alloc, name)?,
-        item: Item::Endpoint(endpoint),
+        item: Item::Endpoint(Shared::new(alloc, endpoint)?),
     })
 }
 

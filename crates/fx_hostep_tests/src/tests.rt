@@ -19,11 +19,11 @@ const HOST: &str =
 
 // It has the labels that it is given, and no others.
 const READ_HOST: &str = "Put { key: Item(Endpoint { ns: [], name: [104] }), \
-item: Endpoint(Endpoint { node: [110], iface: [101, 116, 104], \
+item: Endpoint(Shared { held: Endpoint { node: [110], iface: [101, 116, 104], \
 labels: Labels { alloc: Global, held: [([114], [115])] }, \
 addresses: Seq { held: [Ipv4(167772161), Ipv4(167772162)] }, profiles: Seq { held: [[112]] }, \
 ports: Seq { held: [EndpointPort { name: [98], proto: Proto(6), number: 80 }, \
-EndpointPort { name: [99], proto: Proto(132), number: 53 }] } }) }";
+EndpointPort { name: [99], proto: Proto(132), number: 53 }] } } }) }";
 
 const DELETED_HOST: &str = "Delete { key: Item(Endpoint { ns: [], name: [104] }) }";
 

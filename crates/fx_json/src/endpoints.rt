@@ -13,6 +13,7 @@ use fx_fields::{
 };
 use fx_model::{Endpoint, EndpointPort, Item, ItemKey, Key, Update};
 use fx_selector::Labels;
+use fx_sharing::Shared;
 use serde_json::Value;
 use std::alloc::Global;
 
@@ -24,7 +25,7 @@ pub fn endpoint_put(alloc: Global, resource: &Value) -> Result<Update, ReadFault
     let endpoint = endpoint_in(alloc, labels, &named.ns, resource)?;
     Ok(Update::Put {
         key: endpoint_key(named),
-        item: Item::Endpoint(endpoint),
+        item: Item::Endpoint(Shared::new(alloc, endpoint)?),
     })
 }
 

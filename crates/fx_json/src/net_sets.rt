@@ -11,6 +11,7 @@ use fx_fields::{
     in_namespace, ipv4_nets, items, metadata_in, section,
 };
 use fx_model::{Item, ItemKey, Key, NetSet, Update};
+use fx_sharing::Shared;
 use serde_json::Value;
 use std::alloc::Global;
 
@@ -23,7 +24,7 @@ pub fn net_set_put(alloc: Global, resource: &Value) -> Result<Update, ReadFault>
     let labels = in_namespace(labels, &named.ns)?;
     Ok(Update::Put {
         key: net_set_key(named),
-        item: Item::NetSet(NetSet { labels, nets }),
+        item: Item::NetSet(Shared::new(alloc, NetSet { labels, nets })?),
     })
 }
 
@@ -35,7 +36,7 @@ pub fn global_set_put(alloc: Global, resource: &Value) -> Result<Update, ReadFau
     let nets = nets_in(alloc, resource)?;
     Ok(Update::Put {
         key: global_set_key(name),
-        item: Item::NetSet(NetSet { labels, nets }),
+        item: Item::NetSet(Shared::new(alloc, NetSet { labels, nets })?),
     })
 }
 

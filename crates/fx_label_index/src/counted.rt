@@ -22,7 +22,6 @@ pub struct Counted {
 /// Counted selectors, each under its canonical text.
 #[derive(Drop)]
 pub struct SelectorMap {
-    alloc: Global,
     held: TextMap<Counted>,
 }
 
@@ -49,7 +48,6 @@ impl SelectorMap {
         ensures { result ≡ map.empty }
     {
         SelectorMap {
-            alloc,
             held: TextMap::new(alloc),
         }
     }
@@ -88,7 +86,7 @@ impl SelectorMap {
     {
         let key = text.clone()?;
         let found = self.held.remove(text);
-        let counted = once_more(self.alloc, found, selector)?;
+        let counted = once_more(found, selector)?;
         self.held.insert(key, counted)?;
         Ok(())
     }
@@ -107,14 +105,14 @@ impl SelectorMap {
     }
 }
 
-fn once_more(alloc: Global, found: Option<Counted>, selector: &Selector) -> Result<Counted, Memory>
+fn once_more(found: Option<Counted>, selector: &Selector) -> Result<Counted, Memory>
     ensures { IfOk result (λ counted. counted ≡ record { selector = selector_in found selector.now; uses = uses_in found + 1 }) }
 {
     let mut counted = match found {
         Some(counted) => counted,
         None => Counted {
             selector: selector.clone()?,
-            uses: Uses::new(alloc),
+            uses: Uses::new(),
         },
     };
     counted.uses.raise()?;

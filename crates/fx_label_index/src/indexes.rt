@@ -16,10 +16,11 @@ ghost use Rattle.fx_label_index.specs.declared.held.Inputs.{Inputs};
 use crate::counted::SelectorMap;
 use crate::telling::{forget_item, tell_item, tell_items};
 use crate::testing::{test_items, test_texts};
-use fx_base::{Memory, Text, TextMap, Ticker};
+use fx_base::{Memory, Text, Ticker};
 use fx_label_rows::{ItemsByLabel, TextsByNeed};
 use fx_model::{ItemKey, ItemMap, MatchSink};
 use fx_selector::{Labels, Selector};
+use fx_text_sets::TextSet;
 use std::alloc::Global;
 
 /// The effective labels of each item, the items that have each label, texts by what their selectors need, and for each
@@ -30,7 +31,7 @@ pub struct Indexes {
     labels: ItemMap<Labels>,
     by_label: ItemsByLabel,
     by_need: TextsByNeed,
-    texts: ItemMap<TextMap<()>>,
+    texts: ItemMap<TextSet>,
 }
 
 impl Indexes {
@@ -144,7 +145,7 @@ impl Indexes {
         selectors: &SelectorMap,
         labels: &Labels,
         ticks: &mut T,
-    ) -> Result<TextMap<()>, Memory>
+    ) -> Result<TextSet, Memory>
         requires { AreNeeded selectors.now self.now.by_need }
         ensures answers { IfOk result (λ texts. (t : List ℕ) → set.contains texts t
             ≡ tests (map.get selectors.now t) (Some labels.now)) }

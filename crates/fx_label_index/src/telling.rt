@@ -9,9 +9,10 @@ ghost use Rattle.fx_model.specs.declared.ids.ItemKey.{ItemKey};
 ghost use Rattle.fx_label_index.specs.Matched.{item_eq, text_eq};
 ghost use Rattle.fx_label_index.specs.Indexed.{AreTold};
 
-use fx_base::{Memory, Text, TextMap};
+use fx_base::{Memory, Text};
 use fx_label_rows::change_row;
 use fx_model::{ItemKey, ItemMap, MatchSink};
+use fx_text_sets::TextSet;
 use std::alloc::Global;
 
 /// Adds a pair that is to stand, or removes one that is not.
@@ -37,10 +38,10 @@ fn set_pair<S: MatchSink>(
 
 /// Brings the item's pairs of these texts from those that stood to those that are to stand.
 fn set_each<S: MatchSink>(
-    texts: &TextMap<()>,
+    texts: &TextSet,
     key: &ItemKey,
-    stood: &TextMap<()>,
-    stands: &TextMap<()>,
+    stood: &TextSet,
+    stands: &TextSet,
     sink: &mut S,
 ) -> Result<(), Memory>
     requires { (t : List ℕ) → set.contains texts.now t ≡ true
@@ -50,13 +51,7 @@ fn set_each<S: MatchSink>(
         (set.contains (S.pairs sink.old) (t, i))) }
 {
     for (text, _) in texts.iter() {
-        set_pair(
-            text,
-            key,
-            stood.contains_key(text),
-            stands.contains_key(text),
-            sink,
-        )?;
+        set_pair(text, key, stood.contains(text), stands.contains(text), sink)?;
     }
     Ok(())
 }
@@ -64,8 +59,8 @@ fn set_each<S: MatchSink>(
 /// Brings the item's pairs from the texts before to the texts after.
 fn tell<S: MatchSink>(
     key: &ItemKey,
-    before: &TextMap<()>,
-    after: &TextMap<()>,
+    before: &TextSet,
+    after: &TextSet,
     sink: &mut S,
 ) -> Result<(), Memory>
     requires { (t : List ℕ) → set.contains (S.pairs sink.old) (t, key.now) ≡ set.contains before.now t }
@@ -80,16 +75,16 @@ fn tell<S: MatchSink>(
 /// Makes exactly these texts hold on the item.
 pub fn tell_item<S: MatchSink>(
     alloc: Global,
-    rows: &mut ItemMap<TextMap<()>>,
+    rows: &mut ItemMap<TextSet>,
     key: &ItemKey,
-    after: TextMap<()>,
+    after: TextSet,
     sink: &mut S,
 ) -> Result<(), Memory>
     requires { AreTold (S.pairs sink.old) rows.old }
     ensures told { OnOk result (AreTold (S.pairs sink.new) rows.new) }
     ensures rows { OnOk result (rows.new ≡ map.insert rows.old key.now after) }
 {
-    let before = rows.remove(key).unwrap_or(TextMap::new(alloc));
+    let before = rows.remove(key).unwrap_or(TextSet::new(alloc));
     tell(key, &before, &after, sink)?;
     rows.insert(key.clone()?, after)?;
     Ok(())
@@ -98,7 +93,7 @@ pub fn tell_item<S: MatchSink>(
 /// Makes no text hold on the item.
 pub fn forget_item<S: MatchSink>(
     alloc: Global,
-    rows: &mut ItemMap<TextMap<()>>,
+    rows: &mut ItemMap<TextSet>,
     key: &ItemKey,
     sink: &mut S,
 ) -> Result<(), Memory>
@@ -106,8 +101,8 @@ pub fn forget_item<S: MatchSink>(
     ensures told { OnOk result (AreTold (S.pairs sink.new) rows.new) }
     ensures rows { OnOk result (rows.new ≡ map.remove rows.old key.now) }
 {
-    let before = rows.remove(key).unwrap_or(TextMap::new(alloc));
-    let none = TextMap::new(alloc);
+    let before = rows.remove(key).unwrap_or(TextSet::new(alloc));
+    let none = TextSet::new(alloc);
     tell(key, &before, &none, sink)?;
     Ok(())
 }
@@ -115,7 +110,7 @@ pub fn forget_item<S: MatchSink>(
 /// Makes the text hold on these items, or on none of them.
 pub fn tell_items<S: MatchSink>(
     alloc: Global,
-    rows: &mut ItemMap<TextMap<()>>,
+    rows: &mut ItemMap<TextSet>,
     items: &ItemMap<()>,
     text: &Text,
     stands: bool,
@@ -134,7 +129,7 @@ pub fn tell_items<S: MatchSink>(
 
 fn tell_one<S: MatchSink>(
     alloc: Global,
-    rows: &mut ItemMap<TextMap<()>>,
+    rows: &mut ItemMap<TextSet>,
     key: &ItemKey,
     text: &Text,
     stands: bool,
@@ -151,11 +146,11 @@ fn tell_one<S: MatchSink>(
     Ok(())
 }
 
-fn has_text(texts: Option<&TextMap<()>>, text: &Text) -> bool
+fn has_text(texts: Option<&TextSet>, text: &Text) -> bool
     ensures { result ≡ has_key (option_copied texts.entry) text.now }
 {
     match texts {
-        Some(texts) => texts.contains_key(text),
+        Some(texts) => texts.contains(text),
         None => false,
     }
 }

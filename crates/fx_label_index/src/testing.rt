@@ -11,9 +11,10 @@ ghost use Rattle.fx_label_index.specs.Tested.{met_on};
 
 use crate::counted::SelectorMap;
 use fx_base::{Memory, Text, TextMap, Ticker};
-use fx_label_rows::{set_item, set_text};
+use fx_label_rows::{hold_text, set_item};
 use fx_model::{ItemKey, ItemMap};
 use fx_selector::{Labels, Selector};
+use fx_text_sets::TextSet;
 use std::alloc::Global;
 
 /// The texts that hold on the labels, of the candidates.
@@ -23,16 +24,16 @@ pub fn test_texts<T: Ticker>(
     candidates: &TextMap<()>,
     labels: &Labels,
     ticks: &mut T,
-) -> Result<TextMap<()>, Memory>
+) -> Result<TextSet, Memory>
     requires { (t : List ℕ) → set.contains candidates.now t ≡ passes (is_met labels.now) t (map.get selectors.now t) }
     ensures answers { IfOk result (λ texts. (t : List ℕ) → set.contains texts t
         ≡ tests (map.get selectors.now t) (Some labels.now)) }
     ensures ticks { OnOk result (T.number ticks.new ≡ ticked (set.len candidates.now) (T.number ticks.old)) }
 {
-    let mut holding = TextMap::new(alloc);
+    let mut holding = TextSet::new(alloc);
     for (text, _) in candidates.iter() {
         let holds = test_text(selectors, text, labels, ticks);
-        set_text(&mut holding, text, holds)?;
+        hold_text(&mut holding, text, holds)?;
     }
     Ok(holding)
 }

@@ -1,14 +1,11 @@
-//! Sets of texts, below texts and below items.
+//! Sets of texts below texts.
 ghost use Rattle.std.specs.Prelude.{◌≡◌, ◌&&◌, ◌||◌, ℕ, List, OnOk, cond};
 ghost use Rattle.std.specs.Option.{option_copied};
 ghost use Rattle.std.specs.FinMap as map;
 ghost use Rattle.fx_base.specs.Set as set;
 ghost use Rattle.fx_base.specs.Grouped.{has_key, same_text};
-ghost use Rattle.fx_model.specs.declared.ids.ItemKey.{ItemKey};
-ghost use Rattle.fx_label_rows.specs.Labelled.{same_item};
 
 use fx_base::{Memory, Text, TextMap};
-use fx_model::{ItemKey, ItemMap};
 use std::alloc::Global;
 use std::marker::Model;
 
@@ -61,23 +58,6 @@ impl TextRows {
         self.held.insert(key.clone()?, texts)?;
         Ok(())
     }
-}
-
-/// Makes the text stand below the item, or not.
-pub fn change_row(
-    alloc: Global,
-    rows: &mut ItemMap<TextMap<()>>,
-    item: &ItemKey,
-    text: &Text,
-    standing: bool,
-) -> Result<(), Memory>
-    ensures { OnOk result ((i : ItemKey) (t : List ℕ) → has_key (map.get rows.new i) t
-        ≡ cond (same_item i item.now && same_text t text.now) standing (has_key (map.get rows.old i) t)) }
-{
-    let mut texts = rows.remove(item).unwrap_or(TextMap::new(alloc));
-    set_text(&mut texts, text, standing)?;
-    rows.insert(item.clone()?, texts)?;
-    Ok(())
 }
 
 /// Makes the text stand in the set, or not.

@@ -13,7 +13,6 @@ use std::marker::Model;
 /// A count for each member of each set, by member first: numbers are soon compared, and names of sets begin alike.
 #[derive(Drop)]
 pub struct MemberCounts {
-    alloc: Global,
     held: BTreeMap<(Member, SetName), Uses>,
 }
 
@@ -38,7 +37,6 @@ impl MemberCounts {
         ensures { result ≡ map.empty }
     {
         MemberCounts {
-            alloc,
             held: BTreeMap::new(alloc),
         }
     }
@@ -63,7 +61,7 @@ impl MemberCounts {
             ≡ shifted true (cond (is_place name member q m) 1 0) (count_at self.old q m)) }
         ensures first { IfOk result (λ first. first ≡ (count_at self.old name member == 0)) }
     {
-        let mut uses = self.remove(name, member).unwrap_or(Uses::new(self.alloc));
+        let mut uses = self.remove(name, member).unwrap_or(Uses::new());
         let first = uses.is_zero();
         uses.raise()?;
         self.insert(name, member, uses)?;
@@ -76,7 +74,7 @@ impl MemberCounts {
             ≡ shifted false (cond (is_place name member q m) 1 0) (count_at self.old q m)) }
         ensures last { IfOk result (λ last. last ≡ (count_at self.new name member == 0)) }
     {
-        let mut uses = self.remove(name, member).unwrap_or(Uses::new(self.alloc));
+        let mut uses = self.remove(name, member).unwrap_or(Uses::new());
         uses.lower();
         if uses.is_zero() {
             return Ok(true);

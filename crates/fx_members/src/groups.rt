@@ -7,6 +7,7 @@ ghost use Rattle.fx_members.specs.Indexes.{same_item};
 
 use fx_base::{Memory, SetMap, SetName, Text, TextMap};
 use fx_model::{ItemKey, ItemMap};
+use fx_text_sets::TextSet;
 use std::alloc::Global;
 
 pub fn add_name(
@@ -50,29 +51,29 @@ fn has_no_name(names: &SetMap<()>) -> bool
 
 pub fn add_text(
     alloc: Global,
-    texts: &mut ItemMap<TextMap<()>>,
+    texts: &mut ItemMap<TextSet>,
     item: &ItemKey,
     text: &Text,
 ) -> Result<(), Memory>
     ensures { OnOk result ((i : ItemKey) (t : List ℕ) → has_key (map.get texts.new i) t
         ≡ cond (same_item i item.now && same_text t text.now) true (has_key (map.get texts.old i) t)) }
 {
-    let mut own = texts.remove(item).unwrap_or(TextMap::new(alloc));
-    own.insert(text.clone()?, ())?;
+    let mut own = texts.remove(item).unwrap_or(TextSet::new(alloc));
+    own.insert(text.clone()?)?;
     texts.insert(item.clone()?, own)?;
     Ok(())
 }
 
 pub fn remove_text(
     alloc: Global,
-    texts: &mut ItemMap<TextMap<()>>,
+    texts: &mut ItemMap<TextSet>,
     item: &ItemKey,
     text: &Text,
 ) -> Result<(), Memory>
     ensures { OnOk result ((i : ItemKey) (t : List ℕ) → has_key (map.get texts.new i) t
         ≡ cond (same_item i item.now && same_text t text.now) false (has_key (map.get texts.old i) t)) }
 {
-    let mut own = texts.remove(item).unwrap_or(TextMap::new(alloc));
+    let mut own = texts.remove(item).unwrap_or(TextSet::new(alloc));
     own.remove(text);
     if has_no_text(&own) {
         return Ok(());
@@ -81,8 +82,8 @@ pub fn remove_text(
     Ok(())
 }
 
-fn has_no_text(texts: &TextMap<()>) -> bool
+fn has_no_text(texts: &TextSet) -> bool
     ensures { IsTrue result → map.entries texts.now ≡ [] }
 {
-    texts.iter().next().is_none()
+    texts.is_empty()
 }

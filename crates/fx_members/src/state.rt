@@ -14,6 +14,7 @@ use crate::inputs::Inputs;
 use crate::walks::{change_named, change_set, change_with_texts};
 use fx_base::{Memory, SetMap, SetName, Text, TextMap};
 use fx_model::{Item, ItemKey, ItemMap, SetSink, SetUse};
+use fx_text_sets::TextSet;
 use std::alloc::Global;
 
 /// What the node is told; the names of the sets of each text and the texts that hold on each item, to find what changes; and how
@@ -22,7 +23,7 @@ use std::alloc::Global;
 pub struct State {
     pub inputs: Inputs,
     pub names: TextMap<SetMap<()>>,
-    pub texts: ItemMap<TextMap<()>>,
+    pub texts: ItemMap<TextSet>,
     pub counts: MemberCounts,
 }
 

@@ -14,6 +14,7 @@ use crate::counts::MemberCounts;
 use crate::inputs::Inputs;
 use fx_base::{Memory, SetMap, SetName, Text, TextMap};
 use fx_model::{Item, ItemMap, SetSink, SetUse};
+use fx_text_sets::TextSet;
 use std::alloc::Global;
 
 /// Counts what an item contributes to the sets of these names once more or once less, if it is there.
@@ -74,7 +75,7 @@ pub fn change_with_texts<S: SetSink>(
     alloc: Global,
     uses: &SetMap<SetUse>,
     names: &TextMap<SetMap<()>>,
-    texts: Option<&TextMap<()>>,
+    texts: Option<&TextSet>,
     item: Option<&Item>,
     more: bool,
     counts: &mut MemberCounts,
@@ -102,7 +103,7 @@ fn change_each_text<S: SetSink>(
     alloc: Global,
     uses: &SetMap<SetUse>,
     names: &TextMap<SetMap<()>>,
-    texts: &TextMap<()>,
+    texts: &TextSet,
     item: Option<&Item>,
     more: bool,
     counts: &mut MemberCounts,

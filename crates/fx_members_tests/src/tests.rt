@@ -11,6 +11,7 @@ use fx_members::Members;
 use fx_model::{Item, ItemKey, NetSet, SetUse};
 use fx_record::RecordSets;
 use fx_selector::{Labels, Selector};
+use fx_sharing::Shared;
 use std::alloc::Global;
 use std::process::Abort;
 use std::test::Fail;
@@ -69,10 +70,11 @@ fn put_nets(
     ensures matched { OnOk result (node.new.matched ≡ node.old.matched) }
     ensures members { OnOk result (AreMembers node.new sink.new.sets) }
 {
-    let item = Item::NetSet(NetSet {
+    let net_set = NetSet {
         labels: Labels::new(example.alloc),
         nets: Seq::from_vec(Vec::from_slice(example.alloc, nets)?),
-    });
+    };
+    let item = Item::NetSet(Shared::new(example.alloc, net_set)?);
     node.put_item(&example.key, &item, sink)?;
     Ok(())
 }

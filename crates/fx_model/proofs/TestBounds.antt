@@ -1,6 +1,6 @@
 -- The tests that an update calls for at least are never more than those at most: labels on which a selector holds have what it needs.
-use Rattle.std.proofs.Common.{◌≡◌, ℕ, ◌≤◌, ◌+◌, Bool, true, false, cond, not, ◌&&◌, ◌||◌, List, Option, Some, None, refl, arith}
-use Rattle.std.specs.List.{count_by, sum_by}
+use Rattle.std.proofs.Common.{◌≡◌, ℕ, ◌≤◌, Bool, true, false, cond, not, ◌&&◌, ◌||◌, List, Option, refl, arith}
+use Rattle.std.specs.List.{count_by}
 use Rattle.std.specs.FinMap as maps
 use Rattle.std.proofs.lemmas.List.Sums.{sum_by-le-sum_by}
 use Rattle.fx_selector.specs.Tree.{Tree}

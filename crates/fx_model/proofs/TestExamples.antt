@@ -21,9 +21,7 @@ use Rattle.fx_model.specs.declared.resources.Profile.{Profile}
 use Rattle.fx_model.specs.declared.resources.Resources.{Resources}
 use Rattle.fx_model.specs.declared.resources.Update.{Update}
 use Rattle.fx_model.specs.declared.resources.Update.TheVariants as update
-use Rattle.fx_model.specs.declared.rules.Action.TheVariants.{Allow}
 use Rattle.fx_model.specs.declared.rules.Rule.{Rule}
-use Rattle.fx_model.specs.declared.rules.Side.{Side}
 use Rattle.fx_model.specs.Resources.{empty_resources}
 use Rattle.fx_model.specs.Tests.{most_tests, least_tests}
 use Rattle.fx_model.proofs.Orders.{item_total, policy_total}

@@ -9,6 +9,7 @@ use crate::policy_map::PolicyMap;
 use crate::rules::Rule;
 use fx_base::{Exact, Ipv4, Memory, Proto, Seq, Text, TextMap};
 use fx_selector::Labels;
+use fx_sharing::Shared;
 use std::alloc::{AllocError, Global};
 
 /// A port that an endpoint has, under a name.
@@ -72,14 +73,14 @@ impl Clone for Profile {
     }
 }
 
-/// A resource.
+/// A resource. Endpoints and network sets are held in more places than one, so copies of their records share them.
 #[derive(Debug, Drop)]
 pub enum Item {
-    Endpoint(Endpoint),
+    Endpoint(Shared<Endpoint>),
     Profile(Profile),
     Tier(Tier),
     Policy(Policy),
-    NetSet(NetSet),
+    NetSet(Shared<NetSet>),
 }
 
 impl Clone for Item {
@@ -131,8 +132,8 @@ fn copied(key: &Key) -> Result<Key, AllocError>
 pub struct Resources {
     pub node: Text,
     pub in_sync: bool,
-    pub endpoints: ItemMap<Endpoint>,
-    pub net_sets: ItemMap<NetSet>,
+    pub endpoints: ItemMap<Shared<Endpoint>>,
+    pub net_sets: ItemMap<Shared<NetSet>>,
     pub profiles: TextMap<Profile>,
     pub tiers: TextMap<Tier>,
     pub policies: PolicyMap<Policy>,
@@ -187,7 +188,7 @@ impl Resources {
         }
     }
 
-    fn put_endpoint(&mut self, key: Key, endpoint: Endpoint) -> Result<(), Memory>
+    fn put_endpoint(&mut self, key: Key, endpoint: Shared<Endpoint>) -> Result<(), Memory>
         ensures ok { OnOk result (self.new ≡ put_endpoint self.old key endpoint) }
         ensures err { OnErr result (self.new ≡ self.old) }
     {
@@ -234,7 +235,7 @@ impl Resources {
         Ok(())
     }
 
-    fn put_net_set(&mut self, key: Key, net_set: NetSet) -> Result<(), Memory>
+    fn put_net_set(&mut self, key: Key, net_set: Shared<NetSet>) -> Result<(), Memory>
         ensures ok { OnOk result (self.new ≡ put_net_set self.old key net_set) }
         ensures err { OnErr result (self.new ≡ self.old) }
     {

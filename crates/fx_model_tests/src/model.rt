@@ -6,6 +6,7 @@ use fx_model::{
 };
 use fx_names::{DigestFunction, DigestRule, Namer};
 use fx_selector::{Labels, Selector};
+use fx_sharing::Shared;
 use fx_wanted::{
     applies, effective_labels, is_active, next_message, pending_key_of, take_at, view_of,
 };
@@ -78,7 +79,7 @@ fn filled(alloc: Global) -> Result<Resources, Memory> {
         ns: Text::new(alloc, b"shop")?,
         name: Text::new(alloc, b"web")?,
     });
-    let item = Item::Endpoint(web(alloc)?);
+    let item = Item::Endpoint(Shared::new(alloc, web(alloc)?)?);
     resources.apply(Update::Put { key, item })?;
     resources.apply(Update::InSync)?;
     Ok(resources)

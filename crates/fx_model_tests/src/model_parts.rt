@@ -4,6 +4,7 @@ use fx_model::{
     Flags, Item, Key, KeyMap, Member, MemberFlags, MemberList, MemberSet, NetSet, Tier,
 };
 use fx_selector::Labels;
+use fx_sharing::Shared;
 use std::alloc::Global;
 use std::process::Abort;
 use std::test::Fail;
@@ -97,10 +98,11 @@ fn copied_nets(item: &Item) -> Result<usize, Memory> {
 fn a_copied_network_set_has_its_nets(rt: HostRuntime) -> Result<(), Fail> {
     let alloc = rt.alloc();
     let nets = vec![in alloc; Net::host(Ipv4(9)), Net::host(Ipv4(10))]?;
-    let item = Item::NetSet(NetSet {
+    let net_set = NetSet {
         labels: Labels::new(alloc),
         nets: Seq::from_vec(nets),
-    });
+    };
+    let item = Item::NetSet(Shared::new(alloc, net_set)?);
     assert_eq!(rt; copied_nets(&item)?, 2);
     Ok(())
 }

@@ -20,7 +20,6 @@ struct Holding {
 /// The claims that are held, each as often as it was put. After want of memory the registry isn't used again.
 #[derive(Drop)]
 pub struct Registry {
-    alloc: Global,
     names: KernelMap<Holding>,
 }
 
@@ -29,7 +28,6 @@ impl Registry {
         ensures { HoldsClaims result [] }
     {
         Registry {
-            alloc,
             names: KernelMap::new(alloc),
         }
     }
@@ -151,7 +149,7 @@ impl Registry {
             Some(holding) => holding,
             None => Holding {
                 holder: claim.holder.clone()?,
-                uses: Uses::new(self.alloc),
+                uses: Uses::new(),
             },
         };
         holding.uses.raise()?;

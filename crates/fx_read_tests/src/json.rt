@@ -54,28 +54,28 @@ const ENDPOINT: &str =
 
 // The bytes of `projectcalico.org/namespace`.
 const READ_ENDPOINT: &str = "Put { key: Item(Endpoint { ns: [97], name: [119] }), \
-item: Endpoint(Endpoint { node: [110], iface: [99, 97, 108, 105], \
+item: Endpoint(Shared { held: Endpoint { node: [110], iface: [99, 97, 108, 105], \
 labels: Labels { alloc: Global, held: [([112, 114, 111, 106, 101, 99, 116, 99, 97, 108, 105, 99, 111, 46, 111, 114, 103, 47, \
 110, 97, 109, 101, 115, 112, 97, 99, 101], [97])] }, \
 addresses: Seq { held: [Ipv4(167772161), Ipv4(167772162)] }, \
 profiles: Seq { held: [[112], [113]] }, \
 ports: Seq { held: [EndpointPort { name: [98], proto: Proto(6), number: 80 }, \
-EndpointPort { name: [99], proto: Proto(17), number: 53 }] } }) }";
+EndpointPort { name: [99], proto: Proto(17), number: 53 }] } } }) }";
 
 const NET_SET: &str =
     r#"{"apiVersion":"projectcalico.org/v3","kind":"NetworkSet","metadata":{"name":"s","namespace":"a","labels":{
 "projectcalico.org/namespace":"x"}},"spec":{"nets":["10.0.0.0/8","::"]}}"#;
 
 const READ_NET_SET: &str = "Put { key: Item(NetSet { ns: Some([97]), name: [115] }), \
-item: NetSet(NetSet { labels: Labels { alloc: Global, held: [([112, 114, 111, 106, 101, 99, 116, 99, 97, 108, 105, 99, 111, 46, \
+item: NetSet(Shared { held: NetSet { labels: Labels { alloc: Global, held: [([112, 114, 111, 106, 101, 99, 116, 99, 97, 108, 105, 99, 111, 46, \
 111, 114, 103, 47, 110, 97, 109, 101, 115, 112, 97, 99, 101], [97])] }, \
-nets: Seq { held: [Net { addr: Ipv4(167772160), len: 8 }] } }) }";
+nets: Seq { held: [Net { addr: Ipv4(167772160), len: 8 }] } } }) }";
 
 const GLOBAL_SET: &str =
     r#"{"apiVersion":"projectcalico.org/v3","kind":"GlobalNetworkSet","metadata":{"name":"s","namespace":"a","labels":{"a":"b"}}}"#;
 
 const READ_GLOBAL_SET: &str = "Put { key: Item(NetSet { ns: None, name: [115] }), \
-item: NetSet(NetSet { labels: Labels { alloc: Global, held: [([97], [98])] }, nets: Seq { held: [] } }) }";
+item: NetSet(Shared { held: NetSet { labels: Labels { alloc: Global, held: [([97], [98])] }, nets: Seq { held: [] } } }) }";
 
 const TIER: &str =
     r#"{"apiVersion":"projectcalico.org/v3","kind":"Tier","metadata":{"name":"t"},"spec":{"order":-9223372036854775808,"defaultAction":"Pass"}}"#;

@@ -95,7 +95,7 @@ pub fn tell_row<S: ViewSink>(
 }
 
 /// Tells the row of an item, if it is an endpoint.
-pub fn tell_item<S: ViewSink>(
+fn tell_item<S: ViewSink>(
     alloc: Global,
     endpoints: &ItemMap<KnownEndpoint>,
     item: &ItemKey,

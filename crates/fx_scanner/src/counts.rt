@@ -10,7 +10,6 @@ use std::marker::Model;
 /// A count for each set that is used, by its key.
 #[derive(Drop)]
 pub struct UseCounts {
-    alloc: Global,
     counts: TextMap<Uses>,
 }
 
@@ -31,7 +30,6 @@ impl UseCounts {
         ensures { result ≡ map.empty }
     {
         UseCounts {
-            alloc,
             counts: TextMap::new(alloc),
         }
     }
@@ -42,7 +40,7 @@ impl UseCounts {
         ensures counts { OnOk result (self.new ≡ map.insert self.old key.now (count_at self.old key.now + 1)) }
         ensures first { IfOk result (λ first. first ≡ (count_at self.old key.now == 0)) }
     {
-        let mut uses = self.counts.remove(key).unwrap_or(Uses::new(self.alloc));
+        let mut uses = self.counts.remove(key).unwrap_or(Uses::new());
         let first = uses.is_zero();
         uses.raise()?;
         self.counts.insert(key.clone()?, uses)?;
@@ -55,7 +53,7 @@ impl UseCounts {
         ensures counts { OnOk result (self.new ≡ with_count self.old key.now (count_at self.old key.now - 1)) }
         ensures last { IfOk result (λ last. last ≡ ((count_at self.old key.now - 1) == 0)) }
     {
-        let mut uses = self.counts.remove(key).unwrap_or(Uses::new(self.alloc));
+        let mut uses = self.counts.remove(key).unwrap_or(Uses::new());
         uses.lower();
         if uses.is_zero() {
             return Ok(true);

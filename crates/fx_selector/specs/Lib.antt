@@ -4,7 +4,6 @@ pub mod TreeCode
 pub mod Nodes
 pub mod Truth
 pub mod Prefixed
-pub mod LabelPlaces
 pub mod Asked
 pub mod Language
 pub mod Canonical

@@ -8,10 +8,11 @@ ghost use Rattle.std.specs.Ordering.{nat_cmp};
 ghost use Rattle.std.specs.Cmp.Lexicographic.{slice_cmp, pointwise, lists_per, lists_equiv, nat_list_eq_equiv};
 ghost use Rattle.fx_base.specs.Extended.{extended};
 ghost use Rattle.fx_base.specs.Same.{same_bytes, same_finite};
-ghost use Rattle.fx_selector.specs.LabelPlaces.{Ascends, StandsAt, BelongsAt};
+ghost use Rattle.fx_base.specs.TextPlaces.{Ascends, StandsAt, BelongsAt};
 ghost use Rattle.fx_selector.specs.Prefixed.{prefixed};
 
 use fx_base::{Exact, Memory, Text};
+use fx_sharing::TextTable;
 use std::alloc::{AllocError, Global};
 use std::cmp::Ordering;
 use std::marker::Model;
@@ -35,7 +36,7 @@ impl Model for Labels {
     ghost use Rattle.std.specs.Cmp.Lexicographic.{slice_cmp};
     ghost use Rattle.std.specs.FinMap as map;
     ghost use Rattle.std.specs.Coded.{coded_ℕ, coded_list};
-    ghost use Rattle.fx_selector.specs.LabelPlaces.{Ascends};
+    ghost use Rattle.fx_base.specs.TextPlaces.{Ascends};
 
     ghost Value = { map.FinMap (slice_cmp nat_cmp) (List ℕ) };
 
@@ -100,6 +101,17 @@ impl Labels {
         Ok(labels)
     }
 
+    /// These labels, by texts of the table.
+    pub fn shared(&self, texts: &mut TextTable) -> Result<Labels, Memory>
+        ensures { IfOk result (λ labels. labels ≡ self.now) }
+    {
+        let held = all_shared(&self.held, texts)?;
+        Ok(Labels {
+            alloc: self.alloc,
+            held,
+        })
+    }
+
     /// The labels, by ascending keys.
     pub fn iter(&self) -> Iter<'_, (Text, Text)>
         ensures { iter_rest result ≡ map.entries self.now }
@@ -128,6 +140,18 @@ fn place(labels: &[Label], key: &[u8]) -> Result<usize, usize>
             ensures { result ≡ slice_cmp nat_cmp label.now.0 key.entry.now }
         { label.0.bytes().cmp(key) },
     )
+}
+
+fn all_shared(labels: &[Label], texts: &mut TextTable) -> Result<Vec<Label>, Memory>
+    ensures { IfOk result (λ same. same.items ≡ labels.now) }
+{
+    let mut same = Vec::with_capacity(texts.alloc(), labels.len())?;
+    for (key, value) in labels {
+        let key = texts.shared(key)?;
+        let value = texts.shared(value)?;
+        same.push((key, value))?;
+    }
+    Ok(same)
 }
 
 fn with_prefix(alloc: Global, prefix: &[u8], key: &[u8]) -> Result<Text, Memory>

@@ -15,6 +15,7 @@ use fx_base::{Ipv4, Memory, Seq, Text};
 use fx_fields::{Metadata, NamespacedName, ReadFault, metadata_in, namespaced_name_in, text_at};
 use fx_model::{Endpoint, EndpointPort, Item, ItemKey, Key, Update};
 use fx_selector::Labels;
+use fx_sharing::Shared;
 use serde_json::Value;
 use std::alloc::Global;
 
@@ -153,7 +154,7 @@ fn put_of_slice(alloc: Global, slice: Slice) -> Result<Update, Memory>
     let endpoint = slice_record(alloc, slice)?;
     Ok(Update::Put {
         key,
-        item: Item::Endpoint(endpoint),
+        item: Item::Endpoint(Shared::new(alloc, endpoint)?),
     })
 }
 

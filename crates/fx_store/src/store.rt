@@ -17,6 +17,7 @@ use crate::touched::{last_records, touched_keys};
 use fx_base::{Memory, Text};
 use fx_model::{Endpoint, ItemKey, Key, NetSet, Policy, Profile, Resources, Tier, Update};
 use fx_names::{DigestFunction, DigestRule, Namer, Registry};
+use fx_sharing::Shared;
 use std::alloc::Global;
 
 /// The resources of a node and what they claim. After want of memory in `apply` or its like it isn't used again.
@@ -30,11 +31,11 @@ pub struct Store {
 /// What stands at a key.
 #[derive(Clone, Copy, Debug)]
 pub enum Found<'a> {
-    Endpoint(&'a Endpoint),
+    Endpoint(&'a Shared<Endpoint>),
     Profile(&'a Profile),
     Tier(&'a Tier),
     Policy(&'a Policy),
-    NetSet(&'a NetSet),
+    NetSet(&'a Shared<NetSet>),
 }
 
 impl Store {

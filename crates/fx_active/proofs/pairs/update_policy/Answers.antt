@@ -1,8 +1,7 @@
-use Rattle.std.proofs.Common.{◌≡◌, ◌&&◌, cond, true, sym, ap, ◌∙◌}
+use Rattle.std.proofs.Common.{◌&&◌, cond, sym, ap, ◌∙◌}
 use Rattle.std.specs.Option.{option_copied}
 use Rattle.fx_base.specs.Set as set
 use Rattle.fx_model.specs.declared.ids.ItemKey.{ItemKey}
-use Rattle.fx_model.specs.declared.ids.PolicyId.{PolicyId}
 use Rattle.fx_active.specs.Active.{applies_to}
 use Rattle.fx_active.specs.Steps.{same_id}
 use Rattle.fx_active.proofs.PairWalk.{still_paired, row_set}

@@ -1,4 +1,4 @@
-use Rattle.std.proofs.Common.{◌≡◌, refl, sym, ◌∙◌, subst}
+use Rattle.std.proofs.Common.{refl, sym, ◌∙◌, subst}
 use Rattle.fx_active.proofs.TextWalk.{IsHalfTold, told_start, told_next, told_end, pair_next, policy_next}
 use Rattle.fx_active.proofs.pairs.update_texts.Goals as goal
 

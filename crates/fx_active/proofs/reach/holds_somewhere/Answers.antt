@@ -1,6 +1,5 @@
 use Rattle.std.proofs.Common.{ap, sym, ◌∙◌}
 use Rattle.std.specs.Option.{option_copied}
-use Rattle.fx_base.specs.Grouped.{has_key}
 use Rattle.fx_active.proofs.HereLemmas.{some_there, holds_here}
 use Rattle.fx_active.proofs.reach.holds_somewhere.Goals as goal
 

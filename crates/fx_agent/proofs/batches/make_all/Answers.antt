@@ -15,47 +15,47 @@ use Rattle.fx_agent.proofs.Handing.{steps-accepted}
 use Rattle.fx_agent.proofs.batches.make_all.Goals as goal
 
 pub check_all-requires-clause-formed : goal.check_all-requires-clause-formed
-check_all-requires-clause-formed g c = ap (list_all is_formed) c.deref.ensures.value ∙ c.requires.formed
+check_all-requires-clause-formed g c = ap (list_all is_formed) (c.deref.ensures.value ∙ c.in_ok-shared.ensures) ∙ c.requires.formed
 
 pub returns-in_err-check_all-clause-tells : goal.returns-in_err-check_all-clause-tells
 returns-in_err-check_all-clause-tells g c =
     let fault = c.in_err-check_all.field-0.0 in
-    fault_on c.from_residual.result fault _ c.from_residual.ensures.1
-    (subst (λ us. IsCheckFault fault (clash_all g.R.DigestRule.digest_of c.args.store.now.resources us)) c.deref.ensures.value c.in_err-check_all.ensures)
+    fault_on c.from_residual-in_err-check_all.result fault _ c.from_residual-in_err-check_all.ensures.1
+    (subst (λ us. IsCheckFault fault (clash_all g.R.DigestRule.digest_of c.args.store.now.resources us)) (c.deref.ensures.value ∙ c.in_ok-shared.ensures) c.in_err-check_all.ensures)
 
 pub follow_all-requires : goal.follow_all-requires
 follow_all-requires g c =
     let dg = g.R.DigestRule.digest_of in
     let R = c.args.store.now.resources in
     let us = c.args.updates.items in
-    let free = ap (clash_all dg R) (sym c.deref.ensures.value) ∙ c.in_ok-check_all.ensures in
-    let given = c.deref-3.ensures.value ∙ c.in_ok-steps.ensures ∙ ap (steps_of R) c.deref-2.ensures.value in
+    let free = ap (clash_all dg R) (sym (c.deref.ensures.value ∙ c.in_ok-shared.ensures)) ∙ c.in_ok-check_all.ensures in
+    let given = c.deref-3.ensures.value ∙ c.in_ok-steps.ensures ∙ ap (steps_of R) (c.deref-2.ensures.value ∙ c.in_ok-shared.ensures) in
     (R, (c.requires.graph, subst (λ qs. AreAccepted dg R qs) (sym given) (steps-accepted dg R c.requires.servable us c.requires.formed c.requires.changes free)))
 
 pub apply_all-requires-clause-formed : goal.apply_all-requires-clause-formed
-apply_all-requires-clause-formed g c = ap (list_all is_formed) c.deref-4.ensures.value ∙ c.requires.formed
+apply_all-requires-clause-formed g c = ap (list_all is_formed) (c.deref-4.ensures.value ∙ c.in_ok-shared.ensures) ∙ c.requires.formed
 
 pub apply_all-requires-clause-free : goal.apply_all-requires-clause-free
 apply_all-requires-clause-free g c =
     ap (clash_all g.R.DigestRule.digest_of c.args.store.now.resources) (c.deref-4.ensures.value ∙ sym c.deref.ensures.value) ∙ c.in_ok-check_all.ensures
 
 pub returns-clause-tells : goal.returns-clause-tells
-returns-clause-tells g c = ap (clash_all g.R.DigestRule.digest_of c.args.store.now.resources) (sym c.deref.ensures.value) ∙ c.in_ok-check_all.ensures
+returns-clause-tells g c = ap (clash_all g.R.DigestRule.digest_of c.args.store.now.resources) (sym (c.deref.ensures.value ∙ c.in_ok-shared.ensures)) ∙ c.in_ok-check_all.ensures
 
 pub returns-clause-resources : goal.returns-clause-resources
-returns-clause-resources g c = c.in_ok-apply_all.ensures.made ∙ ap (after_all c.args.store.now.resources) c.deref-4.ensures.value
+returns-clause-resources g c = c.in_ok-apply_all.ensures.made ∙ ap (after_all c.args.store.now.resources) (c.deref-4.ensures.value ∙ c.in_ok-shared.ensures)
 
 pub returns-clause-follows : goal.returns-clause-follows
 returns-clause-follows g c =
     let R = c.args.store.now.resources in
     let us = c.args.updates.items in
-    let given = c.deref-3.ensures.value ∙ c.in_ok-steps.ensures ∙ ap (steps_of R) c.deref-2.ensures.value in
+    let given = c.deref-3.ensures.value ∙ c.in_ok-steps.ensures ∙ ap (steps_of R) (c.deref-2.ensures.value ∙ c.in_ok-shared.ensures) in
     subst (λ (S : Resources). IsGraphOf g.R.DigestRule.digest_of S c.follow_all.new.graph.state)
     (ap (after_all R) given ∙ steps-end R us c.requires.formed c.requires.changes) (c.in_ok-follow_all.ensures.follows R c.requires.graph)
 
 pub returns-clause-tests : goal.returns-clause-tests
 returns-clause-tests g c =
     let R = c.args.store.now.resources in
-    let given = c.deref-3.ensures.value ∙ c.in_ok-steps.ensures ∙ ap (steps_of R) c.deref-2.ensures.value in
+    let given = c.deref-3.ensures.value ∙ c.in_ok-steps.ensures ∙ ap (steps_of R) (c.deref-2.ensures.value ∙ c.in_ok-shared.ensures) in
     subst (λ qs. IsTicked (along least_tests R qs) (along most_tests R qs) (g.T.Ticker.number c.args.ticks.now) (g.T.Ticker.number c.follow_all.new.ticks))
     given (c.in_ok-follow_all.ensures.tests R c.requires.graph)

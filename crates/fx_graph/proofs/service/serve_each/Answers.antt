@@ -1,4 +1,4 @@
-use Rattle.std.proofs.Common.{◌≡◌, List, map as each, refl, sym, ap, ◌∙◌, subst}
+use Rattle.std.proofs.Common.{map as each, refl, sym, ap, ◌∙◌, subst}
 use Rattle.std.specs.FinMap as map
 use Rattle.fx_base.specs.Extended.{extended}
 use Rattle.fx_active.specs.declared.inputs.Inputs as active

@@ -20,7 +20,7 @@ set_pair-requires g c =
     let old = g.S.MatchSink.pairs c.args.sink.now in
     let rest = subst (λ es. IsRest c.args.texts.now es) c.in-Some.ensures.steps c.loop-text.invariant.rest in
     let half = subst (λ es. HalfSet c.args.texts.now c.args.key.now c.args.stands.now old (g.S.MatchSink.pairs c.loop-text.sink) es) c.in-Some.ensures.steps c.loop-text.invariant.half in
-    set-stood c.args.texts.now c.args.key.now c.args.stood.now c.args.stands.now old c.requires (g.S.MatchSink.pairs c.loop-text.sink) _ _ rest half ∙ sym c.contains_key.ensures
+    set-stood c.args.texts.now c.args.key.now c.args.stood.now c.args.stands.now old c.requires (g.S.MatchSink.pairs c.loop-text.sink) _ _ rest half ∙ sym c.contains.ensures
 
 pub loop-text-preserved : goal.loop-text-preserved
 loop-text-preserved g c =
@@ -29,5 +29,5 @@ loop-text-preserved g c =
     let half = subst (λ es. HalfSet c.args.texts.now c.args.key.now c.args.stands.now old (g.S.MatchSink.pairs c.loop-text.sink) es) c.in-Some.ensures.steps c.loop-text.invariant.half in
     record {
       rest = IsRest-next nat_list_cmp_total bytes_exact c.args.texts.now _ _ rest;
-      half = set-next c.args.texts.now c.args.key.now c.args.stood.now c.args.stands.now old c.requires (g.S.MatchSink.pairs c.loop-text.sink) (g.S.MatchSink.pairs c.set_pair.new.sink) _ _ c.contains_key-in-loop-text.result rest half c.contains_key-in-loop-text.ensures c.in_ok-set_pair.ensures;
+      half = set-next c.args.texts.now c.args.key.now c.args.stood.now c.args.stands.now old c.requires (g.S.MatchSink.pairs c.loop-text.sink) (g.S.MatchSink.pairs c.set_pair.new.sink) _ _ c.contains-in-loop-text.result rest half c.contains-in-loop-text.ensures c.in_ok-set_pair.ensures;
     }

@@ -33,7 +33,7 @@ loop-text-preserved g c =
     let ticks = subst (λ es. ticked (length es) (g.T.Ticker.number c.loop-text.ticks) ≡ ticked (length (map.entries c.args.candidates.now)) (g.T.Ticker.number c.args.ticks.now)) c.in-Some.ensures.steps c.loop-text.invariant.ticks in
     record {
       rest = IsRest-next nat_list_cmp_total bytes_exact c.args.candidates.now _ _ rest;
-      half = tested-next nat_list_cmp_total bytes_exact f c.args.candidates.now c.loop-text.holding c.set_text.new.texts _ _ c.test_text-holds.result rest half c.test_text-holds.ensures.answer c.in_ok-set_text.ensures;
+      half = tested-next nat_list_cmp_total bytes_exact f c.args.candidates.now c.loop-text.holding c.hold_text.new.texts _ _ c.test_text-holds.result rest half c.test_text-holds.ensures.answer c.in_ok-hold_text.ensures;
       ticks = tested-tick nat_list_cmp_total bytes_exact f c.args.candidates.now (g.T.Ticker.number c.loop-text.ticks) (g.T.Ticker.number c.test_text-holds.new.ticks) _ _ _ rest c.test_text-holds.ensures.tick ticks;
     }
 

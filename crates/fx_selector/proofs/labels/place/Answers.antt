@@ -2,7 +2,7 @@ use Rattle.std.proofs.Common.{◌≡◌, refl, ap, ◌∙◌}
 use Rattle.std.proofs.lemmas.Fn.{answers_by}
 use Rattle.std.specs.Ordering.{nat_cmp}
 use Rattle.std.specs.Cmp.Lexicographic.{slice_cmp}
-use Rattle.fx_selector.proofs.LabelPlaces.{searched}
+use Rattle.fx_base.proofs.TextPlaces.{searched}
 use Rattle.fx_selector.proofs.labels.place.Goals as goal
 
 pub returns : goal.returns

@@ -11,6 +11,6 @@ pub loop-key-preserved : goal.loop-key-preserved
 loop-key-preserved c =
     let R = c.args.resources.now in
     let u = c.args.set.now in
-    one_more_item R u c.loop-key.members c.put_endpoint.new.members _ (c.in-Some.key.now, item.Endpoint c.in-Some.endpoint.now) (map (λ x. (x.0, item.Endpoint x.1)) c.next.new.self) c.in_ok-put_endpoint.ensures
+    one_more_item R u c.loop-key.members c.put_endpoint.new.members _ (c.in-Some.key.now, item.Endpoint c.in-Some.endpoint.now) (map (λ x. (x.0, item.Endpoint x.1)) c.next.new.self) (rw c.deref.ensures at c.in_ok-put_endpoint.ensures)
     (subst (λ es. extended c.loop-key.members (marked (contributions u (selected_of R u.selector (map (λ x. (x.0, item.Endpoint x.1)) es)))) ≡ extended c.args.members.now (marked (contributions u (selected_of R u.selector (map (λ x. (x.0, item.Endpoint x.1)) (maps.entries R.endpoints))))))
     c.in-Some.ensures.steps c.loop-key.invariant)

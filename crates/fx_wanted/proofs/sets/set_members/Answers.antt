@@ -1,4 +1,4 @@
-use Rattle.std.proofs.Common.{◌≡◌, map, sym, ap, ◌∙◌}
+use Rattle.std.proofs.Common.{map, sym, ap, ◌∙◌}
 use Rattle.std.specs.FinMap as maps
 use Rattle.fx_base.specs.Extended.{extended}
 use Rattle.fx_base.specs.Set.{marked}

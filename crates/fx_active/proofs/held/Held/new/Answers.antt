@@ -1,4 +1,3 @@
-use Rattle.std.proofs.Common.{ap, sym, ◌∙◌}
 use Rattle.fx_active.proofs.HereLemmas.{lost_endpoints}
 use Rattle.fx_active.proofs.held.Held.new.Goals as goal
 

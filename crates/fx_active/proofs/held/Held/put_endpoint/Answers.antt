@@ -1,4 +1,4 @@
-use Rattle.std.proofs.Common.{◌≡◌, ◌&&◌, ap, subst, sym, ◌∙◌}
+use Rattle.std.proofs.Common.{◌&&◌, ap, subst, sym, ◌∙◌}
 use Rattle.std.specs.FinMap as map
 use Rattle.fx_base.specs.Set as set
 use Rattle.fx_base.specs.Grouped.{has_key}

@@ -1,4 +1,4 @@
-use Rattle.std.proofs.Common.{◌≡◌, None, sym, ap, ◌∙◌, subst}
+use Rattle.std.proofs.Common.{None, sym, ap, ◌∙◌, subst}
 use Rattle.fx_node_laws.specs.Changes.{Taken}
 use Rattle.fx_node_laws.specs.Waits.{Queue, with_waiting}
 use Rattle.fx_graph.specs.Taking.{AreApart, AreOwnTogether, AreShort, serving, taken_of}

@@ -1,11 +1,10 @@
-use Rattle.std.proofs.Common.{◌≡◌, None, refl, sym, ◌∙◌, subst}
+use Rattle.std.proofs.Common.{sym, ◌∙◌, subst}
 use Rattle.fx_graph_rules.specs.Composed.{IsComposed}
 use Rattle.fx_graph_rules.specs.Counting.{with_some, IsCountedText}
 use Rattle.fx_graph_rules.proofs.Counts.{policy_text_counted}
 use Rattle.fx_graph_rules.specs.Uppers.{AreInStep}
 use Rattle.fx_graph.specs.Used.{used_in}
 use Rattle.fx_graph.specs.Taking.{taken_of}
-use Rattle.fx_graph.specs.BehindBy.{IsBehindBy}
 use Rattle.fx_graph.proofs.Kept.{ahead}
 use Rattle.fx_graph.proofs.Testing.{sets_counted}
 use Rattle.fx_graph.proofs.nodes.Nodes.put_policy.Goals as goal

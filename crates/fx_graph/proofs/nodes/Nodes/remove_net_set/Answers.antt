@@ -1,4 +1,4 @@
-use Rattle.std.proofs.Common.{◌≡◌, sym, ◌∙◌, subst}
+use Rattle.std.proofs.Common.{sym, ◌∙◌, subst}
 use Rattle.fx_graph.specs.Taking.{AreApart, unlabelled}
 use Rattle.fx_label_index.specs.Tested.{IsTested}
 use Rattle.fx_graph.proofs.nodes.Nodes.remove_net_set.Goals as goal

@@ -1,4 +1,4 @@
-use Rattle.std.proofs.Common.{◌≡◌, None, refl, sym, ◌∙◌, subst, ap}
+use Rattle.std.proofs.Common.{sym, ◌∙◌, subst, ap}
 use Rattle.std.specs.FinMap as map
 use Rattle.fx_label_index.specs.Tested.{IsTested}
 use Rattle.fx_label_index.proofs.Sums.{self_tested}
@@ -8,7 +8,6 @@ use Rattle.fx_graph_rules.proofs.Counts.{policy_text_counted}
 use Rattle.fx_graph_rules.specs.Uppers.{AreInStep}
 use Rattle.fx_graph.specs.Used.{used_in}
 use Rattle.fx_graph.specs.Taking.{taken_of}
-use Rattle.fx_graph.specs.BehindBy.{IsBehindBy}
 use Rattle.fx_graph.proofs.Kept.{ahead, no_changes}
 use Rattle.fx_graph.proofs.Testing.{sets_counted}
 use Rattle.fx_graph.proofs.nodes.Nodes.remove_policy.Goals as goal

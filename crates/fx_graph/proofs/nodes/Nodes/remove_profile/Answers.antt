@@ -1,11 +1,10 @@
-use Rattle.std.proofs.Common.{◌≡◌, None, refl, sym, ◌∙◌, subst, ap}
+use Rattle.std.proofs.Common.{None, sym, ◌∙◌, subst, ap}
 use Rattle.std.specs.FinMap as map
 use Rattle.fx_graph_rules.specs.Composed.{IsComposed}
 use Rattle.fx_graph_rules.specs.Counting.{with_some}
 use Rattle.fx_graph_rules.specs.Uppers.{AreInStep}
 use Rattle.fx_graph.specs.Used.{used_in}
 use Rattle.fx_graph.specs.Taking.{taken_of}
-use Rattle.fx_graph.specs.BehindBy.{IsBehindBy}
 use Rattle.fx_graph.proofs.Kept.{ahead}
 use Rattle.fx_graph.proofs.Testing.{sets_counted}
 use Rattle.fx_graph.proofs.nodes.Nodes.remove_profile.Goals as goal

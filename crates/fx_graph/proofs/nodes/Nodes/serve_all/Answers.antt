@@ -1,4 +1,4 @@
-use Rattle.std.proofs.Common.{◌≡◌, None, refl, sym, ◌∙◌, subst, ap}
+use Rattle.std.proofs.Common.{None, sym, ◌∙◌, subst, ap}
 use Rattle.std.specs.FinMap as map
 use Rattle.fx_label_index.specs.Tested.{IsTested}
 use Rattle.fx_label_index.proofs.Sums.{self_tested}

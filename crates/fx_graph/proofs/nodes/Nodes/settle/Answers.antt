@@ -1,4 +1,4 @@
-use Rattle.std.proofs.Common.{◌≡◌, refl, sym, ◌∙◌, subst}
+use Rattle.std.proofs.Common.{refl, sym, ◌∙◌, subst}
 use Rattle.fx_graph_rules.specs.Run.{IsRun}
 use Rattle.fx_members.specs.Members.{AreMembers}
 use Rattle.fx_resolver.specs.Resolved.{IsResolved}

@@ -1,4 +1,4 @@
-use Rattle.std.proofs.Common.{◌≡◌, true, subst}
+use Rattle.std.proofs.Common.{subst}
 use Rattle.fx_model.specs.declared.resources.Update.{Update}
 use Rattle.fx_graph.specs.Graphs.{CanFollow}
 use Rattle.fx_graph.proofs.state.GraphState.apply.Goals as goal

@@ -10,13 +10,13 @@ use Rattle.fx_graph.proofs.state.GraphState.put.Goals as goal
 
 pub put_endpoint-requires-clause-resources : goal.put_endpoint-requires-clause-resources
 put_endpoint-requires-clause-resources g c =
-    subst (λ (k : Key). CanFollow g.R.DigestRule.digest_of (update.Put k (item.Endpoint c.in-Item-Endpoint.endpoint)) c.args.self.now) c.in-Item-Endpoint.is-0
-    (subst (λ (x : Item). CanFollow g.R.DigestRule.digest_of (update.Put c.args.key.now x) c.args.self.now) c.in-Item-Endpoint.is-1 c.requires.resources)
+    rw c.deref.ensures (subst (λ (k : Key). CanFollow g.R.DigestRule.digest_of (update.Put k (item.Endpoint c.in-Item-Endpoint.endpoint)) c.args.self.now) c.in-Item-Endpoint.is-0
+    (subst (λ (x : Item). CanFollow g.R.DigestRule.digest_of (update.Put c.args.key.now x) c.args.self.now) c.in-Item-Endpoint.is-1 c.requires.resources))
 
 pub put_net_set-requires-clause-resources : goal.put_net_set-requires-clause-resources
 put_net_set-requires-clause-resources g c =
-    subst (λ (k : Key). CanFollow g.R.DigestRule.digest_of (update.Put k (item.NetSet c.in-Item-NetSet.net_set)) c.args.self.now) c.in-Item-NetSet.is-0
-    (subst (λ (x : Item). CanFollow g.R.DigestRule.digest_of (update.Put c.args.key.now x) c.args.self.now) c.in-Item-NetSet.is-1 c.requires.resources)
+    rw c.deref-in-Item-NetSet.ensures (subst (λ (k : Key). CanFollow g.R.DigestRule.digest_of (update.Put k (item.NetSet c.in-Item-NetSet.net_set)) c.args.self.now) c.in-Item-NetSet.is-0
+    (subst (λ (x : Item). CanFollow g.R.DigestRule.digest_of (update.Put c.args.key.now x) c.args.self.now) c.in-Item-NetSet.is-1 c.requires.resources))
 
 pub put_profile-requires : goal.put_profile-requires
 put_profile-requires g c =

@@ -1,4 +1,4 @@
-use Rattle.std.proofs.Common.{None, refl, ap, ◌∙◌}
+use Rattle.std.proofs.Common.{None, ap, ◌∙◌}
 use Rattle.std.specs.FinMap as map
 use Rattle.fx_graph.proofs.Kept.{settled_waiting}
 use Rattle.fx_graph.proofs.Following.{kind_of_put, other_put_apart, unserved_elsewhere, after_put_elsewhere}

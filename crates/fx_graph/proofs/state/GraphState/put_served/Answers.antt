@@ -1,4 +1,3 @@
-use Rattle.std.proofs.Common.{refl, ap, ◌∙◌}
 use Rattle.fx_graph.proofs.Following.{kind_of_put, short_of_put, served_put_own, served_put_apart, served_here, after_put_served}
 use Rattle.fx_graph.proofs.state.GraphState.put_served.Goals as goal
 

@@ -1,4 +1,4 @@
-use Rattle.std.proofs.Common.{None, refl, ap, ◌∙◌}
+use Rattle.std.proofs.Common.{None, ◌∙◌}
 use Rattle.std.specs.FinMap as map
 use Rattle.fx_model.specs.SameIds.{copies_item}
 use Rattle.fx_graph.proofs.Kept.{settled_waiting}

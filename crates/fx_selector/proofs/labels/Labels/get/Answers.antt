@@ -1,8 +1,8 @@
 use Rattle.std.proofs.Common.{sym, ap, ◌∙◌, subst, Some, ℕ, List}
 use Rattle.std.specs.Cmp.Lexicographic.{nat_list_cmp_total}
 use Rattle.fx_base.proofs.Entries.{got}
-use Rattle.fx_selector.specs.LabelPlaces.{StandsAt, BelongsAt}
-use Rattle.fx_selector.proofs.LabelPlaces.{found_there, missing_there, stands_inside}
+use Rattle.fx_base.specs.TextPlaces.{StandsAt, BelongsAt}
+use Rattle.fx_base.proofs.TextPlaces.{found_there, missing_there, stands_inside}
 use Rattle.fx_selector.proofs.labels.Labels.get.Goals as goal
 
 pub place-requires : goal.place-requires

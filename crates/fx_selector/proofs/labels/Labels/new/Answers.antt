@@ -1,4 +1,4 @@
-use Rattle.fx_selector.proofs.LabelPlaces.{none_ascend}
+use Rattle.fx_base.proofs.TextPlaces.{none_ascend}
 use Rattle.fx_selector.proofs.labels.Labels.new.Goals as goal
 
 pub invariant_of-result : goal.invariant_of-result

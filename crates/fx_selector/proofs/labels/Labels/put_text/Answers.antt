@@ -1,7 +1,8 @@
 use Rattle.std.proofs.Common.{ap, ◌∙◌, subst, ℕ, List}
 use Rattle.std.specs.FinMap.{from_entries}
-use Rattle.fx_selector.specs.LabelPlaces.{StandsAt, BelongsAt}
-use Rattle.fx_selector.proofs.LabelPlaces.{put_over, put_between, written_ascends, added_ascends, stands_inside, belongs_inside}
+use Rattle.fx_base.specs.TextPlaces.{StandsAt, BelongsAt}
+use Rattle.fx_base.proofs.TextPlaces.{put_between, added_ascends, stands_inside, belongs_inside}
+use Rattle.fx_selector.proofs.LabelPlaces.{put_over, written_ascends}
 use Rattle.fx_selector.proofs.labels.Labels.put_text.Goals as goal
 
 pub place-requires : goal.place-requires

@@ -1,7 +1,7 @@
 use Rattle.std.proofs.Common.{◌≡◌, ℕ, List, sym, ap, ◌∙◌, subst}
 use Rattle.std.specs.FinMap.{from_entries}
 use Rattle.std.proofs.lemmas.Map.Entries.{entries_from_clone}
-use Rattle.fx_selector.specs.LabelPlaces.{Ascends}
+use Rattle.fx_base.specs.TextPlaces.{Ascends}
 use Rattle.fx_selector.proofs.labels.LabelsClone.clone.Goals as goal
 
 pub invariant_of-result : goal.invariant_of-result
