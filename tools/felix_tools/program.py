@@ -22,8 +22,8 @@ ENDINGS = {
     6: "the input has 4 GiB or more",
     70: "it isn't built, since some proof failed or `rt` isn't there",
 }
-WAIT_WORD = ("The proved program isn't built from these sources yet. ./felix-replay proves and builds it now, which takes up to an "
-             "hour on four processors; another one is asked by --program PATH or %s=PATH." % REPLAY.variable)
+WAIT_WORD = ("The proved program isn't built from these sources yet. ./felix-replay proves and builds it now, which takes an hour "
+             "or more on four processors; another one is asked by --program PATH or %s=PATH." % REPLAY.variable)
 
 
 class ProgramError(Exception):
