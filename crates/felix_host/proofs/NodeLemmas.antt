@@ -12,8 +12,8 @@ use Rattle.fx_laws.proofs.ClaimsApart.{clash_free_after}
 use Rattle.fx_laws.proofs.FormedLemmas.{are_formed-after}
 use Rattle.fx_laws.proofs.Nearer.{no_message, step-nearer}
 use Rattle.fx_driver.specs.Stepping.{IsDrivable}
-use Rattle.fx_agent.proofs.Driving.{wanted-drivable}
-use Rattle.fx_agent.proofs.Starting.{none-servable}
+use Rattle.fx_driver.proofs.Drivable.{wanted-drivable}
+use Rattle.fx_laws.proofs.NoResources.{none-servable}
 use Rattle.fx_graph.specs.declared.state.GraphState.{GraphState}
 use Rattle.fx_graph.specs.Graphs.{Follows, IsAccepted, IsGraphOf, sides_of}
 use Rattle.fx_store.specs.declared.store.Store.{Store}

@@ -14,7 +14,7 @@ use Rattle.fx_laws.proofs.SetKinds.{wanted_sets-of-kinds}
 use Rattle.fx_laws.proofs.ViewClosed.{view_of-closed}
 use Rattle.fx_fields.specs.declared.refusal.Refusal.{Refusal}
 use Rattle.fx_tables.specs.Invariant.{AreKept}
-use Rattle.fx_agent.proofs.Starting.{empty_view-drivable}
+use Rattle.fx_driver.proofs.Drivable.{empty_view-drivable}
 use Rattle.fx_run.specs.Run.{state_after}
 use Rattle.fx_run.proofs.Runs.{kept_after}
 use Rattle.fx_hostep.specs.declared.failsafe.Failsafe.{Failsafe}

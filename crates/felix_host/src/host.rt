@@ -20,7 +20,7 @@ use crate::reading::command_in;
 use fx_base::{Memory, Sink, Text};
 use fx_fields::Refusal;
 use fx_hostep::{Failsafe, HostPacket, host_goal};
-use fx_model::Update;
+use fx_model::{Update, View};
 use fx_names::{DigestFunction, DigestRule, Namer};
 use fx_print::{refusal_text, tables_text};
 use fx_run::{Machine, RunFault, put_all, put_one};
@@ -48,9 +48,11 @@ impl<R: DigestRule, F: DigestFunction<R> + Drop> Host<R, F> {
         ensures ready { IfOk result (λ h.
             IsReady R.digest_of h.node.store h.node.graph.state h.node.view h.failsafe h.tables) }
     {
-        let node = HostNode::new(alloc, name, namer)?;
+        // The node comes last, since each `?` lets go of all above it.
+        let nothing = View::new(alloc);
         let failsafe = Failsafe::new(alloc);
-        let tables = host_goal(alloc, &node.view, &failsafe)?;
+        let tables = host_goal(alloc, &nothing, &failsafe)?;
+        let node = HostNode::new(alloc, name, namer)?;
         Ok(Host {
             alloc,
             node,

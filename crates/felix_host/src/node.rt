@@ -5,11 +5,9 @@ ghost use Rattle.fx_model.specs.Formed.{is_formed};
 ghost use Rattle.fx_model.specs.Messages.{step};
 ghost use Rattle.fx_model.specs.Resources.{after, empty_resources};
 ghost use Rattle.fx_model.specs.Views.{empty_view, view_of};
-ghost use Rattle.fx_agent.specs.Answers.{StaysIfTaken};
-ghost use Rattle.fx_agent.specs.Driven.{KeepsResources};
-ghost use Rattle.fx_graph.specs.Graphs.{Follows, IsGraphOf, sides_of};
+ghost use Rattle.fx_graph.specs.Graphs.{Follows, IsGraphOf, KeepsResources, sides_of};
 ghost use Rattle.fx_hostep.specs.HostRuns.{IsHostServable};
-ghost use Rattle.fx_store.specs.Checking.{Tells};
+ghost use Rattle.fx_store.specs.Checking.{StaysIfTaken, Tells};
 ghost use Rattle.fx_store.specs.Keeping.{KeepsClaims};
 ghost use Rattle.felix_host.specs.Standing.{IsFollowed};
 

@@ -16,7 +16,7 @@ use Rattle.fx_run.specs.Run.{state_after}
 use Rattle.fx_replay.specs.Output.{State, start, answer_of, next, after_answer, flushed_in, flushed_by}
 use Rattle.fx_run.proofs.Runs.{kept_after, all_written}
 use Rattle.felix_replay.specs.Closing.{views_in, views_along, IsWhole}
-use Rattle.fx_agent.proofs.Starting.{empty_view-drivable}
+use Rattle.fx_driver.proofs.Drivable.{empty_view-drivable}
 
 wholes : (vs : List View) → AllByRecursion IsClosedView vs → AllByRecursion IsWhole vs
 wholes [] all = tt

@@ -16,7 +16,7 @@ use Rattle.fx_lines.specs.Commands.{command_of}
 use Rattle.fx_lines.specs.Formed.{IsReadCommand}
 use Rattle.fx_lines.proofs.ReadForms.{command_of-read}
 use Rattle.fx_agent.proofs.Handing.{servable-after_all}
-use Rattle.fx_agent.proofs.Starting.{none-servable}
+use Rattle.fx_laws.proofs.NoResources.{none-servable}
 use Rattle.fx_run.specs.Run.{state_after}
 use Rattle.fx_run.proofs.Runs.{kept_after}
 use Rattle.fx_replay.specs.Output.{State, start, unless_taken, checked, accepted, answer_of, after_answer, next}

@@ -56,7 +56,7 @@ fn sum_up<R: DigestRule, F: DigestFunction<R> + Drop>(
 {
     let mut replay = Replay::new(alloc, node, namer)?;
     let summary = sum_up_over(alloc, node, run, &mut replay);
-    drop(replay);
+    replay.finish();
     summary
 }
 

@@ -180,6 +180,6 @@ fn replay<S: Source, K: Sink, R: DigestRule, F: DigestFunction<R> + Drop>(
 {
     let mut replay = Replay::new(alloc, node, namer)?;
     let ended = answer_lines(alloc, &mut replay, source, sink);
-    drop(replay);
+    replay.finish();
     ended
 }

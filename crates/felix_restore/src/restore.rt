@@ -54,6 +54,11 @@ impl<R: DigestRule, F: DigestFunction<R> + Drop> Restore<R, F> {
         })
     }
 
+    /// Lets go of the restart and its agent.
+    pub fn finish(self) {
+        self.agent.finish();
+    }
+
     // Does what the counted line says.
     fn settle<K: Sink>(
         &mut self,

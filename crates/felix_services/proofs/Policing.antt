@@ -13,7 +13,7 @@ use Rattle.fx_laws.proofs.Flushes.{flush-ends}
 use Rattle.fx_laws.proofs.Leading.{ranked-tables}
 use Rattle.fx_laws.proofs.ViewClosed.{view_of-closed}
 use Rattle.fx_fields.specs.declared.refusal.Refusal.{Refusal}
-use Rattle.fx_agent.proofs.Starting.{empty_view-drivable}
+use Rattle.fx_driver.proofs.Drivable.{empty_view-drivable}
 use Rattle.fx_run.specs.Run.{state_after}
 use Rattle.fx_run.proofs.Runs.{kept_after}
 use Rattle.fx_services.specs.declared.lowered.Lowered.{Lowered}

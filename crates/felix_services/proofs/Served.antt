@@ -22,7 +22,8 @@ use Rattle.fx_laws.proofs.Flushes.{flush-ends}
 use Rattle.fx_laws.proofs.FormedLemmas.{are_formed-after, have_workload_interfaces-after}
 use Rattle.fx_laws.proofs.ViewClosed.{view_of-closed}
 use Rattle.fx_fields.specs.declared.refusal.Refusal.{Refusal}
-use Rattle.fx_agent.proofs.Starting.{empty_view-drivable, none-servable}
+use Rattle.fx_laws.proofs.NoResources.{none-servable}
+use Rattle.fx_driver.proofs.Drivable.{empty_view-drivable}
 use Rattle.fx_run.specs.Run.{state_after}
 use Rattle.fx_services.specs.declared.lowered.Lowered.{Lowered}
 use Rattle.fx_services.specs.declared.slices.Slice.{Slice}

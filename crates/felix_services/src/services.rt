@@ -50,6 +50,11 @@ impl<R: DigestRule, F: DigestFunction<R> + Drop> Services<R, F> {
         })
     }
 
+    /// Lets go of the run and its agent.
+    pub fn finish(self) {
+        self.replay.finish();
+    }
+
     // Does what the counted line says.
     fn settle<K: Sink>(
         &mut self,

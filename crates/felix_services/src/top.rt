@@ -132,6 +132,6 @@ fn run<S: Source, K: Sink, R: DigestRule, F: DigestFunction<R> + Drop>(
 {
     let mut services = Services::new(alloc, node, namer)?;
     let ended = answer_lines(alloc, &mut services, source, sink);
-    drop(services);
+    services.finish();
     ended
 }

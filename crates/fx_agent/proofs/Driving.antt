@@ -6,24 +6,14 @@ use Rattle.fx_model.specs.Formed.{are_formed}
 use Rattle.fx_model.specs.Messages.{Change, next_message, step, step_by, step_at}
 use Rattle.fx_model.specs.Views.{view_of}
 use Rattle.fx_names.specs.Digests.{Digest}
-use Rattle.fx_laws.proofs.FormedLemmas.{is_formed_view-view_of}
-use Rattle.fx_laws.proofs.SetKinds.{wanted_sets-of-kinds}
 use Rattle.fx_laws.proofs.StepClosed.{step-closed}
 use Rattle.fx_laws.proofs.StepFormed.{step-formed, step-of-kinds}
-use Rattle.fx_laws.proofs.ViewClosed.{view_of-closed}
 use Rattle.fx_driver.specs.declared.driver.Driver.{Driver}
 use Rattle.fx_driver.specs.Drives.{Drives, Follows, IsNext}
 use Rattle.fx_driver.specs.Stepping.{IsDrivable, IsStep}
+use Rattle.fx_driver.proofs.Drivable.{wanted-drivable}
 use Rattle.fx_sequencer.specs.declared.sides.Sides.{Sides}
 use Rattle.fx_agent.specs.Driven.{IsDriven}
-
--- what resources call for can be driven
-pub wanted-drivable : (dg : Digest) (R : Resources) → are_formed R ≡ true → IsDrivable (view_of dg R)
-wanted-drivable dg R formed = record {
-  closed = view_of-closed dg R;
-  formed = is_formed_view-view_of dg R formed;
-  kinds = wanted_sets-of-kinds dg R;
-}
 
 -- other resources, and so another view that is wanted
 pub driven-anew : (dg : Digest) (R : Resources) → are_formed R ≡ true → (sides anew : Sides) (driver : Driver) → IsDriven sides driver

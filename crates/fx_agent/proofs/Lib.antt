@@ -1,5 +1,4 @@
 pub mod Driving
-pub mod Starting
 pub mod Serving
 pub mod Answering
 pub mod Handing

@@ -10,8 +10,6 @@ use Rattle.fx_model.specs.Messages.{Change}
 use Rattle.fx_model.specs.Policy.{Outcome}
 use Rattle.fx_k8s.specs.Clusters.{IsConverted, IsPlain}
 use Rattle.fx_k8s.specs.KubeVerdict.{Cluster, kubernetes_verdict}
-use Rattle.fx_store.specs.declared.fault.CheckFault.{CheckFault}
-use Rattle.fx_store.specs.declared.fault.CheckFault.TheVariants as check
 use Rattle.fx_model.specs.declared.out.OutFault.{OutFault}
 use Rattle.fx_model.specs.declared.out.OutFault.TheVariants as out
 use Rattle.fx_agent.specs.declared.faults.PullFault.{PullFault}
@@ -40,11 +38,6 @@ abbrev pub StaysIfRefused : (same : Type 0) → UpdateFault → Type 0
 StaysIfRefused same (update.Taken name holder) = same
 StaysIfRefused same update.Memory = ⊤
 StaysIfRefused same update.NeedsResync = same
-
--- all stays, unless there was no memory
-abbrev pub StaysIfTaken : (same : Type 0) → CheckFault → Type 0
-StaysIfTaken same (check.Taken name holder) = same
-StaysIfTaken same check.Memory = ⊤
 
 -- ---- pulls
 

@@ -19,12 +19,12 @@ ghost use Rattle.fx_model.specs.ViewPolicy.{IsServable};
 ghost use Rattle.fx_model.specs.ViewTables.{tables_of};
 ghost use Rattle.fx_model.specs.Views.{empty_view, view_of};
 ghost use Rattle.fx_model.specs.declared.packet.State.TheVariants as state;
-ghost use Rattle.fx_store.specs.Checking.{Tells};
+ghost use Rattle.fx_store.specs.Checking.{StaysIfTaken, Tells};
 ghost use Rattle.fx_store.specs.Keeping.{KeepsClaims};
 ghost use Rattle.fx_driver.specs.Driven.{HasFirst};
 ghost use Rattle.fx_driver.specs.Stepping.{IsDrivable};
 ghost use Rattle.fx_graph.specs.Graphs.{IsGraphOf, sides_of};
-ghost use Rattle.fx_agent.specs.Answers.{IsAnswer, IsKubernetesVerdict, IsUpdateCause, StaysIfRefused, StaysIfTaken, UpdateLeaves};
+ghost use Rattle.fx_agent.specs.Answers.{IsAnswer, IsKubernetesVerdict, IsUpdateCause, StaysIfRefused, UpdateLeaves};
 
 use crate::faults::UpdateFault;
 use crate::sharing::with_shared_texts;
@@ -81,9 +81,10 @@ impl<R: DigestRule, F: DigestFunction<R> + Drop> Agent<R, F> {
         ensures sent { IfOk result (λ a. a.sent ≡ empty_view) }
         ensures ready { IfOk result (λ a. a.failed ≡ false) }
     {
-        let driver = Driver::new(alloc)?;
-        let texts = TextTable::new(alloc)?;
+        // What takes least to let go of comes first, since each `?` lets go of all above it.
         let graph_node = node.clone()?;
+        let texts = TextTable::new(alloc)?;
+        let driver = Driver::new(alloc)?;
         let store = Store::new(alloc, node);
         let graph = Graph::new(alloc, graph_node, namer);
         Ok(Agent {
@@ -178,6 +179,9 @@ impl<R: DigestRule, F: DigestFunction<R> + Drop> Agent<R, F> {
     {
         self.driver.tables()
     }
+
+    /// Lets go of the agent: an owner that ends by this needs no proof of what its parts let go of.
+    pub fn finish(self) {}
 }
 
 // Makes an update that clashes with nothing. Where it changes nothing, all is made already. Else the graph takes it first: it asks for

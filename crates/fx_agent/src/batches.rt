@@ -11,10 +11,10 @@ ghost use Rattle.fx_model.specs.Formed.{is_formed, puts_workload_interface};
 ghost use Rattle.fx_model.specs.Steps.{along, is_change, least_tests_all, most_tests_all};
 ghost use Rattle.fx_model.specs.Tests.{least_tests, most_tests};
 ghost use Rattle.fx_model.specs.ViewPolicy.{IsServable};
-ghost use Rattle.fx_store.specs.Checking.{Tells};
+ghost use Rattle.fx_store.specs.Checking.{StaysIfTaken, Tells};
 ghost use Rattle.fx_store.specs.Keeping.{KeepsClaims};
 ghost use Rattle.fx_graph.specs.Graphs.{IsGraphOf, sides_of};
-ghost use Rattle.fx_agent.specs.Answers.{IsUpdateCause, StaysIfRefused, StaysIfTaken, UpdateLeaves};
+ghost use Rattle.fx_agent.specs.Answers.{IsUpdateCause, StaysIfRefused, UpdateLeaves};
 ghost use Rattle.fx_agent.specs.Handing.{AreAccepted, CanFollowAll, FollowsAll};
 
 use crate::agent::Agent;

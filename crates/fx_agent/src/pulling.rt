@@ -4,9 +4,9 @@ ghost use Rattle.fx_base.specs.Streams.{Rose};
 ghost use Rattle.fx_model.specs.Messages.{next_message, step};
 ghost use Rattle.fx_model.specs.Views.{view_of};
 ghost use Rattle.fx_driver.specs.Driven.{HasFirst};
-ghost use Rattle.fx_graph.specs.Graphs.{sides_of};
+ghost use Rattle.fx_graph.specs.Graphs.{KeepsResources, sides_of};
 ghost use Rattle.fx_agent.specs.Answers.{IsOutLeft, IsPullCause, IsPulled, OutLeaves, PullLeaves};
-ghost use Rattle.fx_agent.specs.Driven.{IsDriven, KeepsResources};
+ghost use Rattle.fx_agent.specs.Driven.{IsDriven};
 
 use crate::agent::Agent;
 use crate::faults::{PullFault, Pulled};

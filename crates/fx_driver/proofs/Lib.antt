@@ -13,3 +13,4 @@ pub mod Counts
 pub mod MessageCosts
 pub mod OneNumber
 pub mod RuleSteps
+pub mod Drivable

@@ -18,7 +18,7 @@ use Rattle.fx_scanner.specs.Scanned.{IsScanned}
 use Rattle.fx_sequencer.specs.declared.sides.Sides.{Sides}
 use Rattle.fx_graph_rules.specs.Counting.{none_used}
 use Rattle.fx_graph_rules.specs.Uppers.{AreInStep}
-use Rattle.fx_graph_rules.specs.declared.active_told.ActiveTold.{ActiveTold}
+use Rattle.fx_logs.specs.declared.active_told.ActiveTold.{ActiveTold}
 use Rattle.fx_graph.specs.Used.{used_in, used_among}
 use Rattle.fx_node_laws.specs.Empty.{no_active, no_endpoints, no_sets}
 use Rattle.fx_graph.specs.InStep.{IsInStep}

@@ -5,14 +5,14 @@ use Rattle.fx_members.specs.Members.{AreMembers}
 use Rattle.fx_resolver.specs.Resolved.{IsResolved}
 use Rattle.fx_scanner.specs.Scanned.{IsScanned}
 use Rattle.fx_graph_rules.specs.Counting.{with_some}
-use Rattle.fx_graph_rules.specs.Run.{IsRun}
+use Rattle.fx_logs.specs.Run.{IsRun}
 use Rattle.fx_model.specs.PairRuns.{IsPairRun}
 use Rattle.fx_graph_rules.specs.Uppers.{AreInStep}
 use Rattle.fx_graph_view.specs.Knowing.{AreKnownBut}
 use Rattle.fx_graph_view.specs.Noted.{AreFormed}
-use Rattle.fx_graph_rules.specs.Touched.{IsTouched}
-use Rattle.fx_graph_rules.specs.declared.pair_log.PairChange.{PairChange}
-use Rattle.fx_graph_rules.specs.declared.active_log.Logged.{Logged}
+use Rattle.fx_logs.specs.Touched.{IsTouched}
+use Rattle.fx_logs.specs.declared.pair_log.PairChange.{PairChange}
+use Rattle.fx_logs.specs.declared.active_log.Logged.{Logged}
 use Rattle.fx_graph.specs.Used.{used_in}
 use Rattle.fx_graph.specs.declared.nodes.Nodes.{Nodes}
 

@@ -43,3 +43,7 @@ CanFollow dg u g = (R : Resources) × (IsGraphOf dg R g × IsAccepted dg R u)
 -- of whichever resources the old graph is, the new one is that of the resources after the update
 abbrev pub Follows : Digest → Update → GraphState → GraphState → Type 0
 Follows dg u old new = (R : Resources) → IsGraphOf dg R old → IsGraphOf dg (after R u) new
+
+-- a graph stays that of the same resources
+abbrev pub KeepsResources : Digest → GraphState → GraphState → Type 0
+KeepsResources dg old new = (R : Resources) → IsGraphOf dg R old → IsGraphOf dg R new

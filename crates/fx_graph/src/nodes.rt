@@ -9,7 +9,8 @@ ghost use Rattle.fx_graph.specs.InStep.{IsInStep};
 ghost use Rattle.fx_graph.specs.Taking.{taken_of};
 
 use fx_base::SetMap;
-use fx_graph_rules::{ActiveTold, Upper};
+use fx_graph_rules::Upper;
+use fx_logs::ActiveTold;
 use fx_members::Members;
 use fx_model::{ItemMap, SetUse, Waiting};
 use fx_resolver::Resolver;

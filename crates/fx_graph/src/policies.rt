@@ -7,7 +7,7 @@ ghost use Rattle.fx_label_index.specs.Tested.{IsTested};
 
 use crate::nodes::Nodes;
 use fx_base::{Memory, Seq, Ticker};
-use fx_graph_rules::{ActiveLog, ActiveStart, ActiveTold};
+use fx_logs::{ActiveLog, ActiveStart, ActiveTold};
 use fx_model::{Policy, PolicyId};
 use fx_names::{DigestFunction, DigestRule, Namer};
 use std::mem;

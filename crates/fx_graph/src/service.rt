@@ -12,7 +12,8 @@ ghost use Rattle.fx_label_index.specs.Tested.{IsTested};
 
 use crate::nodes::Nodes;
 use fx_base::{Memory, Seq, Ticker};
-use fx_graph_rules::{ActiveLog, ActiveStart, ActiveTold, Upper};
+use fx_graph_rules::Upper;
+use fx_logs::{ActiveLog, ActiveStart, ActiveTold};
 use fx_model::{ActiveSink, ItemMap, Waiting};
 use fx_names::{DigestFunction, DigestRule, Namer};
 use std::marker::Brand;

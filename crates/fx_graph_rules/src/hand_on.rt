@@ -1,11 +1,11 @@
 //! Changes of pairs, handed to the active rules.
 ghost use Rattle.std.specs.Prelude.{◌≡◌, OnOk};
 ghost use Rattle.fx_active.specs.Node.{IsActive};
-ghost use Rattle.fx_graph_rules.specs.Run.{IsRun};
+ghost use Rattle.fx_logs.specs.Run.{IsRun};
 
-use crate::pair_log::PairChange;
 use fx_active::ActiveRules;
 use fx_base::Memory;
+use fx_logs::PairChange;
 use fx_model::{ActiveSink, PairSet};
 
 /// Hands changes on, in their order. They lead to the pairs from those that the active rules know.

@@ -7,13 +7,13 @@ ghost use Rattle.fx_selector.specs.Canonical.{canonical_text};
 ghost use Rattle.fx_label_index.specs.Counts.{raised, lowered};
 ghost use Rattle.fx_label_index.specs.Tested.{IsTested};
 ghost use Rattle.fx_graph_rules.specs.Joining.{IsJoined};
-ghost use Rattle.fx_graph_rules.specs.Run.{IsRun};
+ghost use Rattle.fx_logs.specs.Run.{IsRun};
 
 use crate::hand_on::hand_on;
-use crate::pair_log::{PairChange, PairLog, PairStart};
 use fx_active::ActiveRules;
 use fx_base::{Memory, Seq, Text, Ticker};
 use fx_label_index::LabelIndex;
+use fx_logs::{PairChange, PairLog, PairStart};
 use fx_model::{ActiveSink, ItemKey, PairSet};
 use fx_selector::{Labels, Selector};
 use std::alloc::Global;

@@ -3,22 +3,15 @@
 //! - **Inputs** (`Upper`): policies, profiles, and items with their labels and the profiles that they list; which of the items are
 //!   endpoints of this node in service; and the selectors that are used besides those of policies, each as often as it is used.
 //! - **Tells** an `ActiveSink` what the active rules tell: the policies that apply to some endpoint, the profiles that some
-//!   endpoint lists, and the pairs of a policy and an endpoint. `ActiveLog` is such a sink, and keeps what may have changed since
-//!   its start.
+//!   endpoint lists, and the pairs of a policy and an endpoint. `ActiveLog` of `fx_logs` is such a sink.
 //! - **Answers** each call with the pairs of a selector and an item that came or went, in their order.
 //! - **Definition**: `AreInStep` of the nodes together, and `IsComposed` of what was told, over the inputs alone. In Felix these
 //!   nodes are the `InheritIndex` and the `ActiveRulesCalculator`.
 #![tactic(auto)]
 
-pub use active_log::{ActiveLog, ActiveStart, Logged};
-pub use active_told::ActiveTold;
 pub use join::Joined;
 pub use nodes::{Replaced, Upper};
-pub use pair_log::{PairChange, PairStart};
 
-mod active_log;
-mod active_told;
 mod hand_on;
 mod join;
 mod nodes;
-mod pair_log;

@@ -8,12 +8,12 @@ ghost use Rattle.fx_label_index.specs.Tested.{IsTested};
 ghost use Rattle.fx_label_index.specs.declared.held.Inputs.{Inputs};
 ghost use Rattle.fx_graph_rules.specs.Composed.{IsComposed};
 ghost use Rattle.fx_graph_rules.specs.Counting.{none_used, with_one, with_some, StillCounted, IsCountedText};
-ghost use Rattle.fx_graph_rules.specs.Run.{IsRun};
+ghost use Rattle.fx_logs.specs.Run.{IsRun};
 ghost use Rattle.fx_graph_rules.specs.Uppers.{AreInStep, AreInStepForSome};
 
 use crate::join::Joined;
-use crate::pair_log::PairChange;
 use fx_base::{Memory, Seq, Text, Ticker};
+use fx_logs::PairChange;
 use fx_model::{ActiveSink, ItemKey, Policy, PolicyId, Profile};
 use fx_selector::Labels;
 use std::alloc::Global;

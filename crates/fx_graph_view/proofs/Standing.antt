@@ -12,7 +12,7 @@ use Rattle.fx_model.specs.declared.policy.Policy.{Policy}
 use Rattle.fx_model.specs.contracts.ids.PolicyIdOrd.TheImpl as policy_cmp
 use Rattle.fx_resolver.specs.Known.{known_policy, KnownPolicies}
 use Rattle.fx_resolver.specs.declared.known.KnownPolicy.{KnownPolicy}
-use Rattle.fx_graph_rules.specs.Touched.{Keys}
+use Rattle.fx_logs.specs.Touched.{Keys}
 use Rattle.fx_graph_view.specs.Knowing.{known_at, AreKnown, AreKnownBut, standing_at, AreStanding, unless_gone_at, AreWithoutGone}
 
 pub lent_some : {A : Type 0} (o : Option (Bor A)) → is_some (option_copied o) ≡ is_some o

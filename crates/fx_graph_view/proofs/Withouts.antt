@@ -2,7 +2,7 @@
 use Rattle.std.proofs.Common.{◌≡◌, true, false, cond, Option, Some, None, is_some, refl, sym, ap, ◌∙◌}
 use Rattle.std.specs.declared.cmp.Ordering.{Ordering}
 use Rattle.std.specs.FinMap.{FinMap, get}
-use Rattle.fx_graph_rules.specs.Touched.{Keys, IsTouched, IsWithout}
+use Rattle.fx_logs.specs.Touched.{Keys, IsTouched, IsWithout}
 
 no_key : {A : Type 0} (x : A) → None ≡ Some x → ⊥
 no_key x e = cc

@@ -8,7 +8,7 @@ use Rattle.fx_model.specs.declared.ids.PolicyId.{PolicyId}
 use Rattle.fx_model.specs.contracts.ids.PolicyIdOrd.TheImpl as policy_cmp
 use Rattle.fx_resolver.specs.Known.{known_policy, KnownPolicies}
 use Rattle.fx_resolver.specs.declared.known.KnownPolicy.{KnownPolicy}
-use Rattle.fx_graph_rules.specs.Touched.{Keys}
+use Rattle.fx_logs.specs.Touched.{Keys}
 
 -- a policy that may be absent, as it is known
 abbrev pub known_at : Digest → Policies → PolicyId → Option KnownPolicy

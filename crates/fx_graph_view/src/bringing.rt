@@ -1,7 +1,7 @@
 //! Each node below the active rules, brought up to date over the sequencer, of which it tells its part alone.
 ghost use Rattle.std.specs.Prelude.{◌≡◌, IfOk, OnOk};
 ghost use Rattle.std.specs.FinMap as map;
-ghost use Rattle.fx_graph_rules.specs.Run.{IsRun};
+ghost use Rattle.fx_logs.specs.Run.{IsRun};
 ghost use Rattle.fx_model.specs.PairRuns.{IsPairRun};
 ghost use Rattle.fx_members.specs.Members.{AreMembers};
 ghost use Rattle.fx_resolver.specs.Resolved.{IsResolved};
@@ -11,7 +11,7 @@ ghost use Rattle.fx_sequencer.specs.Sides.{SameSentAndSets};
 ghost use Rattle.fx_graph_view.specs.Kept.{SameButSets};
 ghost use Rattle.fx_graph_view.specs.Knowing.{AreKnown, AreKnownBut};
 ghost use Rattle.fx_graph_view.specs.Noted.{AreNoted, AreFormed};
-ghost use Rattle.fx_graph_rules.specs.Touched.{IsTouched};
+ghost use Rattle.fx_logs.specs.Touched.{IsTouched};
 
 use crate::parts::{Beside, SetPart, ViewPart};
 use crate::resolving::resolve_through;
@@ -19,7 +19,7 @@ use crate::scan_log::{ScanLog, ScanStart};
 use crate::scanning::scan_through;
 use crate::supplying::{match_through, use_through};
 use fx_base::{Memory, SetMap};
-use fx_graph_rules::{Logged, PairChange};
+use fx_logs::{Logged, PairChange};
 use fx_members::Members;
 use fx_model::{PairSet, SetUse};
 use fx_names::{DigestFunction, DigestRule, Namer};

@@ -5,7 +5,7 @@ ghost use Rattle.fx_graph_view.specs.Knowing.{AreKnownBut, AreKnown, AreStanding
 ghost use Rattle.fx_model.specs.PairRuns.{IsPairRun};
 
 use fx_base::Memory;
-use fx_graph_rules::Logged;
+use fx_logs::Logged;
 use fx_model::{Policy, PolicyMap, ViewSink, policy_key};
 use fx_names::{DigestFunction, DigestRule, Namer};
 use fx_resolver::Resolver;

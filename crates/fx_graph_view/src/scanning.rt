@@ -2,10 +2,10 @@
 ghost use Rattle.std.specs.Prelude.{◌≡◌, OnOk};
 ghost use Rattle.fx_scanner.specs.Apart.{IsApart};
 ghost use Rattle.fx_scanner.specs.Scanned.{IsScanned};
-ghost use Rattle.fx_graph_rules.specs.Touched.{IsTouched, IsWithout};
+ghost use Rattle.fx_logs.specs.Touched.{IsTouched, IsWithout};
 
 use fx_base::{Memory, TextMap};
-use fx_graph_rules::Logged;
+use fx_logs::Logged;
 use fx_model::{Policy, PolicyMap, Profile, UseSink};
 use fx_names::{DigestFunction, DigestRule, Namer};
 use fx_scanner::RuleScanner;

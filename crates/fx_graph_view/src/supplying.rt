@@ -2,12 +2,12 @@
 ghost use Rattle.std.specs.Prelude.{◌≡◌, OnOk, IsTrue, Some, not};
 ghost use Rattle.fx_base.specs.Set as set;
 ghost use Rattle.fx_model.specs.Pairs.{put};
-ghost use Rattle.fx_graph_rules.specs.Run.{IsRun};
+ghost use Rattle.fx_logs.specs.Run.{IsRun};
 ghost use Rattle.fx_members.specs.Members.{AreMembers};
 ghost use Rattle.fx_graph_view.specs.Noted.{AreNoted, AreFormed};
 
 use fx_base::{Memory, SetMap};
-use fx_graph_rules::PairChange;
+use fx_logs::PairChange;
 use fx_members::Members;
 use fx_model::{PairSet, SetSink, SetUse};
 

@@ -42,3 +42,4 @@ pub mod Records
 pub mod TouchedKeys
 pub mod BatchClaims
 pub mod BatchSteps
+pub mod NoResources

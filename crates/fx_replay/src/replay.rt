@@ -62,6 +62,11 @@ impl<R: DigestRule, F: DigestFunction<R> + Drop> Replay<R, F> {
         })
     }
 
+    /// Lets go of the replay and its agent.
+    pub fn finish(self) {
+        self.agent.finish();
+    }
+
     /// Answers the next line, and writes nothing.
     pub fn answer_quietly(&mut self, line: &[u8]) -> Result<(), Memory>
         requires ready { self.old.agent.failed ≡ false }

@@ -13,7 +13,7 @@ use crate::used::{profile_of, uses_of_policy, uses_of_profile};
 use fx_base::{Memory, Text};
 use fx_model::{Policy, PolicyId, Profile, UseSink, policy_key, profile_key};
 use fx_names::{DigestFunction, DigestRule, Namer};
-use fx_wanted::{view_policy, view_profile};
+use fx_view_rules::{view_policy, view_profile};
 use std::alloc::Global;
 
 /// What the node is told, and how often each set is used by it.

@@ -5,8 +5,7 @@
 pub use labels::{applies, effective_labels, is_active};
 pub use next::next_message;
 pub use pending_key::{PendingKey, pending_key_of, take_at};
-pub use policies::view_policy;
-pub use view::{view_of, view_profile};
+pub use view::view_of;
 
 mod labels;
 mod next;
@@ -14,4 +13,3 @@ mod pending_key;
 mod policies;
 mod sets;
 mod view;
-mod view_rules;

@@ -8,10 +8,9 @@ ghost use Rattle.fx_model.specs.Directions.{Ingress, Egress};
 ghost use Rattle.fx_model.specs.Labels.{effective_labels, of_endpoint};
 ghost use Rattle.fx_model.specs.Resources.{served_endpoints};
 ghost use Rattle.fx_model.specs.Sets.{policy_uses};
-ghost use Rattle.fx_model.specs.Views.{view_policy, policy_entry, key_in_place, view_tiers};
+ghost use Rattle.fx_model.specs.Views.{policy_entry, key_in_place, view_tiers};
 
 use crate::labels::effective_labels;
-use crate::view_rules::view_rules;
 use fx_base::{Counter, Memory, NameKey, NameMap, Seq};
 use fx_model::{
     Endpoint, PlaceMap, Policy, PolicyId, PolicyPlace, Resources, SetUse, TierStand, ViewPolicy,
@@ -19,6 +18,7 @@ use fx_model::{
 };
 use fx_names::{DigestFunction, DigestRule, Namer, Prefix};
 use fx_selector::Labels;
+use fx_view_rules::view_policy;
 use std::alloc::Global;
 
 /// The policies that apply to some served endpoint, and the sets that their rules use.
@@ -58,22 +58,6 @@ fn put_policy<R: DigestRule, F: DigestFunction<R> + Drop>(
     let key = policy_key(alloc, id, namer)?;
     policies.insert(&key, wanted)?;
     Ok(())
-}
-
-/// A policy as it is rendered.
-pub fn view_policy<R: DigestRule, F: DigestFunction<R> + Drop>(
-    alloc: Global,
-    id: &PolicyId,
-    policy: &Policy,
-    namer: &Namer<R, F>,
-) -> Result<ViewPolicy, Memory>
-    ensures { IfOk result (λ p. p ≡ view_policy R.digest_of id.now policy.now) }
-{
-    Ok(ViewPolicy {
-        id: id.clone()?,
-        ingress: view_rules(alloc, &policy.ingress, namer)?,
-        egress: view_rules(alloc, &policy.egress, namer)?,
-    })
 }
 
 // The labels of each served endpoint.

@@ -1,21 +1,20 @@
 //! The view of the resources, computed whole.
 ghost use Rattle.std.specs.Prelude.{◌≡◌, ◌++◌, IfOk, OnOk, map};
 ghost use Rattle.std.specs.List.{flat_map};
-ghost use Rattle.std.specs.Option.{option_copied};
 ghost use Rattle.std.specs.FinMap as maps;
 ghost use Rattle.fx_base.specs.Extended.{extended};
-ghost use Rattle.fx_model.specs.Views.{view_of, uses_of_profile, view_profile, view_endpoint, profile_entry, profile_key};
+ghost use Rattle.fx_model.specs.Views.{view_of, uses_of_profile, view_endpoint, profile_entry, profile_key};
 
 use crate::labels::effective_labels;
 use crate::policies::{put_policies, view_tiers};
 use crate::sets::put_sets;
-use crate::view_rules::view_rules;
 use fx_base::{Memory, NameKey, NameMap, Seq, Text};
 use fx_model::{
-    Endpoint, ItemKey, Profile, Resources, SetUse, View, ViewEndpoint, ViewProfile, item_name,
-    namespace_of, profile_key, profile_keys, push_both,
+    Endpoint, ItemKey, Resources, SetUse, View, ViewEndpoint, ViewProfile, item_name, namespace_of,
+    profile_key, profile_keys, push_both,
 };
 use fx_names::{DigestFunction, DigestRule, Namer};
+use fx_view_rules::view_profile;
 use std::alloc::Global;
 
 /// What the node needs of the resources.
@@ -101,32 +100,6 @@ fn put_profiles<R: DigestRule, F: DigestFunction<R> + Drop>(
         profiles.insert(&profile_key(name, namer), profile)?;
     }
     Ok(())
-}
-
-/// A profile as it is rendered, or as missing where there is none.
-pub fn view_profile<R: DigestRule, F: DigestFunction<R> + Drop>(
-    alloc: Global,
-    name: &Text,
-    profile: Option<&Profile>,
-    namer: &Namer<R, F>,
-) -> Result<ViewProfile, Memory>
-    ensures { IfOk result (λ p. p ≡ view_profile R.digest_of name.now (option_copied profile.entry)) }
-{
-    let name = name.clone()?;
-    match profile {
-        None => Ok(ViewProfile {
-            name,
-            missing: true,
-            ingress: Seq::new(alloc),
-            egress: Seq::new(alloc),
-        }),
-        Some(profile) => Ok(ViewProfile {
-            name,
-            missing: false,
-            ingress: view_rules(alloc, &profile.ingress, namer)?,
-            egress: view_rules(alloc, &profile.egress, namer)?,
-        }),
-    }
 }
 
 fn view_endpoint<R: DigestRule, F: DigestFunction<R> + Drop>(

@@ -1,7 +1,6 @@
 use Rattle.std.proofs.Common.{◌≡◌}
 use Rattle.fx_model.specs.Messages.{differences}
-use Rattle.fx_agent.specs.Driven.{KeepsResources}
-use Rattle.fx_graph.specs.Graphs.{sides_of}
+use Rattle.fx_graph.specs.Graphs.{KeepsResources, sides_of}
 use Rattle.felix_host.proofs.node.take_all.Given as goal
 
 abbrev pub invariant-loop-alloc : goal.invariant-loop-alloc

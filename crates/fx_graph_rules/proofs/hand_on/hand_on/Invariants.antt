@@ -1,6 +1,6 @@
 use Rattle.std.proofs.Common.{◌≡◌, drop}
 use Rattle.fx_active.specs.Node.{IsActive}
-use Rattle.fx_graph_rules.specs.Run.{IsRun}
+use Rattle.fx_logs.specs.Run.{IsRun}
 use Rattle.fx_graph_rules.proofs.hand_on.hand_on.Given as goal
 
 abbrev pub invariant-loop-change : goal.invariant-loop-change

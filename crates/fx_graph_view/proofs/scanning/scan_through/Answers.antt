@@ -1,6 +1,6 @@
 use Rattle.std.proofs.Common.{sym, ◌∙◌, subst}
 use Rattle.fx_scanner.proofs.ApartUses.{fewer}
-use Rattle.fx_graph_rules.specs.Touched.{IsTouched}
+use Rattle.fx_logs.specs.Touched.{IsTouched}
 use Rattle.fx_graph_view.proofs.Withouts.{part_without, without_now}
 use Rattle.fx_graph_view.proofs.scanning.scan_through.Goals as goal
 

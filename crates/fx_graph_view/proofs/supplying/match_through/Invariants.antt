@@ -1,5 +1,5 @@
 use Rattle.std.proofs.Common.{◌≡◌, drop}
-use Rattle.fx_graph_rules.specs.Run.{IsRun}
+use Rattle.fx_logs.specs.Run.{IsRun}
 use Rattle.fx_members.specs.Members.{AreMembers}
 use Rattle.fx_graph_view.proofs.supplying.match_through.Given as goal
 

@@ -1,7 +1,7 @@
 use Rattle.std.proofs.Common.{sym, ap, ◌∙◌, subst}
 use Rattle.fx_model.specs.declared.resources.Resources.{Resources}
 use Rattle.fx_model.specs.Resources.{empty_resources}
-use Rattle.fx_agent.proofs.Starting.{empty_view-drivable}
+use Rattle.fx_driver.proofs.Drivable.{empty_view-drivable}
 use Rattle.fx_driver.specs.Stepping.{IsDrivable}
 use Rattle.fx_graph.specs.Graphs.{IsGraphOf}
 use Rattle.fx_hostep.specs.HostRuns.{IsHostServable}

@@ -6,7 +6,8 @@ use Rattle.fx_model.specs.declared.resources.Resources.{Resources}
 use Rattle.fx_graph.specs.Graphs.{IsGraphOf}
 use Rattle.fx_agent.proofs.Driving.{driven-anew}
 use Rattle.fx_agent.proofs.Serving.{agent-sound}
-use Rattle.fx_agent.proofs.Starting.{empty_view-drivable, none-servable}
+use Rattle.fx_laws.proofs.NoResources.{none-servable}
+use Rattle.fx_driver.proofs.Drivable.{empty_view-drivable}
 use Rattle.fx_agent.proofs.agent.Agent.new.Goals as goal
 
 pub invariant_of-result : goal.invariant_of-result

@@ -1,5 +1,5 @@
 use Rattle.std.proofs.Common.{refl, sym, ◌∙◌, subst}
-use Rattle.fx_graph_rules.specs.Run.{IsRun}
+use Rattle.fx_logs.specs.Run.{IsRun}
 use Rattle.fx_resolver.specs.Resolved.{IsResolved}
 use Rattle.fx_scanner.specs.Scanned.{IsScanned}
 use Rattle.fx_graph_view.specs.Knowing.{AreKnown}

@@ -1,0 +1,13 @@
+use Rattle.std.proofs.Common.{None, ap, ◌∙◌}
+use Rattle.std.specs.Cmp.Lexicographic.{nat_list_cmp_total}
+use Rattle.std.specs.FinMap as map
+use Rattle.fx_logs.proofs.ActiveChanges.{profile_changed, profile_kept}
+use Rattle.fx_logs.proofs.active_log.ActiveLogActiveSink.profile_off.Goals as goal
+
+pub invariant_of-self-in_err-profile_off : goal.invariant_of-self-in_err-profile_off
+invariant_of-self-in_err-profile_off g c = profile_kept _ c.self.inside.logged _ c.self.invariant _ _ c.in_ok-insert.ensures.ok c.in_err-profile_off.ensures.err
+
+pub invariant_of-self-2 : goal.invariant_of-self-2
+invariant_of-self-2 g c = profile_changed _ c.self.inside.logged _ c.self.invariant _ c.args.name.now _ None c.in_ok-clone.ensures.cases c.in_ok-insert.ensures.ok
+    (λ q. ap (λ t. map.get t.profiles q) c.in_ok-profile_off.ensures.ok ∙ map.get-remove nat_list_cmp_total c.self.inside.logged.told.profiles c.args.name.now q)
+    (ap (λ t. t.policies) c.in_ok-profile_off.ensures.ok) (ap (λ t. t.pairs) c.in_ok-profile_off.ensures.ok)
