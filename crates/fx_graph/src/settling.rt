@@ -12,8 +12,8 @@ ghost use Rattle.fx_label_index.specs.declared.held.Inputs.{Inputs};
 use crate::feeding::feed;
 use crate::nodes::Nodes;
 use fx_base::{Memory, Seq, Text, Ticker};
-use fx_logs::{Logged, PairChange};
 use fx_graph_view::{resolve, scan, supply_matches, supply_uses};
+use fx_logs::{Logged, PairChange};
 use fx_names::{DigestFunction, DigestRule, Namer};
 use std::marker::Brand;
 

@@ -12,3 +12,4 @@ pub mod Sums
 pub mod Tested
 pub mod Told
 pub mod Walked
+mod Replaced

@@ -23,16 +23,16 @@ use fx_model::{ItemKey, MatchSink};
 use fx_selector::{Labels, Selector};
 use std::alloc::Global;
 use std::marker::Model;
+use std::mem;
 
-/// Brings a sink up to date with each call. After want of memory each call answers it, and the sink isn't used again.
+/// Brings a sink up to date with each call. After want of memory neither the node nor the sink is used again.
 #[derive(Drop)]
 pub struct LabelIndex {
+    alloc: Global,
     state: State,
-    failed: bool,
 }
 
 impl Model for LabelIndex {
-    ghost use Rattle.std.specs.Prelude.{◌≡◌, false};
     ghost use Rattle.fx_label_index.specs.Indexed.{AreIndexed};
     ghost use Rattle.fx_label_index.specs.declared.held.Inputs.{Inputs};
     ghost use Rattle.fx_label_index.specs.contracts.held.Inputs as all;
@@ -43,7 +43,7 @@ impl Model for LabelIndex {
 
     ghost view = { λ a. a.state.inputs };
 
-    ghost invariant = { λ a. a.failed ≡ false → AreIndexed a.state };
+    ghost invariant = { λ a. AreIndexed a.state };
 }
 
 impl LabelIndex {
@@ -52,8 +52,8 @@ impl LabelIndex {
         ensures matched { IsMatched result set.empty }
     {
         LabelIndex {
+            alloc,
             state: State::new(alloc),
-            failed: false,
         }
     }
 
@@ -76,12 +76,9 @@ impl LabelIndex {
         ensures gained { OnOk result (min (T.number ticks.old + gained (S.pairs sink.old) (S.pairs sink.new))
             (2 ^ 64 - 1) ≤ T.number ticks.new) }
     {
-        if self.failed {
-            return Err(Memory);
-        }
-        self.failed = true;
-        self.state.put_item(key, labels, parents, sink, ticks)?;
-        self.failed = false;
+        let mut state = mem::replace(&mut self.state, State::new(self.alloc));
+        state.put_item(key, labels, parents, sink, ticks)?;
+        self.state = state;
         Ok(())
     }
 
@@ -99,12 +96,9 @@ impl LabelIndex {
             (2 ^ 64 - 1) ≤ T.number ticks.new) }
         ensures quiet { T.number ticks.new ≡ T.number ticks.old }
     {
-        if self.failed {
-            return Err(Memory);
-        }
-        self.failed = true;
-        self.state.remove_item(key, sink)?;
-        self.failed = false;
+        let mut state = mem::replace(&mut self.state, State::new(self.alloc));
+        state.remove_item(key, sink)?;
+        self.state = state;
         Ok(())
     }
 
@@ -123,12 +117,9 @@ impl LabelIndex {
         ensures gained { OnOk result (min (T.number ticks.old + gained (S.pairs sink.old) (S.pairs sink.new))
             (2 ^ 64 - 1) ≤ T.number ticks.new) }
     {
-        if self.failed {
-            return Err(Memory);
-        }
-        self.failed = true;
-        self.state.put_parent(name, labels, sink, ticks)?;
-        self.failed = false;
+        let mut state = mem::replace(&mut self.state, State::new(self.alloc));
+        state.put_parent(name, labels, sink, ticks)?;
+        self.state = state;
         Ok(())
     }
 
@@ -145,12 +136,9 @@ impl LabelIndex {
         ensures gained { OnOk result (min (T.number ticks.old + gained (S.pairs sink.old) (S.pairs sink.new))
             (2 ^ 64 - 1) ≤ T.number ticks.new) }
     {
-        if self.failed {
-            return Err(Memory);
-        }
-        self.failed = true;
-        self.state.remove_parent(name, sink, ticks)?;
-        self.failed = false;
+        let mut state = mem::replace(&mut self.state, State::new(self.alloc));
+        state.remove_parent(name, sink, ticks)?;
+        self.state = state;
         Ok(())
     }
 
@@ -171,12 +159,9 @@ impl LabelIndex {
         ensures gained { OnOk result (min (T.number ticks.old + gained (S.pairs sink.old) (S.pairs sink.new))
             (2 ^ 64 - 1) ≤ T.number ticks.new) }
     {
-        if self.failed {
-            return Err(Memory);
-        }
-        self.failed = true;
-        self.state.put_selector(text, selector, sink, ticks)?;
-        self.failed = false;
+        let mut state = mem::replace(&mut self.state, State::new(self.alloc));
+        state.put_selector(text, selector, sink, ticks)?;
+        self.state = state;
         Ok(())
     }
 
@@ -195,12 +180,9 @@ impl LabelIndex {
             (2 ^ 64 - 1) ≤ T.number ticks.new) }
         ensures quiet { T.number ticks.new ≡ T.number ticks.old }
     {
-        if self.failed {
-            return Err(Memory);
-        }
-        self.failed = true;
-        self.state.remove_selector(text, sink)?;
-        self.failed = false;
+        let mut state = mem::replace(&mut self.state, State::new(self.alloc));
+        state.remove_selector(text, sink)?;
+        self.state = state;
         Ok(())
     }
 }

@@ -1,5 +1,5 @@
 //! The inputs with the indexes over them.
-ghost use Rattle.std.specs.Prelude.{◌≡◌, ◌≤◌, ◌+◌, ◌-◌, ◌^◌, min, ℕ, List, Some, OnOk, IsSome, IsTrue, option_map, true, false};
+ghost use Rattle.std.specs.Prelude.{◌≡◌, ◌↔◌, ◌≤◌, ◌+◌, ◌-◌, ◌^◌, min, ℕ, List, Some, OnOk, IsSome, IsTrue, option_map, true, false};
 ghost use Rattle.std.specs.Option.{option_copied};
 ghost use Rattle.std.specs.List.{sum_by};
 ghost use Rattle.std.specs.FinMap as map;
@@ -247,7 +247,7 @@ fn relist(
 }
 
 fn lists_same(found: Option<&Held>, held: &Held) -> bool
-    ensures { IsTrue result → option_map parents_of (option_copied found.entry) ≡ Some held.now.parents }
+    ensures { IsTrue result ↔ (option_map parents_of (option_copied found.entry) ≡ Some held.now.parents) }
 {
     match found {
         Some(found) => same(&found.parents, &held.parents),

@@ -1,6 +1,6 @@
 //! What holds of all resources, of every view, of its tables and of the messages towards it. Each law is a contract; no
 //! function does anything.
-ghost use Rattle.std.specs.Prelude.{◌≡◌, ◌+◌, List, ℕ, true, Option, Some, None};
+ghost use Rattle.std.specs.Prelude.{◌≡◌, ◌+◌, ◌≤◌, List, ℕ, true, Option, Some, None};
 ghost use Rattle.std.specs.List.{AllByRecursion, list_all};
 ghost use Rattle.std.specs.FinMap as map;
 ghost use Rattle.fx_model.specs.declared.resources.Resources.{Resources};
@@ -13,6 +13,7 @@ ghost use Rattle.fx_model.specs.Formed.{is_formed, are_formed, is_formed_view, p
 ghost use Rattle.fx_model.specs.Claims.{clash, without, IsClashFree};
 ghost use Rattle.fx_model.specs.Batches.{after_all, clash_all};
 ghost use Rattle.fx_model.specs.Steps.{is_change, steps_of};
+ghost use Rattle.fx_model.specs.Tests.{least_tests, most_tests};
 ghost use Rattle.fx_laws.specs.Stages.{StayClashFree};
 ghost use Rattle.fx_model.specs.Views.{view_of};
 ghost use Rattle.fx_model.specs.declared.chain.ChainRule.{ChainRule};
@@ -141,6 +142,11 @@ pub fn steps_lead_to_the_same_end()
         → list_all is_formed (steps_of R us) ≡ true }
     ensures leads { (R : Resources) (us : List Update) → list_all is_formed us ≡ true → list_all is_change us ≡ true
         → after_all R (steps_of R us) ≡ after_all R us }
+{}
+
+/// An update calls for no more tests of selectors at least than it calls for at most.
+pub fn tests_are_bounded()
+    ensures { (R : Resources) (u : Update) → least_tests R u ≤ most_tests R u }
 {}
 
 /// Each chain of the tables is the first one or a chain of dispatch, or some resource claims its name.

@@ -1,6 +1,6 @@
 //! What takes the matches of selectors, active rules, used sets, a view, and its sets. Each call changes its relation by its argument
 //! alone.
-ghost use Rattle.std.specs.Prelude.{◌≡◌, OnOk, IsSome, Option, Some, true, false};
+ghost use Rattle.std.specs.Prelude.{◌≡◌, ◌≢◌, OnOk, IsSome, Option, Some, true, false};
 ghost use Rattle.std.specs.Option.{option_copied};
 ghost use Rattle.std.specs.FinMap as map;
 ghost use Rattle.fx_base.specs.Set as set;
@@ -123,8 +123,9 @@ pub trait ViewSink {
         ensures endpoints { OnOk result (endpoints self.new ≡ endpoints self.old) }
         ensures others { OnOk result (is_kept self.old self.new) };
 
-    /// An endpoint that is there already is replaced.
+    /// An endpoint that is there already is replaced by another one.
     fn endpoint_put(&mut self, iface: &Text, endpoint: ViewEndpoint) -> Result<(), Memory>
+        requires { map.get (endpoints self.old) iface.now ≢ Some endpoint }
         ensures endpoints { OnOk result (endpoints self.new ≡ map.insert (endpoints self.old) iface.now endpoint) }
         ensures policies { OnOk result (policies self.new ≡ policies self.old) }
         ensures profiles { OnOk result (profiles self.new ≡ profiles self.old) }

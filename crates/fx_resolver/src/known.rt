@@ -1,5 +1,5 @@
 //! What the node knows of policies and endpoints.
-ghost use Rattle.std.specs.Prelude.{◌≡◌, IsTrue, Some};
+ghost use Rattle.std.specs.Prelude.{◌≡◌, ◌↔◌, IsTrue, Some};
 ghost use Rattle.std.specs.Option.{option_copied};
 
 use fx_base::{Memory, NameKey, Seq, Text};
@@ -34,7 +34,7 @@ impl KnownPolicy {
 
 /// Whether a policy is there, as this one is.
 pub fn is_known(before: Option<&KnownPolicy>, policy: &KnownPolicy) -> bool
-    ensures { IsTrue result → option_copied before.entry ≡ Some policy.now }
+    ensures { IsTrue result ↔ (option_copied before.entry ≡ Some policy.now) }
 {
     match before {
         Some(before) => before == policy,

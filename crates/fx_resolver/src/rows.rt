@@ -1,5 +1,5 @@
 //! Endpoints with their lists, as the sink has them.
-ghost use Rattle.std.specs.Prelude.{◌≡◌, IfOk, OnOk, IsSome, IsTrue, Some};
+ghost use Rattle.std.specs.Prelude.{◌≡◌, ◌↔◌, IfOk, OnOk, IsSome, IsTrue, Some};
 ghost use Rattle.std.specs.Option.{option_copied};
 ghost use Rattle.std.specs.FinMap as map;
 ghost use Rattle.fx_base.specs.Set as set;
@@ -65,7 +65,7 @@ pub fn row_in(
 }
 
 fn is_told(told: Option<&ViewEndpoint>, row: &ViewEndpoint) -> bool
-    ensures { IsTrue result → option_copied told.entry ≡ Some row.now }
+    ensures { IsTrue result ↔ (option_copied told.entry ≡ Some row.now) }
 {
     match told {
         Some(told) => same(told, row),

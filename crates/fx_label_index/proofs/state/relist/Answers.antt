@@ -12,5 +12,5 @@ returns-then-lists_same-clause-items c = c.in_ok-insert.ensures.ok ∙ ap (λ k.
 pub returns-then-lists_same-clause-listed : goal.returns-then-lists_same-clause-listed
 returns-then-lists_same-clause-listed c =
     listed_again c.args.items.now c.args.by_parent.now c.args.key.now c.args.held
-    (ap (option_map parents_of) (sym c.get.ensures) ∙ c.lists_same.ensures c.if-lists_same.true)
+    (ap (option_map parents_of) (sym c.get.ensures) ∙ c.lists_same.ensures.0 c.if-lists_same.true)
     c.requires c.insert.new.self (returns-then-lists_same-clause-items c)

@@ -5,7 +5,7 @@ use Rattle.fx_resolver.proofs.rows.tell_row.Goals as goal
 
 pub returns-then-is_told-clause-told : goal.returns-then-is_told-clause-told
 returns-then-is_told-clause-told g c =
-    sym (insert_same_bytes c.args.told.now c.args.iface.now c.args.row (sym c.get.ensures ∙ c.is_told.ensures c.if-is_told.true))
+    sym (insert_same_bytes c.args.told.now c.args.iface.now c.args.row (sym c.get.ensures ∙ c.is_told.ensures.0 c.if-is_told.true))
 
 pub returns-clause-endpoints : goal.returns-clause-endpoints
 returns-clause-endpoints g c =
