@@ -61,7 +61,7 @@ module _ (chains : Chains) (name : ChainName) where
   leads-remove (target.Mark value mask) other h = tt
   leads-remove target.Log other h = tt
 
-  all_lead-remove : (rs : List ChainRule) → AllLeadElsewhere name rs → AllLeadThere chains rs → AllLeadThere (map.remove chains name) rs
+  pub all_lead-remove : (rs : List ChainRule) → AllLeadElsewhere name rs → AllLeadThere chains rs → AllLeadThere (map.remove chains name) rs
   all_lead-remove [] other h = tt
   all_lead-remove (r ∷ rs) other h = (leads-remove r.target other.0 h.0, all_lead-remove rs other.1 h.1)
 
@@ -103,7 +103,7 @@ module _ (sets more : Sets) (stay : (q : List ℕ) → map.contains_key sets q �
   matches_stay [] h = tt
   matches_stay (m ∷ ms) h = (names_stay m h.0, matches_stay ms h.1)
 
-  all_stay : (rs : List ChainRule) → AllNameThere sets rs → AllNameThere more rs
+  pub all_stay : (rs : List ChainRule) → AllNameThere sets rs → AllNameThere more rs
   all_stay [] h = tt
   all_stay (r ∷ rs) h = (matches_stay r.matches h.0, all_stay rs h.1)
 
@@ -122,7 +122,7 @@ module _ (sets : Sets) (name : List ℕ) where
   matches-remove [] other h = tt
   matches-remove (m ∷ ms) other h = (names-remove m other.0 h.0, matches-remove ms other.1 h.1)
 
-  all-remove : (rs : List ChainRule) → AllNameElse name rs → AllNameThere sets rs → AllNameThere (map.remove sets name) rs
+  pub all-remove : (rs : List ChainRule) → AllNameElse name rs → AllNameThere sets rs → AllNameThere (map.remove sets name) rs
   all-remove [] other h = tt
   all-remove (r ∷ rs) other h = (matches-remove r.matches other.0 h.0, all-remove rs other.1 h.1)
 
