@@ -4,9 +4,9 @@ ghost use Rattle.fx_lines.specs.Formed.{IsReadUpdate, IsReadBatch};
 ghost use Rattle.fx_run.specs.Writing.{Writes};
 ghost use Rattle.felix_restore.specs.Finding.{passed};
 ghost use Rattle.felix_restore.specs.Formed.{IsReadRestore};
-ghost use Rattle.felix_restore.specs.Output.{State, was_refused, start, next, text, update_answer, batch_answer, checked, settled, settled_text, closing};
+ghost use Rattle.felix_restore.specs.Output.{State, was_refused, start, next, text, update_answer, batch_answer, checked, settled, settled_text, closing, led_from, goal_of};
 ghost use Rattle.felix_restore.specs.Refusals.{refused_line};
-ghost use Rattle.felix_restore.specs.Restored.{HasRestored};
+ghost use Rattle.felix_restore.specs.Restored.{HasRestored, IsLedFrom};
 ghost use Rattle.felix_restore.specs.Standing.{state_of, in_sync_after, IsReady};
 ghost use Rattle.felix_restore.specs.Stepping.{next-lines, next-clip};
 
@@ -55,7 +55,7 @@ impl<R: DigestRule, F: DigestFunction<R> + Drop> Restore<R, F> {
     }
 
     /// Lets go of the restart and its agent.
-    pub fn finish(self) {
+    pub fn close(self) {
         self.agent.finish();
     }
 
@@ -158,6 +158,12 @@ impl<R: DigestRule, F: DigestFunction<R> + Drop> Restore<R, F> {
         requires ready { IsReady self.old.agent self.old.in_sync }
         ensures restored { OnOk result (HasRestored
             (state_of R.digest_of self.old.agent self.old.finding self.old.lines self.old.refused)) }
+
+        // And that is what the restart holds now.
+        ensures led { OnOk result (IsLedFrom
+            (led_from (state_of R.digest_of self.old.agent self.old.finding self.old.lines self.old.refused))
+            (goal_of (state_of R.digest_of self.old.agent self.old.finding self.old.lines self.old.refused))
+            self.old.finding self.new.finding) }
         ensures writes { Writes (K.state sink.old) (K.state sink.new)
             (closing (state_of R.digest_of self.old.agent self.old.finding self.old.lines self.old.refused)) result }
     {

@@ -120,7 +120,7 @@ fn run<S: Source, K: Sink, R: DigestRule, F: DigestFunction<R> + Drop>(
 {
     let mut restore = Restore::new(alloc, node, namer)?;
     let ended = run_to_end(alloc, &mut restore, source, sink);
-    restore.finish();
+    restore.close();
     ended
 }
 

@@ -1,5 +1,7 @@
 //! What holds of the operations from any tables to any others. Each law is a contract; no function does anything.
 ghost use Rattle.std.specs.Prelude.{◌≡◌, ◌+◌, List, [], ◌∷◌, Some, None};
+ghost use Rattle.fx_model.specs.Closed.{AreClosedTables};
+ghost use Rattle.fx_model.specs.Ranks.{IsRanked};
 ghost use Rattle.fx_model.specs.Tables.{Tables};
 ghost use Rattle.fx_tables.specs.Invariant.{AreKept};
 ghost use Rattle.fx_reconcile.specs.declared.op.Op.{Op};
@@ -35,4 +37,13 @@ pub fn operations_are_allowed()
     ensures next { (n g : Tables) (op : Op) → AreKept n → AreKept g → next_operation n g ≡ Some op
         → IsAllowed op n g × AreKept (applied op n g) }
     ensures turns { (n g : Tables) → AreKept n → AreKept g → AreAllowedInTurn (operations n g) n g }
+{}
+
+/// Tables that name nothing that they lack, and whose chains lead to lower ranks alone, stay so on the way to others of that kind,
+/// whatever the forms of their rules and members.
+pub fn operations_keep_tables_closed()
+    ensures closed { (n g : Tables) (op : Op) → AreClosedTables n → IsRanked n.chains → AreClosedTables g → IsRanked g.chains
+        → next_operation n g ≡ Some op → AreClosedTables (applied op n g) }
+    ensures ranked { (n g : Tables) (op : Op) → AreClosedTables n → IsRanked n.chains → AreClosedTables g → IsRanked g.chains
+        → next_operation n g ≡ Some op → IsRanked (applied op n g).chains }
 {}

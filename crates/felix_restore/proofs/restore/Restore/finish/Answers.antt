@@ -4,6 +4,7 @@ use Rattle.fx_model.specs.Tables.{Tables}
 use Rattle.fx_model.specs.ViewTables.{tables_of}
 use Rattle.fx_run.specs.Writing.{Writes}
 use Rattle.felix_restore.specs.Finding.{found_in_sync}
+use Rattle.felix_restore.specs.declared.finding.Finding.{Finding}
 use Rattle.felix_restore.specs.Output.{State, closing, goal_of, restored_text}
 use Rattle.felix_restore.specs.Restored.{IsLedFrom}
 use Rattle.felix_restore.specs.Standing.{state_of}
@@ -19,6 +20,13 @@ returns-clause-writes g c =
     subst (λ (t : List ℕ). Writes {T = Unit {0}} (g.K.Sink.state c.args.sink.now) (g.K.Sink.state c.restore.new.sink) t c.restore.result)
     (λ j. restored_text (found_in_sync (mark j) was.finding) (end j)) c.restore.ensures.writes
 
+-- the same of the goal by the resources, and of the mark by which they are in sync
+module _ (was : Finding) (now : Finding) (mark sync : Bool) (same : mark ≡ sync) (table goal : Tables) (end : table ≡ goal) where
+  led_by : IsLedFrom (found_in_sync mark was) table was now → IsLedFrom (found_in_sync sync was) goal was now
+  led_by led =
+      subst (λ (b : Bool). IsLedFrom (found_in_sync b was) goal was now) same
+      (subst (λ (t : Tables). IsLedFrom (found_in_sync mark was) t was now) end led)
+
 pub returns-clause-restored : goal.returns-clause-restored
 returns-clause-restored g c =
     let was = c.args.self.now in
@@ -27,6 +35,13 @@ returns-clause-restored g c =
     let mark : was.in_sync ≡ s.resources.in_sync = c.requires.ready.mark in
     on_ok_weaker c.restore.result (λ led. record {
       after = c.restore.new.finding;
-      led = subst (λ (b : Bool). IsLedFrom (found_in_sync b was.finding) (goal_of s) was.finding c.restore.new.finding) mark
-          (subst (λ (t : Tables). IsLedFrom (found_in_sync was.in_sync was.finding) t was.finding c.restore.new.finding) end led);
+      led = led_by was.finding c.restore.new.finding was.in_sync s.resources.in_sync mark c.tables-goal.result.now (goal_of s) end led;
     }) c.restore.ensures.led
+
+pub returns-clause-led : goal.returns-clause-led
+returns-clause-led g c =
+    let was = c.args.self.now in
+    let s : State = state_of g.R.DigestRule.digest_of was.agent was.finding was.lines was.refused in
+    let end : c.tables-goal.result.now ≡ goal_of s = c.tables-goal.ensures.sent c.in_ok-send_all.ensures.ready ∙ ap tables_of c.in_ok-send_all.ensures.reached in
+    let mark : was.in_sync ≡ s.resources.in_sync = c.requires.ready.mark in
+    on_ok_weaker c.restore.result (led_by was.finding c.restore.new.finding was.in_sync s.resources.in_sync mark c.tables-goal.result.now (goal_of s) end) c.restore.ensures.led
