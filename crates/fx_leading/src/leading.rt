@@ -1,9 +1,10 @@
 //! Operations that are done one after the other, each with its line.
-ghost use Rattle.std.specs.Prelude.{◌≡◌, length, Some, IfOk, OnOk};
+ghost use Rattle.std.specs.Prelude.{◌≡◌, ◌⊎◌, length, Some, IfOk, OnOk, OnErr};
 ghost use Rattle.fx_reconcile.specs.Goal.{AreAlike, AreAllowedInTurn};
 ghost use Rattle.fx_reconcile.specs.Operations.{operations, next_operation, applied};
 ghost use Rattle.fx_run.specs.Writing.{Writes};
 ghost use Rattle.fx_leading.specs.Lines.{op_line, op_lines};
+ghost use Rattle.fx_leading.specs.Stopping.{HasStopped};
 
 use fx_base::{Memory, Sink, Text};
 use fx_reconcile::{Op, apply_op, op_text, plan};
@@ -25,6 +26,9 @@ pub fn lead<K: Sink>(
     ensures counted { IfOk result (λ count. count ≡ length (operations now.old goal.now)) }
     ensures writes { Writes (K.state sink.old) (K.state sink.new)
         (op_lines goal.now (operations now.old goal.now)) result }
+
+    // At a fault the tables are those after as many operations as have whole lines, or after one more.
+    ensures stopped { OnErr result (HasStopped now.old goal.now now.new (K.state sink.old).held (K.state sink.new).held) }
 {
     let ops = plan(alloc, now, goal)?;
     for op in ops.as_slice() {
@@ -44,6 +48,7 @@ fn do_next<K: Sink>(
     requires next { next_operation now.old goal.now ≡ Some op.now }
     ensures done { OnOk result (now.new ≡ applied op.now now.old goal.now) }
     ensures writes { Writes (K.state sink.old) (K.state sink.new) (op_line goal.now op.now) result }
+    ensures stopped { OnErr result ((now.new ≡ now.old) ⊎ (now.new ≡ applied op.now now.old goal.now)) }
 {
     let line = line_of(alloc, op, goal)?;
     apply_op(alloc, now, goal, op)?;
