@@ -4,7 +4,7 @@ use Rattle.std.proofs.lemmas.Result.{err_from_is_err_and}
 use Rattle.fx_base.proofs.Compose.{Appends-more, Appends-none, AppendsPrefix-none}
 use Rattle.fx_base.specs.Streams.{AppendsPrefix}
 use Rattle.fx_model.specs.Tables.{Tables}
-use Rattle.std.proofs.lemmas.List.{append-nil, append-take-drop}
+use Rattle.std.proofs.lemmas.List.{append-nil, take-append-drop}
 use Rattle.fx_reconcile.specs.Goal.{after_all}
 use Rattle.fx_reconcile.specs.declared.op.Op.{Op}
 use Rattle.fx_reconcile.specs.Operations.{operations, applied}
@@ -98,7 +98,7 @@ returns-in_err-do_next-clause-stopped g c =
     rw (p.1) (record {
       done = take i items;
       left = drop i items;
-      all = sym all ∙ sym (append-take-drop i items);
+      all = sym all ∙ sym (take-append-drop i items);
       middle = (g.K.Sink.state c.loop-op.sink).held;
       lines = c.loop-op.invariant.lines;
       part = subst (AppendsPrefix (g.K.Sink.state c.loop-op.sink).held (g.K.Sink.state c.do_next.new.sink).held)
