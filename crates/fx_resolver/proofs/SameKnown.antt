@@ -1,9 +1,10 @@
 -- `==` tells all known policies apart.
-use Rattle.std.proofs.Common.{◌≡◌, true}
+use Rattle.std.proofs.Common.{◌≡◌, true, subst}
 use Rattle.std.specs.Cmp.{signed_Decides}
 use Rattle.fx_base.specs.Same.{same_bytes, same_option, same_truths, both_pass}
 use Rattle.fx_resolver.specs.declared.known.KnownPolicy.{KnownPolicy}
 use Rattle.fx_resolver.specs.contracts.known.KnownPolicyPartialEq.TheImpl as known_eq
+use Rattle.fx_resolver.specs.contracts.known.KnownPolicyEq.TheImpl.Laws as known_laws
 
 pub same_known : (x y : KnownPolicy) → known_eq.eq-value.it x y ≡ true → x ≡ y
 same_known x y e =
@@ -18,3 +19,6 @@ same_known x y e =
       on_ingress = same_truths x.on_ingress y.on_ingress s.0 i;
       on_egress = same_truths x.on_egress y.on_egress s.1 i;
     }
+
+pub known_itself : (x y : KnownPolicy) → x ≡ y → known_eq.eq-value.it x y ≡ true
+known_itself x y same = subst (λ (k : KnownPolicy). known_eq.eq-value.it x k ≡ true) same (known_laws.laws-law.refl x)

@@ -12,7 +12,7 @@ returns-then-is_known-clause-inputs g c =
     let n = c.args.self.now in
     let known = known_policy c.args.key c.args.policy.now in
     let there : map.get n.policies c.args.id.now ≡ Some known =
-    ap (λ (m : Inputs). map.get m.policies c.args.id.now) (sym c.self.view_is) ∙ sym c.get.ensures ∙ c.is_known.ensures c.if-is_known.true ∙ ap Some c.in_ok-known.ensures in
+    ap (λ (m : Inputs). map.get m.policies c.args.id.now) (sym c.self.view_is) ∙ sym c.get.ensures ∙ c.is_known.ensures.0 c.if-is_known.true ∙ ap Some c.in_ok-known.ensures in
     λ j. record n { policies = sym (insert_same policy_total exact_policy n.policies c.args.id.now known there) j }
 
 pub put_policy-requires-clause-sink : goal.put_policy-requires-clause-sink
