@@ -1,4 +1,4 @@
-"""The wrong edits: that each applies to the code as it is; and `.ci/nightly`, which tries them, over a stand-in for `rt`."""
+"""That each wrong edit applies to the code as it is, and how `.ci/nightly` tries them, over a stand-in for `rt`."""
 import os
 import re
 import shutil
