@@ -18,6 +18,4 @@ mod matches;
 mod notes;
 mod outcome;
 mod path;
-#[cfg(test)]
-mod tests;
 mod walk;

@@ -186,6 +186,3 @@ pub fn with_mark(mark: u32, value: u32, mask: u32) -> u32
 {
     (mark & !mask) ^ value
 }
-
-#[cfg(test)]
-mod tests;
