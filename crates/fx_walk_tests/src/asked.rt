@@ -20,8 +20,8 @@ pub enum Asked {
     Net(End, Net),
     /// The one set of this kind.
     Set(End, SetKind),
-    /// Ports 80 to 90 or these, at the end where the packet goes to.
-    Ports(PortRange),
+    /// Ports 80 to 90 at the end where the packet goes to, and 443 there if it says so.
+    Ports(bool),
     /// A message of ICMP of this type, and with this code if there is one.
     Icmp(u8, Option<u8>),
     /// By its whole name, or by how it begins.

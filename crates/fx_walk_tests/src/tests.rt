@@ -1,11 +1,11 @@
 //! Each match over two packets, by a first chain that drops what it holds for. What is wanted follows from iptables(8),
 //! iptables-extensions(8) and ipset(8).
-ghost use Rattle.std.specs.Prelude.{◌≡◌, true, OnOk};
+ghost use Rattle.std.specs.Prelude.{◌≡◌, nat_le, true, IfOk, OnOk};
 ghost use Rattle.std.specs.FinMap as map;
 ghost use Rattle.fx_base.specs.SetName.{kind_of};
 ghost use Rattle.fx_model.specs.declared.chain.Tag.TheVariants.{Plain};
 ghost use Rattle.fx_model.specs.Closed.{NamesThere};
-ghost use Rattle.fx_model.specs.Shapes.{fits_slots, is_of};
+ghost use Rattle.fx_model.specs.Shapes.{fits_slots, is_of, slots};
 ghost use Rattle.fx_model.specs.Tables.{forward};
 
 use crate::asked::{ALL, Asked, BESIDE, INNER, LOW, WEB, member_of, packet, set_name};
@@ -26,10 +26,10 @@ const ROWS: [(Asked, bool, bool, bool); 35] = [
     (Asked::Net(End::Dest, INNER), false, false, false),
     (Asked::Net(End::Source, BESIDE), false, false, false),
     (Asked::Net(End::Source, BESIDE), true, true, true),
-    (Asked::Ports(WEB), false, true, false),
-    (Asked::Ports(WEB), true, false, false),
-    (Asked::Ports(LOW), false, false, false),
-    (Asked::Ports(LOW), true, true, false),
+    (Asked::Ports(true), false, true, false),
+    (Asked::Ports(true), true, false, false),
+    (Asked::Ports(false), false, false, false),
+    (Asked::Ports(false), true, true, false),
     (Asked::Icmp(8, None), false, false, true),
     (Asked::Icmp(8, Some(0)), false, false, true),
     (Asked::Icmp(8, Some(1)), false, false, false),
@@ -136,18 +136,14 @@ fn write_with_set(
     write_first(alloc, tables, Match::Set { end, name, not })
 }
 
-/// The same where ports are asked for.
-fn write_with_ports(
-    alloc: Global,
-    tables: &mut Tables,
-    second: PortRange,
-    not: bool,
-) -> Result<(), Memory>
-    ensures { OnOk result (map.contains_key tables.new.chains forward ≡ true) }
+/// Ports 80 to 90, and 443 if it is asked for.
+fn ports(alloc: Global, web: bool) -> Result<Seq<PortRange>, Memory>
+    ensures { IfOk result (λ list. nat_le (slots list) 15 ≡ true) }
 {
-    let list = Seq::from_vec(vec![in alloc; LOW, second]?);
-    let end = End::Dest;
-    write_first(alloc, tables, Match::Ports { end, list, not })
+    if web {
+        return Ok(Seq::from_vec(vec![in alloc; LOW, WEB]?));
+    }
+    Ok(Seq::from_vec(vec![in alloc; LOW, LOW]?))
 }
 
 fn write(alloc: Global, tables: &mut Tables, asked: Asked, not: bool) -> Result<(), Memory>
@@ -160,7 +156,11 @@ fn write(alloc: Global, tables: &mut Tables, asked: Asked, not: bool) -> Result<
         }
         Asked::Net(end, net) => write_first(alloc, tables, Match::Net { end, net, not }),
         Asked::Set(end, kind) => write_with_set(alloc, tables, end, kind, not),
-        Asked::Ports(second) => write_with_ports(alloc, tables, second, not),
+        Asked::Ports(web) => {
+            let end = End::Dest;
+            let list = ports(alloc, web)?;
+            write_first(alloc, tables, Match::Ports { end, list, not })
+        }
         Asked::Icmp(kind, code) => {
             let icmp = Icmp { kind, code };
             write_first(alloc, tables, Match::Icmp { icmp, not })
