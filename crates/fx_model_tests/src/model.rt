@@ -1,4 +1,5 @@
-//! Labels, activity, tiers and the view of a node with one endpoint. What is wanted follows from Calico's resource reference.
+//! Labels, activity, tiers and the view of a node with one endpoint. What is wanted follows from Calico's resource
+//! reference.
 use fx_base::{Counter, Memory, NameKey, Seq, Text};
 use fx_model::{
     Endpoint, Item, ItemKey, Key, Policy, PolicyId, Profile, Resources, Tier, Update, View,
@@ -25,8 +26,8 @@ enum Change {
     Endpoint,
     /// A tier and its order.
     Tier(&'static [u8], i64),
-    /// A policy on the packets to all: its namespace, which is empty where it is global, its name, its tier and its order
-    /// there.
+    /// A policy on the packets to all: its namespace, which is empty where it is global, its name, its tier and its
+    /// order there.
     Policy(&'static [u8], &'static [u8], &'static [u8], Option<i64>),
     InSync,
 }

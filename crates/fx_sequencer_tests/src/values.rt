@@ -33,7 +33,8 @@ pub fn profile(alloc: Global, name: &[u8]) -> Result<ViewProfile, Memory>
 
 /// An endpoint that names no policies and no profiles, in a namespace of its own name.
 pub fn endpoint(alloc: Global, name: &[u8]) -> Result<ViewEndpoint, Memory>
-    ensures { IfOk result (λ e. e ≡ record { ns = name.now; name = name.now; ingress = []; egress = []; profiles = [] }) }
+    ensures { IfOk result (λ e. e
+        ≡ record { ns = name.now; name = name.now; ingress = []; egress = []; profiles = [] }) }
 {
     Ok(ViewEndpoint {
         ns: Text::new(alloc, name)?,
