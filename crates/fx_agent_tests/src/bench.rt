@@ -1,5 +1,5 @@
 //! An agent that is given lines, and an out that keeps the text of the last message.
-ghost use Rattle.std.specs.Prelude.{◌≡◌, ◌-◌, true, ℕ, List, IfOk, Unit};
+ghost use Rattle.std.specs.Prelude.{◌≡◌, ◌-◌, true, ℕ, List, IfOk, ⊤};
 ghost use Rattle.fx_model.specs.Formed.{is_formed, puts_workload_interface};
 
 use fx_agent::Agent;
@@ -48,9 +48,9 @@ impl TextOut {
 impl MessageOut for TextOut {
     ghost faults = { λ o. 255 - o.failing };
 
-    ghost handed = { λ _ _ _. Unit {0} };
+    ghost handed = { λ _ _ _. ⊤ };
 
-    ghost torn = { λ _ _ _. Unit {0} };
+    ghost torn = { λ _ _ _. ⊤ };
 
     fn message(&mut self, message: &Message<'_>) -> Result<(), OutFault> {
         if self.full {
