@@ -1,13 +1,9 @@
-//! The tests of `fx_agent`: each public call, with each write of a flush failing once, a name that is taken and memory that
-//! runs out; and how many tests of selectors updates make.
+//! The tests of `fx_agent`: updates and pulls, with each write of a flush failing once, and memory that runs out; and
+//! how many tests of selectors updates make.
 #![tactic(auto)]
 
 #[cfg(test)]
 mod bench;
-#[cfg(test)]
-mod faults;
-#[cfg(test)]
-mod lines;
 #[cfg(test)]
 mod runs;
 #[cfg(test)]

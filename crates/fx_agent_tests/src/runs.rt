@@ -1,5 +1,21 @@
-//! Runs of updates that selectors are tested for, and one whose messages are pulled.
-use crate::lines::{IN_SYNC, OPEN};
+//! Steps of an agent, and a run of updates that selectors are tested for.
+const OPEN: &str =
+    r#"{"put":{"apiVersion":"projectcalico.org/v3","kind":"Profile","metadata":{"name":"open"},"spec":{"ingress":[{"action":"Allow"}],"egress":[{"action":"Allow"}]}}}"#;
+
+const FIRST: &str =
+    r#"{"put":{"apiVersion":"projectcalico.org/v3","kind":"WorkloadEndpoint","metadata":{"name":"w1","namespace":"a"},"spec":{"node":"n1","interfaceName":"cali1","profiles":["open"]}}}"#;
+
+const SECOND: &str =
+    r#"{"put":{"apiVersion":"projectcalico.org/v3","kind":"WorkloadEndpoint","metadata":{"name":"w2","namespace":"a"},"spec":{"node":"n1","interfaceName":"cali2","profiles":["open"]}}}"#;
+
+const SECOND_GONE: &str =
+    r#"{"delete":{"apiVersion":"projectcalico.org/v3","kind":"WorkloadEndpoint","metadata":{"name":"w2","namespace":"a"}}}"#;
+
+const IN_SYNC: &str = r#"{"inSync":true}"#;
+
+// From the second endpoint to the first.
+const PACKET: &str =
+    r#"{"packet":{"in":"cali2","out":"cali1","src":"10.0.0.1","dst":"10.0.0.2","proto":"TCP","sport":40000,"dport":443}}"#;
 
 // It has the role `a`.
 const FIRST_A: &str =
@@ -25,29 +41,51 @@ const FROM_B: &str =
 const FROM_C: &str =
     r#"{"put":{"apiVersion":"projectcalico.org/v3","kind":"GlobalNetworkPolicy","metadata":{"name":"g"},"spec":{"selector":"role == 'a'","ingress":[{"action":"Allow","source":{"selector":"role == 'c'"}}]}}}"#;
 
-/// Updates, and how many tests there are from the first to each. As the policy comes, the one endpoint of its role is
-/// tested; as the datastore is in sync, the two of the role that its rule names; none as another role takes its place
-/// there; and one endpoint as it takes that role.
-pub const STEPS: [(&str, u64); 8] = [
-    (OPEN, 0),
-    (FIRST_A, 0),
-    (SECOND_B, 0),
-    (THIRD_B, 0),
-    (FROM_B, 1),
-    (IN_SYNC, 3),
-    (FROM_C, 3),
-    (SECOND_C, 4),
+/// What is done to an agent and its out, and what comes of it.
+#[derive(Clone, Copy)]
+pub enum Step {
+    /// The update of a line is made. So many tests of selectors were made for this one and those before it.
+    Update(&'static str, u64),
+    /// The next message has this text. Its first write fails: nothing is kept of it, it stays pending and comes again.
+    Message(&'static str),
+    /// No message is pending.
+    Nothing,
+    /// Memory runs out in the next pull.
+    WantOfMemory,
+    /// A pull, the update of a line and a batch are answered that the agent has to begin anew.
+    BeginsAnew(&'static str),
+    /// The packet of a line is denied.
+    Denied(&'static str),
+}
+
+/// As the policy comes, the one endpoint of its role is tested; as the datastore is in sync, the two of the role that
+/// its rule names; none as another role takes its place there; and one endpoint as it takes that role. The rule's set
+/// has the one address of two endpoints.
+pub const SHARED: [Step; 13] = [
+    Step::Update(OPEN, 0),
+    Step::Update(FIRST_A, 0),
+    Step::Update(SECOND_B, 0),
+    Step::Update(THIRD_B, 0),
+    Step::Update(FROM_B, 1),
+    Step::Update(IN_SYNC, 3),
+    Step::Message("set-add cali40s:cm9sZSA9PSAiYiIAAAAAAAA hash:net 10.0.0.9/32\n"),
+    Step::Message("policy gnp/g gnp/g in 1 out 0\n"),
+    Step::Message("profile open open in 1 out 1\n"),
+    Step::Message("endpoint cali1 a/w1 in default(gnp/g) out - profiles open\n"),
+    Step::Nothing,
+    Step::Update(FROM_C, 3),
+    Step::Update(SECOND_C, 4),
 ];
 
-/// The same without the last two: a policy whose rule's set has the one address of two endpoints.
-pub const SHARED: [&str; 6] = [OPEN, FIRST_A, SECOND_B, THIRD_B, FROM_B, IN_SYNC];
-
-/// The texts of the messages to which they lead.
-pub const SHARED_TOLD: [&str; 4] = [
-    "set-add cali40s:cm9sZSA9PSAiYiIAAAAAAAA hash:net 10.0.0.9/32\n",
-    "policy gnp/g gnp/g in 1 out 0\n",
-    "profile open open in 1 out 1\n",
-    "endpoint cali1 a/w1 in default(gnp/g) out - profiles open\n",
+/// Two endpoints come, and memory runs out in the first pull.
+pub const WANT_OF_MEMORY: [Step; 7] = [
+    Step::Update(OPEN, 0),
+    Step::Update(FIRST, 0),
+    Step::Update(SECOND, 0),
+    Step::Update(IN_SYNC, 0),
+    Step::WantOfMemory,
+    Step::BeginsAnew(SECOND_GONE),
+    Step::Denied(PACKET),
 ];
 
 /// Selectors of each kind of need, then items, the datastore in sync, labels that change, stay and come back, and

@@ -1,219 +1,149 @@
-//! Runs of an agent.
-use crate::bench::{PlainAgent, TextOut, batch_in, give, new_agent, packet_in, update_in};
-use crate::lines::{
-    EXCHANGE, FIRST, FIRST_MOVED, FIRST_MOVED_TOLD, FIRST_TOLD, HALF_WRONG, IN_SYNC, OPEN,
-    OPEN_TOLD, PACKET, SECOND, SECOND_GONE, SECOND_GONE_TOLD, SECOND_MOVED_TOLD, SECOND_TOLD,
-    TAKING,
-};
+//! An agent over each run: steps whose answers are known, and updates beside the model.
+use crate::bench::{PlainAgent, TextOut, new_agent, packet_in, update_in};
+use crate::runs::{SHARED, STORED, Step, WANT_OF_MEMORY};
+use crate::ticks::{Tests, drawn_lines, follow, stored_lines};
 use fx_agent::{PullFault, Pulled, UpdateFault};
-use fx_base::{ChainName, Counter};
+use fx_base::{Counter, Text};
 use fx_model::Verdict;
 use std::alloc::Global;
-use std::process::Abort;
 use std::test::Fail;
 
-/// What is tried on an agent with two endpoints, of which nothing was sent yet.
+/// What is tried on a new agent.
 #[derive(Clone, Copy)]
 enum Trial {
-    /// The messages are pulled one by one, and an endpoint goes.
-    OneByOne,
-    /// The first write fails.
-    FailedWrite,
-    /// An update would take the first endpoint's name.
-    TakenName,
-    /// The endpoints exchange their interfaces, which neither may alone.
-    Exchange,
-    /// A batch is refused for its last update.
-    RefusedBatch,
-    /// Memory runs out in the first pull.
-    WantOfMemory,
+    Steps(&'static [Step]),
+    /// The stored lines, beside the model.
+    Stored(Tests),
+    /// So many lines that are drawn from a seed, beside the model.
+    Drawn(u64, u64, Tests),
 }
 
-// Pulls one message after another until there is none, and compares their texts.
-fn pull_all(
-    rt: &impl Abort,
-    wanted: &[&str],
-    agent: &mut PlainAgent,
-    out: &mut TextOut,
-) -> Result<(), Fail> {
-    for text in wanted {
-        assert!(rt; agent.pending());
-        assert_eq!(rt; agent.pull(out)?, Pulled::Sent);
-        assert!(rt; out.ends_with(text), "{text}");
-    }
-    assert!(rt; !agent.pending());
-    assert_eq!(rt; agent.pull(out)?, Pulled::Nothing);
-    Ok(())
-}
+// The numbers of tests were computed from the lines outside this repository.
+const TRIALS: [Trial; 4] = [
+    Trial::Steps(&SHARED),
+    Trial::Steps(&WANT_OF_MEMORY),
+    Trial::Stored(Tests {
+        least: 67,
+        ticks: 183,
+        most: 250,
+    }),
+    Trial::Drawn(
+        0,
+        200,
+        Tests {
+            least: 106,
+            ticks: 106,
+            most: 556,
+        },
+    ),
+];
 
-// The chain of what the second endpoint sends.
-fn second_chain() -> ChainName {
-    ChainName::join(b"cali-fw-", b"cali2")
-}
-
-// Two endpoints come, and one goes.
-fn comes_and_goes(
-    rt: &impl Abort,
-    alloc: Global,
-    agent: &mut PlainAgent,
-    out: &mut TextOut,
-) -> Result<(), Fail> {
-    pull_all(rt, &[OPEN_TOLD, FIRST_TOLD, SECOND_TOLD], agent, out)?;
-    is_answered(rt, alloc, agent, Verdict::Allow)?;
-    give(alloc, &[SECOND_GONE], agent)?;
-    is_answered(rt, alloc, agent, Verdict::Allow)?;
-    assert!(rt; agent.tables().chain(second_chain()).is_some());
-    pull_all(rt, &[SECOND_GONE_TOLD], agent, out)?;
-    assert!(rt; agent.tables().chain(second_chain()).is_none());
-    is_answered(rt, alloc, agent, Verdict::Deny)
-}
-
-// The verdict on the packet that the second endpoint sends.
-fn is_answered(
-    rt: &impl Abort,
-    alloc: Global,
-    agent: &PlainAgent,
-    verdict: Verdict,
-) -> Result<(), Fail> {
-    let packet = packet_in(alloc, PACKET)?;
-    assert_eq!(rt; agent.decide(&packet).verdict, verdict);
-    Ok(())
-}
-
-// The first write fails.
-fn is_written_later(
-    rt: &impl Abort,
-    agent: &mut PlainAgent,
-    out: &mut TextOut,
-) -> Result<(), Fail> {
+// The next message isn't written at first, and then it is.
+fn comes(text: &str, agent: &mut PlainAgent, out: &mut TextOut) -> Result<bool, PullFault> {
+    let kept = out.kept;
     out.failing = 1;
-    assert_eq!(rt; agent.pull(out), Err(PullFault::Write));
-    assert!(rt; out.texts.is_empty());
-    pull_all(rt, &[OPEN_TOLD, FIRST_TOLD, SECOND_TOLD], agent, out)
+    let failed = agent.pull(out) == Err(PullFault::Write);
+    let stays = agent.pending() && out.kept == kept;
+    let sent = agent.pull(out)? == Pulled::Sent;
+    Ok(failed && stays && sent && out.ends_with(text))
 }
 
-// An update would take the first endpoint's name.
-fn keeps_its_name(
-    rt: &impl Abort,
-    alloc: Global,
-    agent: &mut PlainAgent,
-    out: &mut TextOut,
-) -> Result<(), Fail> {
-    let taking = update_in(alloc, TAKING.as_bytes())?;
-    let Err(UpdateFault::Taken { holder, .. }) = agent.update(taking, &mut Counter::new()) else {
-        return Err(Fail::new("a taken name was given away"));
-    };
-    assert_eq!(rt; holder.bytes(), b"endpoint a/w1".as_slice());
-    pull_all(rt, &[OPEN_TOLD, FIRST_TOLD, SECOND_TOLD], agent, out)
-}
-
-// The endpoints exchange their interfaces, which neither may alone.
-fn exchange(
-    rt: &impl Abort,
-    alloc: Global,
-    agent: &mut PlainAgent,
-    out: &mut TextOut,
-) -> Result<(), Fail> {
-    pull_all(rt, &[OPEN_TOLD, FIRST_TOLD, SECOND_TOLD], agent, out)?;
-    let alone = update_in(alloc, FIRST_MOVED.as_bytes())?;
-    let refused = agent.update(alone, &mut Counter::new());
-    assert!(rt; matches!(&refused, Err(UpdateFault::Taken { .. })));
-    let together = batch_in(alloc, EXCHANGE)?;
-    agent.update_all(together, &mut Counter::new())?;
-    pull_all(rt, &[SECOND_MOVED_TOLD, FIRST_MOVED_TOLD], agent, out)
-}
-
-// A batch is refused for its last update: its first one isn't made either.
-fn refuses_all(
-    rt: &impl Abort,
-    alloc: Global,
-    agent: &mut PlainAgent,
-    out: &mut TextOut,
-) -> Result<(), Fail> {
-    pull_all(rt, &[OPEN_TOLD, FIRST_TOLD, SECOND_TOLD], agent, out)?;
-    let batch = batch_in(alloc, HALF_WRONG)?;
-    let Err(UpdateFault::Taken { holder, .. }) = agent.update_all(batch, &mut Counter::new()) else {
-        return Err(Fail::new("a taken name was given away"));
-    };
-    assert_eq!(rt; holder.bytes(), b"endpoint a/w1".as_slice());
-    assert!(rt; !agent.pending());
-    Ok(())
-}
-
-// Memory runs out in the first pull.
-fn begins_anew(
-    rt: &impl Abort,
-    alloc: Global,
-    agent: &mut PlainAgent,
-    out: &mut TextOut,
-) -> Result<(), Fail> {
+fn runs_out(agent: &mut PlainAgent, out: &mut TextOut) -> bool {
     out.full = true;
-    assert_eq!(rt; agent.pull(out), Err(PullFault::Memory));
-    assert!(rt; !agent.pending());
+    let pulled = agent.pull(out);
     out.full = false;
-    assert_eq!(rt; agent.pull(out), Err(PullFault::NeedsResync));
-    let gone = update_in(alloc, SECOND_GONE.as_bytes())?;
-    let refused = agent.update(gone, &mut Counter::new());
-    assert!(rt; matches!(&refused, Err(UpdateFault::NeedsResync)));
-    let batch = batch_in(alloc, EXCHANGE)?;
-    let refused = agent.update_all(batch, &mut Counter::new());
-    assert!(rt; matches!(&refused, Err(UpdateFault::NeedsResync)));
-    is_answered(rt, alloc, agent, Verdict::Deny)
+    pulled == Err(PullFault::Memory) && !agent.pending()
 }
 
-fn run(
-    rt: &impl Abort,
+fn is_unready(answer: &Result<(), UpdateFault>) -> bool {
+    matches!(answer, Err(UpdateFault::NeedsResync))
+}
+
+fn begins_anew(
     alloc: Global,
-    trial: Trial,
+    line: &str,
     agent: &mut PlainAgent,
     out: &mut TextOut,
-) -> Result<(), Fail> {
-    give(alloc, &[OPEN, FIRST, SECOND, IN_SYNC], agent)?;
+) -> Result<bool, Fail> {
+    let mut ticks = Counter::new();
+    let pulled = agent.pull(out) == Err(PullFault::NeedsResync);
+    let updated = is_unready(&agent.update(update_in(alloc, line.as_bytes())?, &mut ticks));
+    let batched = is_unready(&agent.update_all(Vec::new(alloc), &mut ticks));
+    Ok(pulled && updated && batched)
+}
+
+fn is_denied(alloc: Global, line: &str, agent: &PlainAgent) -> Result<bool, Fail> {
+    let packet = packet_in(alloc, line.as_bytes())?;
+    Ok(agent.decide(&packet).verdict == Verdict::Deny)
+}
+
+// Whether all is as the step says.
+fn take(
+    alloc: Global,
+    step: Step,
+    ticks: &mut Counter,
+    agent: &mut PlainAgent,
+    out: &mut TextOut,
+) -> Result<bool, Fail> {
+    match step {
+        Step::Update(line, wanted) => {
+            agent.update(update_in(alloc, line.as_bytes())?, ticks)?;
+            Ok(ticks.count() == wanted)
+        }
+        Step::Message(text) => Ok(comes(text, agent, out)?),
+        Step::Nothing => Ok(!agent.pending() && agent.pull(out)? == Pulled::Nothing),
+        Step::WantOfMemory => Ok(runs_out(agent, out)),
+        Step::BeginsAnew(line) => begins_anew(alloc, line, agent, out),
+        Step::Denied(line) => is_denied(alloc, line, agent),
+    }
+}
+
+fn take_all(alloc: Global, steps: &[Step], agent: &mut PlainAgent) -> Result<bool, Fail> {
+    let mut ticks = Counter::new();
+    let mut out = TextOut::new(alloc);
+    for step in steps {
+        if !take(alloc, *step, &mut ticks, agent, &mut out)? {
+            return Ok(false);
+        }
+    }
+    Ok(true)
+}
+
+fn run(alloc: Global, trial: Trial, agent: &mut PlainAgent) -> Result<bool, Fail> {
     match trial {
-        Trial::OneByOne => comes_and_goes(rt, alloc, agent, out),
-        Trial::FailedWrite => is_written_later(rt, agent, out),
-        Trial::TakenName => keeps_its_name(rt, alloc, agent, out),
-        Trial::Exchange => exchange(rt, alloc, agent, out),
-        Trial::RefusedBatch => refuses_all(rt, alloc, agent, out),
-        Trial::WantOfMemory => begins_anew(rt, alloc, agent, out),
+        Trial::Steps(steps) => take_all(alloc, steps, agent),
+        Trial::Stored(wanted) => {
+            let lines = stored_lines(alloc, STORED)?;
+            follow(alloc, &lines, wanted, agent)
+        }
+        Trial::Drawn(seed, count, wanted) => {
+            let node = Text::new(alloc, b"n1")?;
+            let lines = drawn_lines(alloc, seed, count, &node)?;
+            follow(alloc, &lines, wanted, agent)
+        }
     }
 }
 
 // The agent stands here and is lent to the trial, so that one place lets go of it.
-fn try_out(rt: &impl Abort, alloc: Global, trial: Trial) -> Result<(), Fail> {
+fn try_out(alloc: Global, trial: Trial) -> Result<bool, Fail> {
     let mut agent = new_agent(alloc)?;
-    let mut out = TextOut::new(alloc);
-    let tried = run(rt, alloc, trial, &mut agent, &mut out);
+    let tried = run(alloc, trial, &mut agent);
     drop(agent);
     tried
 }
 
-#[test]
-fn messages_are_pulled_one_by_one(rt: HostRuntime) -> Result<(), Fail> {
-    try_out(&rt, rt.alloc(), Trial::OneByOne)
+// The first trial, from 0, in which something isn't as it should be.
+fn wrong_trial(alloc: Global) -> Result<Option<usize>, Fail> {
+    for (number, trial) in TRIALS.into_iter().enumerate() {
+        if !try_out(alloc, trial)? {
+            return Ok(Some(number));
+        }
+    }
+    Ok(None)
 }
 
 #[test]
-fn a_message_that_is_not_written_comes_again(rt: HostRuntime) -> Result<(), Fail> {
-    try_out(&rt, rt.alloc(), Trial::FailedWrite)
-}
-
-#[test]
-fn a_name_that_is_taken_is_refused(rt: HostRuntime) -> Result<(), Fail> {
-    try_out(&rt, rt.alloc(), Trial::TakenName)
-}
-
-#[test]
-fn interfaces_are_exchanged_in_a_batch(rt: HostRuntime) -> Result<(), Fail> {
-    try_out(&rt, rt.alloc(), Trial::Exchange)
-}
-
-#[test]
-fn a_batch_is_refused_whole(rt: HostRuntime) -> Result<(), Fail> {
-    try_out(&rt, rt.alloc(), Trial::RefusedBatch)
-}
-
-#[test]
-fn without_memory_it_has_to_begin_anew(rt: HostRuntime) -> Result<(), Fail> {
-    try_out(&rt, rt.alloc(), Trial::WantOfMemory)
+fn each_trial_comes_out_as_it_should(rt: HostRuntime) -> Result<(), Fail> {
+    assert_eq!(rt; wrong_trial(rt.alloc())?, None);
+    Ok(())
 }

@@ -1,12 +1,6 @@
-//! Members and their flags, maps from keys, and copies of resources.
-use fx_base::{Ipv4, Memory, Net, Proto, Seq, Text};
-use fx_model::{
-    Flags, Item, Key, KeyMap, Member, MemberFlags, MemberList, MemberSet, NetSet, Tier,
-};
-use fx_selector::Labels;
-use fx_sharing::Shared;
-use std::alloc::Global;
-use std::process::Abort;
+//! Members and their flags.
+use fx_base::{Ipv4, Memory, Proto};
+use fx_model::{Flags, Member, MemberFlags, MemberList, MemberSet};
 use std::test::Fail;
 
 fn port(addr: u32, proto: u8, number: u16) -> Member {
@@ -27,6 +21,7 @@ fn ports() -> [Member; 4] {
     ]
 }
 
+/// Ports stand by address, then by protocol, then by number.
 fn are_listed(set: &mut MemberSet, ports: &[Member]) -> Result<bool, Memory> {
     for member in ports.iter().rev() {
         set.insert(*member)?;
@@ -34,14 +29,8 @@ fn are_listed(set: &mut MemberSet, ports: &[Member]) -> Result<bool, Memory> {
     Ok(MemberList::all(set).walk().eq(ports.iter().copied()))
 }
 
-#[test]
-fn ports_stand_by_address_then_protocol_then_number(rt: HostRuntime) -> Result<(), Fail> {
-    let mut set = MemberSet::new(rt.alloc());
-    assert!(rt; are_listed(&mut set, &ports())?);
-    Ok(())
-}
-
-fn with_flags(map: &mut MemberFlags) -> Result<(), Memory> {
+/// Members are lent by their flags.
+fn are_lent(map: &mut MemberFlags) -> Result<bool, Memory> {
     let gone = Flags {
         sent: true,
         now: false,
@@ -49,60 +38,19 @@ fn with_flags(map: &mut MemberFlags) -> Result<(), Memory> {
     map.insert(port(9, 6, 9000), gone)?;
     map.insert(port(10, 6, 80), Flags { now: true, ..gone })?;
     map.insert(port(9, 17, 53), gone)?;
-    Ok(())
-}
-
-#[test]
-fn members_are_lent_by_their_flags(rt: HostRuntime) -> Result<(), Fail> {
-    let mut map = MemberFlags::new(rt.alloc());
-    with_flags(&mut map)?;
+    let lent = MemberList::flagged(map, true, false);
     let want = [port(9, 6, 9000), port(9, 17, 53)];
-    assert!(rt;
-        MemberList::flagged(&map, true, false)
-            .walk()
-            .eq(want.iter().copied())
-    );
-    assert_eq!(rt; MemberList::flagged(&map, false, true).walk().next(), None);
-    Ok(())
-}
-
-fn profile_key(alloc: Global, name: &[u8]) -> Result<Key, Memory> {
-    Ok(Key::Profile {
-        name: Text::new(alloc, name)?,
-    })
-}
-
-fn last_place(alloc: Global, places: &mut KeyMap<usize>) -> Result<Option<usize>, Fail> {
-    let key = profile_key(alloc, b"p")?;
-    places.insert(key.clone()?, 1)?;
-    places.insert(profile_key(alloc, b"q")?, 2)?;
-    places.insert(profile_key(alloc, b"p")?, 3)?;
-    Ok(places.get(&key).copied())
+    let has_others = MemberList::flagged(map, false, true)
+        .walk()
+        .next()
+        .is_some();
+    Ok(lent.walk().eq(want.iter().copied()) && !has_others)
 }
 
 #[test]
-fn a_key_has_its_last_value(rt: HostRuntime) -> Result<(), Fail> {
-    let mut places = KeyMap::new(rt.alloc());
-    assert_eq!(rt; last_place(rt.alloc(), &mut places)?, Some(3));
-    Ok(())
-}
-
-fn copied_nets(item: &Item) -> Result<usize, Memory> {
-    match item.clone()? {
-        Item::NetSet(net_set) => Ok(net_set.nets.as_slice().len()),
-        Item::Endpoint(_) | Item::Profile(_) | Item::Tier(_) | Item::Policy(_) => Ok(0),
-    }
-}
-
-#[test]
-fn a_copied_network_set_has_its_nets(rt: HostRuntime) -> Result<(), Fail> {
-    let alloc = rt.alloc();
-    let nets = vec![in alloc; Net::host(Ipv4(9)), Net::host(Ipv4(10))]?;
-    let net_set = NetSet {
-        labels: Labels::new(alloc),
-        nets: Seq::from_vec(nets),
-    };
-    let item = Item::NetSet(Shared::new(alloc, net_set)?);
-    assert_eq!(rt; copied_nets(&item)?, 2);
+fn members_stand_in_order(rt: HostRuntime) -> Result<(), Fail> {
+    let mut set = MemberSet::new(rt.alloc());
+    let mut map = MemberFlags::new(rt.alloc());
+    assert!(rt; are_listed(&mut set, &ports())? && are_lent(&mut map)?);
     Ok(())
 }

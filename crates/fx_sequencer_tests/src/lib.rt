@@ -1,10 +1,6 @@
-//! The tests of `fx_sequencer`: in which order messages come, and that they make the view that is wanted.
+//! The tests of `fx_sequencer`: in which order messages come.
 #![tactic(auto)]
 
-#[cfg(test)]
-mod bench;
-#[cfg(test)]
-mod folding;
 #[cfg(test)]
 mod tests;
 #[cfg(test)]

@@ -2,217 +2,247 @@
 //! goes after it. Of what goes and comes back nothing is told.
 ghost use Rattle.std.specs.Prelude.{◌≡◌, OnOk};
 
-use crate::bench::{Bench, Step};
-use fx_base::Memory;
-use std::process::Abort;
+use crate::wanting::{put_policy, turn_endpoint, turn_member, turn_policy, turn_profile, turn_set};
+use fx_base::{Ipv4, Memory, NameKey, Net, SetKind, SetName};
+use fx_model::{Member, Message, View};
+use fx_sequencer::Sequencer;
+use std::alloc::Global;
 use std::test::Fail;
 
-/// Takes the steps, and then sends all messages, which are these.
-fn run(
-    rt: &impl Abort,
-    bench: &mut Bench,
-    steps: &[Step],
-    told: &[&'static str],
-) -> Result<(), Fail>
-    requires { bench.old.sequencer.wanted ≡ bench.old.wanted }
-    ensures { OnOk result (bench.new.sequencer.wanted ≡ bench.new.wanted) }
-{
-    for step in steps {
-        bench.turn(*step)?;
-    }
-    for expected in told {
-        assert_eq!(rt; bench.send()?, Some(*expected));
-    }
-    assert_eq!(rt; bench.send()?, Some("nothing"));
-    Ok(())
-}
-
-fn named_first(rt: &impl Abort, bench: &mut Bench) -> Result<(), Fail>
-    requires { bench.old.sequencer.wanted ≡ bench.old.wanted }
-{
-    let come = [
-        Step::Endpoint,
-        Step::Policy,
-        Step::Set,
-        Step::Profile,
-        Step::Member,
-    ];
-    let came = ["a set", "a policy", "a profile", "an endpoint"];
-    let go = [
-        Step::Member,
-        Step::Set,
-        Step::Profile,
-        Step::Endpoint,
-        Step::Policy,
-    ];
-    let gone = ["no endpoint", "no profile", "no policy", "no set"];
-    run(rt, bench, &come, &came)?;
-    run(rt, bench, &go, &gone)?;
-    Ok(())
-}
-
-#[test]
-fn what_is_named_comes_first_and_goes_last(rt: HostRuntime) -> Result<(), Fail> {
-    let mut bench = Bench::new(rt.alloc())?;
-    let done = named_first(&rt, &mut bench);
-    drop(bench);
-    done
-}
-
-fn member_back(rt: &impl Abort, bench: &mut Bench) -> Result<(), Fail>
-    requires { bench.old.sequencer.wanted ≡ bench.old.wanted }
-{
-    run(rt, bench, &[Step::Set], &["a set"])?;
-    run(rt, bench, &[Step::Member], &["members"])?;
-    run(rt, bench, &[Step::Member, Step::Member], &[])?;
-    Ok(())
-}
-
-#[test]
-fn of_a_member_that_comes_back_nothing_is_told(rt: HostRuntime) -> Result<(), Fail> {
-    let mut bench = Bench::new(rt.alloc())?;
-    let done = member_back(&rt, &mut bench);
-    drop(bench);
-    done
-}
-
-fn policy_back(rt: &impl Abort, bench: &mut Bench) -> Result<(), Fail>
-    requires { bench.old.sequencer.wanted ≡ bench.old.wanted }
-{
-    run(rt, bench, &[Step::Policy], &["a policy"])?;
-    run(rt, bench, &[Step::ChangedPolicy, Step::FirstPolicy], &[])?;
-    run(rt, bench, &[Step::ChangedPolicy], &["a policy"])?;
-    run(rt, bench, &[Step::Policy, Step::ChangedPolicy], &[])?;
-    run(rt, bench, &[Step::Policy, Step::Policy], &["a policy"])?;
-    Ok(())
-}
-
-#[test]
-fn of_a_policy_that_changes_back_nothing_is_told(rt: HostRuntime) -> Result<(), Fail> {
-    let mut bench = Bench::new(rt.alloc())?;
-    let done = policy_back(&rt, &mut bench);
-    drop(bench);
-    done
-}
-
-fn set_back(rt: &impl Abort, bench: &mut Bench) -> Result<(), Fail>
-    requires { bench.old.sequencer.wanted ≡ bench.old.wanted }
-{
-    run(rt, bench, &[Step::Set, Step::Member], &["a set"])?;
-    let other = [Step::Member, Step::Set, Step::Set, Step::OtherMember];
-    run(rt, bench, &other, &["members"])?;
-    let same = [Step::OtherMember, Step::Set, Step::Set, Step::OtherMember];
-    run(rt, bench, &same, &[])?;
-    run(rt, bench, &[Step::OtherMember, Step::Set], &["no set"])?;
-    run(rt, bench, &[Step::Set, Step::Set], &[])?;
-    Ok(())
-}
-
-#[test]
-fn a_set_that_goes_and_comes_back_tells_what_differs(rt: HostRuntime) -> Result<(), Fail> {
-    let mut bench = Bench::new(rt.alloc())?;
-    let done = set_back(&rt, &mut bench);
-    drop(bench);
-    done
-}
-
-/// What happens to a bench, each of these once.
+/// What comes if it isn't there, and goes if it is, or what is told.
 #[derive(Clone, Copy)]
 enum Event {
-    Pick(u8),
-    Turn(Step),
-    /// So many messages.
-    Send(u8),
+    /// It goes if it has no members.
+    Set,
+    Member,
+    OtherMember,
+    Policy,
+    /// The policy is there with another record.
+    ChangedPolicy,
+    /// The policy is there with its first record.
+    FirstPolicy,
+    Profile,
+    Endpoint,
+    /// The next message tells of this.
+    Told(&'static str),
 }
 
-/// Many places differ at once, and the wanted view changes before all of them were told.
-const CHANGING: [Event; 38] = [
-    Event::Pick(b'b'),
-    Event::Turn(Step::Set),
-    Event::Turn(Step::Policy),
-    Event::Turn(Step::Endpoint),
-    Event::Pick(b'd'),
-    Event::Turn(Step::Set),
-    Event::Turn(Step::Profile),
-    Event::Turn(Step::Policy),
-    Event::Send(2),
+/// Each event, by the letter of what it is about.
+const EVENTS: [(u8, Event); 107] = [
+    // What is named comes first and goes last.
+    (b'e', Event::Endpoint),
+    (b'e', Event::Policy),
+    (b'e', Event::Set),
+    (b'e', Event::Profile),
+    (b'e', Event::Member),
+    (b'e', Event::Told("a set")),
+    (b'e', Event::Told("a policy")),
+    (b'e', Event::Told("a profile")),
+    (b'e', Event::Told("an endpoint")),
+    (0, Event::Told("nothing")),
+    (b'e', Event::Member),
+    (b'e', Event::Set),
+    (b'e', Event::Profile),
+    (b'e', Event::Endpoint),
+    (b'e', Event::Policy),
+    (b'e', Event::Told("no endpoint")),
+    (b'e', Event::Told("no profile")),
+    (b'e', Event::Told("no policy")),
+    (b'e', Event::Told("no set")),
+    (0, Event::Told("nothing")),
+    // Of a member that comes back nothing is told.
+    (b'f', Event::Set),
+    (b'f', Event::Told("a set")),
+    (0, Event::Told("nothing")),
+    (b'f', Event::Member),
+    (b'f', Event::Told("members")),
+    (0, Event::Told("nothing")),
+    (b'f', Event::Member),
+    (b'f', Event::Member),
+    (0, Event::Told("nothing")),
+    // Of a policy that changes back nothing is told.
+    (b'g', Event::Policy),
+    (b'g', Event::Told("a policy")),
+    (0, Event::Told("nothing")),
+    (b'g', Event::ChangedPolicy),
+    (b'g', Event::FirstPolicy),
+    (0, Event::Told("nothing")),
+    (b'g', Event::ChangedPolicy),
+    (b'g', Event::Told("a policy")),
+    (0, Event::Told("nothing")),
+    (b'g', Event::Policy),
+    (b'g', Event::ChangedPolicy),
+    (0, Event::Told("nothing")),
+    (b'g', Event::Policy),
+    (b'g', Event::Policy),
+    (b'g', Event::Told("a policy")),
+    (0, Event::Told("nothing")),
+    // A set that goes and comes back tells what differs.
+    (b'h', Event::Set),
+    (b'h', Event::Member),
+    (b'h', Event::Told("a set")),
+    (0, Event::Told("nothing")),
+    (b'h', Event::Member),
+    (b'h', Event::Set),
+    (b'h', Event::Set),
+    (b'h', Event::OtherMember),
+    (b'h', Event::Told("members")),
+    (0, Event::Told("nothing")),
+    (b'h', Event::OtherMember),
+    (b'h', Event::Set),
+    (b'h', Event::Set),
+    (b'h', Event::OtherMember),
+    (0, Event::Told("nothing")),
+    (b'h', Event::OtherMember),
+    (b'h', Event::Set),
+    (b'h', Event::Told("no set")),
+    (0, Event::Told("nothing")),
+    (b'h', Event::Set),
+    (b'h', Event::Set),
+    (0, Event::Told("nothing")),
+    // Many places differ at once, and the wanted view changes before all of them were told.
+    (b'b', Event::Set),
+    (b'b', Event::Policy),
+    (b'b', Event::Endpoint),
+    (b'd', Event::Set),
+    (b'd', Event::Profile),
+    (b'd', Event::Policy),
+    (b'b', Event::Told("a set")),
+    (b'd', Event::Told("a set")),
     // A set is told before what is left.
-    Event::Pick(b'a'),
-    Event::Turn(Step::Set),
-    Event::Send(2),
-    Event::Pick(b'c'),
-    Event::Turn(Step::Policy),
-    Event::Pick(b'b'),
-    Event::Turn(Step::Member),
-    Event::Send(3),
+    (b'a', Event::Set),
+    (b'a', Event::Told("a set")),
+    (b'b', Event::Told("a policy")),
+    (b'c', Event::Policy),
+    (b'b', Event::Member),
+    (b'b', Event::Told("members")),
+    (b'c', Event::Told("a policy")),
+    (b'd', Event::Told("a policy")),
     // One goes that was told, and one that was not.
-    Event::Turn(Step::Policy),
-    Event::Pick(b'd'),
-    Event::Turn(Step::Profile),
-    Event::Send(5),
-    Event::Pick(b'a'),
-    Event::Turn(Step::Set),
-    Event::Turn(Step::Endpoint),
-    Event::Turn(Step::Profile),
-    Event::Send(1),
-    Event::Pick(b'b'),
-    Event::Turn(Step::OtherMember),
-    Event::Turn(Step::Member),
-    Event::Send(1),
-    Event::Turn(Step::OtherMember),
-    Event::Turn(Step::Set),
-    Event::Turn(Step::Endpoint),
-    Event::Pick(b'c'),
-    Event::Turn(Step::ChangedPolicy),
-    Event::Send(2),
-    Event::Turn(Step::Policy),
-    Event::Send(6),
+    (b'b', Event::Policy),
+    (b'd', Event::Profile),
+    (b'b', Event::Told("an endpoint")),
+    (b'b', Event::Told("no policy")),
+    (0, Event::Told("nothing")),
+    (b'a', Event::Set),
+    (b'a', Event::Endpoint),
+    (b'a', Event::Profile),
+    (b'a', Event::Told("a profile")),
+    (b'b', Event::OtherMember),
+    (b'b', Event::Member),
+    (b'b', Event::Told("members")),
+    (b'b', Event::OtherMember),
+    (b'b', Event::Set),
+    (b'b', Event::Endpoint),
+    (b'c', Event::ChangedPolicy),
+    (b'c', Event::Told("a policy")),
+    (b'a', Event::Told("an endpoint")),
+    (b'c', Event::Policy),
+    (b'b', Event::Told("no endpoint")),
+    (b'c', Event::Told("no policy")),
+    (b'a', Event::Told("no set")),
+    (b'b', Event::Told("no set")),
+    (0, Event::Told("nothing")),
 ];
 
-/// Whether the messages are those of the two views.
-fn happens(bench: &mut Bench, event: Event) -> Result<bool, Memory>
-    requires { bench.old.sequencer.wanted ≡ bench.old.wanted }
-    ensures { OnOk result (bench.new.sequencer.wanted ≡ bench.new.wanted) }
+fn member(number: u32) -> Member {
+    Member::Net(Net::host(Ipv4(number)))
+}
+
+// What a message tells of, and the name of it.
+fn told_of<'a>(message: &'a Message<'a>) -> (&'static str, &'a [u8]) {
+    match message {
+        Message::SetAdd { name, .. } => ("a set", name.bytes()),
+        Message::SetDelta { name, .. } => ("members", name.bytes()),
+        Message::PolicyPut { key, .. } => ("a policy", key.bytes()),
+        Message::ProfilePut { key, .. } => ("a profile", key.bytes()),
+        Message::EndpointPut { iface, .. } => ("an endpoint", iface.bytes()),
+        Message::EndpointGone { iface } => ("no endpoint", iface.bytes()),
+        Message::ProfileGone { key } => ("no profile", key.bytes()),
+        Message::PolicyGone { key } => ("no policy", key.bytes()),
+        Message::SetGone { name } => ("no set", name.bytes()),
+    }
+}
+
+// Sends the next message. The answer is what it tells of, and the letter in the name of it.
+fn send(sequencer: &mut Sequencer) -> (&'static str, u8)
+    ensures { sequencer.new.wanted ≡ sequencer.old.wanted }
+{
+    let Some(message) = sequencer.peek() else {
+        return ("nothing", 0);
+    };
+    let (told, name) = told_of(&message);
+    let letter = name.last().copied().unwrap_or(0);
+    sequencer.sent();
+    (told, letter)
+}
+
+fn turn(
+    alloc: Global,
+    sequencer: &mut Sequencer,
+    wanted: &mut View,
+    letter: u8,
+    event: Event,
+) -> Result<(), Memory>
+    requires { sequencer.old.wanted ≡ wanted.old }
+    ensures { OnOk result (sequencer.new.wanted ≡ wanted.new) }
+{
+    let set = SetName::new(SetKind::Nets, [letter; 23]);
+    let key = NameKey::new(&[letter; 5]);
+    match event {
+        Event::Set => turn_set(alloc, sequencer, wanted, set),
+        Event::Member => turn_member(alloc, sequencer, wanted, set, member(1)),
+        Event::OtherMember => turn_member(alloc, sequencer, wanted, set, member(2)),
+        Event::Policy => turn_policy(alloc, sequencer, wanted, key),
+        Event::ChangedPolicy => put_policy(alloc, sequencer, wanted, key, b"changed"),
+        Event::FirstPolicy => put_policy(alloc, sequencer, wanted, key, b"first"),
+        Event::Profile => turn_profile(alloc, sequencer, wanted, key),
+        Event::Endpoint => turn_endpoint(alloc, sequencer, wanted, &[letter; 4]),
+        Event::Told(_) => Ok(()),
+    }
+}
+
+// Whether what is told is what the event says.
+fn happens(
+    alloc: Global,
+    sequencer: &mut Sequencer,
+    wanted: &mut View,
+    letter: u8,
+    event: Event,
+) -> Result<bool, Memory>
+    requires { sequencer.old.wanted ≡ wanted.old }
+    ensures { OnOk result (sequencer.new.wanted ≡ wanted.new) }
 {
     match event {
-        Event::Pick(letter) => {
-            bench.pick(letter)?;
+        Event::Told(what) => Ok(send(sequencer) == (what, letter)),
+        other => {
+            turn(alloc, sequencer, wanted, letter, other)?;
             Ok(true)
         }
-        Event::Turn(step) => {
-            bench.turn(step)?;
-            Ok(true)
-        }
-        Event::Send(count) => send_some(bench, count),
     }
 }
 
-fn send_some(bench: &mut Bench, count: u8) -> Result<bool, Memory>
-    requires { bench.old.sequencer.wanted ≡ bench.old.wanted }
-    ensures { OnOk result (bench.new.sequencer.wanted ≡ bench.new.wanted) }
+// The first event, from 0, at which another message comes.
+fn wrong_event(
+    alloc: Global,
+    sequencer: &mut Sequencer,
+    wanted: &mut View,
+) -> Result<Option<usize>, Memory>
+    requires { sequencer.old.wanted ≡ wanted.old }
 {
-    for _ in 0..count {
-        if bench.send()?.is_none() {
-            return Ok(false);
+    for (number, (letter, event)) in EVENTS.into_iter().enumerate() {
+        if !happens(alloc, sequencer, wanted, letter, event)? {
+            return Ok(Some(number));
         }
     }
-    Ok(true)
-}
-
-fn each_next(rt: &impl Abort, bench: &mut Bench) -> Result<(), Fail>
-    requires { bench.old.sequencer.wanted ≡ bench.old.wanted }
-{
-    for event in CHANGING {
-        assert!(rt; happens(bench, event)?);
-    }
-    assert_eq!(rt; bench.send()?, Some("nothing"));
-    Ok(())
+    Ok(None)
 }
 
 #[test]
-fn each_message_is_the_next_of_the_two_views(rt: HostRuntime) -> Result<(), Fail> {
-    let mut bench = Bench::new(rt.alloc())?;
-    let done = each_next(&rt, &mut bench);
-    drop(bench);
-    done
+fn messages_come_in_their_order(rt: HostRuntime) -> Result<(), Fail> {
+    let alloc = rt.alloc();
+    let mut sequencer = Sequencer::new(alloc);
+    let mut wanted = View::new(alloc);
+    assert_eq!(rt; wrong_event(alloc, &mut sequencer, &mut wanted)?, None);
+    Ok(())
 }

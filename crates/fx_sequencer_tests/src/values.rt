@@ -1,60 +1,46 @@
 //! A policy, a profile and an endpoint.
-use fx_base::{Memory, NameKey, Seq, SetName, Text};
-use fx_model::{Action, PolicyId, ViewEndpoint, ViewPolicy, ViewProfile, ViewRule, ViewSide};
+ghost use Rattle.std.specs.Prelude.{◌≡◌, [], false, IfOk};
+ghost use Rattle.fx_model.specs.declared.ids.PolicyId.TheVariants as policy_id;
+
+use fx_base::{Memory, Seq, Text};
+use fx_model::{PolicyId, ViewEndpoint, ViewPolicy, ViewProfile};
 use std::alloc::Global;
 
-/// A policy that allows packets from the members of a set, or any packets.
-pub fn policy(alloc: Global, set: Option<SetName>) -> Result<ViewPolicy, Memory> {
-    let rule = ViewRule {
-        action: Action::Allow,
-        never: false,
-        protocol: None,
-        not_protocol: None,
-        icmp: None,
-        not_icmp: None,
-        source: side(alloc, set),
-        destination: side(alloc, None),
-    };
-    let mut ingress = Seq::new(alloc);
-    ingress.push(rule)?;
+/// A global policy without rules.
+pub fn policy(alloc: Global, name: &[u8]) -> Result<ViewPolicy, Memory>
+    ensures { IfOk result (λ p. p ≡ record { id = policy_id.Global name.now; ingress = []; egress = [] }) }
+{
     Ok(ViewPolicy {
         id: PolicyId::Global {
-            name: Text::new(alloc, b"p")?,
+            name: Text::new(alloc, name)?,
         },
-        ingress,
+        ingress: Seq::new(alloc),
         egress: Seq::new(alloc),
     })
 }
 
-pub fn profile(alloc: Global) -> Result<ViewProfile, Memory> {
+/// A profile that is there, without rules.
+pub fn profile(alloc: Global, name: &[u8]) -> Result<ViewProfile, Memory>
+    ensures { IfOk result (λ p. p ≡ record { name = name.now; missing = false; ingress = []; egress = [] }) }
+{
     Ok(ViewProfile {
-        name: Text::new(alloc, b"kns.shop")?,
+        name: Text::new(alloc, name)?,
         missing: false,
         ingress: Seq::new(alloc),
         egress: Seq::new(alloc),
     })
 }
 
-pub fn endpoint(alloc: Global, profile: NameKey) -> Result<ViewEndpoint, Memory> {
-    let mut profiles = Seq::new(alloc);
-    profiles.push(profile)?;
+/// An endpoint that names no policies and no profiles, in a namespace of its own name.
+pub fn endpoint(alloc: Global, name: &[u8]) -> Result<ViewEndpoint, Memory>
+    ensures { IfOk result (λ e. e
+        ≡ record { ns = name.now; name = name.now; ingress = []; egress = []; profiles = [] }) }
+{
     Ok(ViewEndpoint {
-        ns: Text::new(alloc, b"shop")?,
-        name: Text::new(alloc, b"web")?,
+        ns: Text::new(alloc, name)?,
+        name: Text::new(alloc, name)?,
         ingress: Seq::new(alloc),
         egress: Seq::new(alloc),
-        profiles,
+        profiles: Seq::new(alloc),
     })
-}
-
-/// Any packets, but for those whose end is not in the set, if there is one.
-fn side(alloc: Global, set: Option<SetName>) -> ViewSide {
-    ViewSide {
-        nets: Seq::new(alloc),
-        not_nets: Seq::new(alloc),
-        set,
-        not_set: None,
-        ports: Seq::new(alloc),
-        not_ports: Seq::new(alloc),
-    }
 }

@@ -1,12 +1,13 @@
 //! A sequencer, and beside it the view that is wanted of it: what is there goes, and what is not there comes.
-ghost use Rattle.std.specs.Prelude.{◌≡◌, ◌↔◌, IfOk, IsTrue, OnOk, OnErr, IsSome, Some};
+ghost use Rattle.std.specs.Prelude.{◌≡◌, ◌↔◌, IsTrue, OnOk, OnErr, IsSome, Some};
 ghost use Rattle.std.specs.Option.{option_copied};
 ghost use Rattle.std.specs.FinMap as map;
 ghost use Rattle.fx_base.specs.Set as set;
 ghost use Rattle.fx_model.specs.Messages.{members_of};
 
-use fx_base::{Exact, Memory, NameKey, SetMap, SetName, Text, same};
-use fx_model::{Member, MemberSet, SetSink, View, ViewEndpoint, ViewPolicy, ViewProfile, ViewSink};
+use crate::values::{endpoint, policy, profile};
+use fx_base::{Memory, NameKey, SetMap, SetName, Text, same};
+use fx_model::{Member, MemberSet, SetSink, View, ViewSink};
 use fx_sequencer::Sequencer;
 use std::alloc::Global;
 
@@ -59,13 +60,13 @@ pub fn turn_member(
     Ok(())
 }
 
-/// This policy comes, or the one that is there goes.
+/// A policy comes, or the one that is there goes.
 #[tactic(auto, using(fx_base::proofs::AtKey::reads))]
 pub fn turn_policy(
+    alloc: Global,
     sequencer: &mut Sequencer,
     wanted: &mut View,
     key: NameKey,
-    policy: ViewPolicy,
 ) -> Result<(), Memory>
     requires { sequencer.old.wanted ≡ wanted.old }
     ensures { OnOk result (sequencer.new.wanted ≡ wanted.new) }
@@ -75,32 +76,33 @@ pub fn turn_policy(
         wanted.policies.remove(&key);
         return Ok(());
     }
-    put_policy(sequencer, wanted, key, policy)
+    put_policy(alloc, sequencer, wanted, key, b"first")
 }
 
-/// This policy is the wanted one.
+/// The policy of this name is the wanted one.
 #[tactic(auto, using(fx_base::proofs::AtKey::reads))]
 pub fn put_policy(
+    alloc: Global,
     sequencer: &mut Sequencer,
     wanted: &mut View,
     key: NameKey,
-    policy: ViewPolicy,
+    name: &[u8],
 ) -> Result<(), Memory>
     requires { sequencer.old.wanted ≡ wanted.old }
     ensures { OnOk result (sequencer.new.wanted ≡ wanted.new) }
 {
-    sequencer.policy_put(key, copied(&policy)?)?;
-    wanted.policies.insert(&key, policy)?;
+    sequencer.policy_put(key, policy(alloc, name)?)?;
+    wanted.policies.insert(&key, policy(alloc, name)?)?;
     Ok(())
 }
 
-/// This profile comes, or the one that is there goes.
+/// A profile comes, or the one that is there goes.
 #[tactic(auto, using(fx_base::proofs::AtKey::reads))]
 pub fn turn_profile(
+    alloc: Global,
     sequencer: &mut Sequencer,
     wanted: &mut View,
     key: NameKey,
-    profile: ViewProfile,
 ) -> Result<(), Memory>
     requires { sequencer.old.wanted ≡ wanted.old }
     ensures { OnOk result (sequencer.new.wanted ≡ wanted.new) }
@@ -110,36 +112,31 @@ pub fn turn_profile(
         wanted.profiles.remove(&key);
         return Ok(());
     }
-    sequencer.profile_put(key, copied(&profile)?)?;
-    wanted.profiles.insert(&key, profile)?;
+    sequencer.profile_put(key, profile(alloc, key.bytes())?)?;
+    wanted.profiles.insert(&key, profile(alloc, key.bytes())?)?;
     Ok(())
 }
 
-/// This endpoint comes, or the one that is there goes.
+/// An endpoint comes, or the one that is there goes.
 #[tactic(auto, using(fx_base::proofs::AtKey::reads))]
 pub fn turn_endpoint(
+    alloc: Global,
     sequencer: &mut Sequencer,
     wanted: &mut View,
-    iface: &Text,
-    endpoint: ViewEndpoint,
+    iface: &[u8],
 ) -> Result<(), Memory>
     requires { sequencer.old.wanted ≡ wanted.old }
     ensures { OnOk result (sequencer.new.wanted ≡ wanted.new) }
 {
-    if wanted.endpoints.contains_key(iface) {
-        sequencer.endpoint_gone(iface)?;
-        wanted.endpoints.remove(iface);
+    let name = Text::new(alloc, iface)?;
+    if wanted.endpoints.contains_key(&name) {
+        sequencer.endpoint_gone(&name)?;
+        wanted.endpoints.remove(&name);
         return Ok(());
     }
-    sequencer.endpoint_put(iface, copied(&endpoint)?)?;
-    wanted.endpoints.insert(copied(iface)?, endpoint)?;
+    sequencer.endpoint_put(&name, endpoint(alloc, iface)?)?;
+    wanted.endpoints.insert(name, endpoint(alloc, iface)?)?;
     Ok(())
-}
-
-fn copied<V: Exact>(value: &V) -> Result<V, Memory>
-    ensures { IfOk result (λ copy. copy ≡ value.now) }
-{
-    Ok(value.clone()?)
 }
 
 fn is_empty(alloc: Global, found: Option<&MemberSet>) -> bool

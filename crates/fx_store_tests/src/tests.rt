@@ -1,4 +1,4 @@
-//! Each call once, with the memory that it wants, and how a clash reads.
+//! One store over a table of steps: each call, and how a clash reads.
 ghost use Rattle.std.specs.Prelude.{◌≡◌, IfOk, OnOk, true};
 ghost use Rattle.std.specs.List.{list_all};
 ghost use Rattle.fx_names.specs.Digests.{plain_digest};
@@ -6,13 +6,59 @@ ghost use Rattle.fx_model.specs.Formed.{is_formed, is_formed_profile};
 ghost use Rattle.fx_store.specs.Keeping.{KeepsClaims};
 
 use fx_base::{Memory, Seq, Text};
-use fx_model::{Item, Key, Policy, PolicyId, Profile, Update};
+use fx_model::{Item, Key, Profile, Update};
 use fx_names::{Namer, PlainRule};
-use fx_selector::{Labels, Selector};
+use fx_selector::Labels;
 use fx_store::{CheckFault, Found, Store};
 use std::alloc::Global;
-use std::process::Abort;
 use std::test::Fail;
+
+/// A profile that is put, or deleted.
+#[derive(Clone, Copy)]
+enum Change {
+    Put(&'static [u8]),
+    Delete(&'static [u8]),
+}
+
+/// What is done, and what holds then.
+#[derive(Clone, Copy)]
+enum Step {
+    /// The change clashes with nothing, and is made.
+    Make(Change),
+    /// The two together clash with nothing, and are made: what goes by a delete, and then what comes.
+    MakeBoth(Change, Change),
+    /// The name that the change would take is that of `FIRST`.
+    Refuse(Change),
+    /// The name that the second would take is that of `FIRST`, which the first puts.
+    RefuseBoth(Change, Change),
+    /// Whether a profile of this name is there.
+    Find(&'static [u8], bool),
+    /// Whether the change would leave all as it is.
+    Compare(Change, bool),
+}
+
+const FIRST: &[u8] = b"aaaaaaaaaaaaaaaaaaaa1";
+
+/// By the plain rule two long names with one prefix have one chain.
+const SECOND: &[u8] = b"aaaaaaaaaaaaaaaaaaaa2";
+
+const STEPS: [Step; 14] = [
+    Step::RefuseBoth(Change::Put(FIRST), Change::Put(SECOND)),
+    Step::Make(Change::Put(FIRST)),
+    Step::Refuse(Change::Put(SECOND)),
+    // alone it may not, and where the other goes in the same batch it may
+    Step::MakeBoth(Change::Put(SECOND), Change::Delete(FIRST)),
+    Step::Find(FIRST, false),
+    Step::Find(SECOND, true),
+    Step::Make(Change::Put(b"one")),
+    Step::Find(b"one", true),
+    Step::Compare(Change::Put(b"one"), true),
+    Step::Compare(Change::Delete(b"one"), false),
+    Step::Make(Change::Delete(b"one")),
+    Step::Find(b"one", false),
+    Step::Compare(Change::Delete(b"one"), true),
+    Step::Compare(Change::Put(b"one"), false),
+];
 
 fn plain() -> Namer<PlainRule, PlainRule> {
     Namer::new(PlainRule)
@@ -35,16 +81,28 @@ fn profile(alloc: Global) -> Profile
     }
 }
 
-fn put(alloc: Global, name: &[u8]) -> Result<Update, Memory>
+fn update(alloc: Global, change: Change) -> Result<Update, Memory>
     ensures { IfOk result (λ u. is_formed u ≡ true) }
 {
-    Ok(Update::Put {
-        key: key(alloc, name)?,
-        item: Item::Profile(profile(alloc)),
-    })
+    match change {
+        Change::Put(name) => Ok(Update::Put {
+            key: key(alloc, name)?,
+            item: Item::Profile(profile(alloc)),
+        }),
+        Change::Delete(name) => Ok(Update::Delete {
+            key: key(alloc, name)?,
+        }),
+    }
 }
 
-// Makes an update that clashes with nothing.
+fn both(alloc: Global, first: Change, second: Change) -> Result<Vec<Update>, Memory>
+    ensures { IfOk result (λ updates. list_all is_formed updates.items ≡ true) }
+{
+    let first = update(alloc, first)?;
+    let second = update(alloc, second)?;
+    Ok(vec![in alloc; first, second]?)
+}
+
 fn make(store: &mut Store, update: Update) -> Result<(), Fail>
     requires claims { KeepsClaims plain_digest store.old }
     requires formed { is_formed update ≡ true }
@@ -55,186 +113,91 @@ fn make(store: &mut Store, update: Update) -> Result<(), Fail>
     Ok(())
 }
 
-// By the plain rule two long names with one prefix have one chain.
-fn is_taken(fault: &CheckFault) -> bool {
-    match fault {
-        CheckFault::Taken { name, holder } => {
-            name.bytes() == b"cali-pri-_YWFhYWFhYWFhYWFhYW".as_slice()
-                && holder.bytes() == b"profile aaaaaaaaaaaaaaaaaaaa1".as_slice()
-        }
-        CheckFault::Memory => false,
-    }
-}
-
-fn profiles_clash(rt: &impl Abort, alloc: Global, store: &mut Store) -> Result<(), Fail>
-    requires { KeepsClaims plain_digest store.old }
-{
-    make(store, put(alloc, b"aaaaaaaaaaaaaaaaaaaa1")?)?;
-    let tried = put(alloc, b"aaaaaaaaaaaaaaaaaaaa2")?;
-    let answer = store.check(&tried, &plain());
-    assert!(rt; answer.is_err_and(|fault| is_taken(&fault)));
-    Ok(())
-}
-
-#[test]
-fn a_clash_tells_the_name_and_its_holder(rt: HostRuntime) -> Result<(), Fail> {
-    let mut store = Store::new(rt.alloc(), Text::new(rt.alloc(), b"here")?);
-    profiles_clash(&rt, rt.alloc(), &mut store)
-}
-
-// A policy that selects all, by its name.
-fn policy(alloc: Global, name: &[u8]) -> Result<Update, Fail>
-    ensures { IfOk result (λ u. is_formed u ≡ true) }
-{
-    let name = Text::new(alloc, name)?;
-    let item = Item::Policy(Policy {
-        tier: Text::new(alloc, b"default")?,
-        order: None,
-        selector: Selector::parse(alloc, b"all()")?,
-        on_ingress: true,
-        on_egress: true,
-        ingress: Seq::new(alloc),
-        egress: Seq::new(alloc),
-    });
-    let key = Key::Policy(PolicyId::Global { name });
-    Ok(Update::Put { key, item })
-}
-
-fn policy_is_taken(fault: &CheckFault) -> bool {
-    match fault {
-        CheckFault::Taken { name, holder } => {
-            name.bytes() == b"cali-pi-_Z25wL2FhYWFhYWFhYWF".as_slice()
-                && holder.bytes() == b"policy gnp/aaaaaaaaaaaaaaaaaaaa1".as_slice()
-        }
-        CheckFault::Memory => false,
-    }
-}
-
-fn policies_clash(rt: &impl Abort, alloc: Global, store: &mut Store) -> Result<(), Fail>
-    requires { KeepsClaims plain_digest store.old }
-{
-    make(store, policy(alloc, b"aaaaaaaaaaaaaaaaaaaa1")?)?;
-    let tried = policy(alloc, b"aaaaaaaaaaaaaaaaaaaa2")?;
-    let answer = store.check(&tried, &plain());
-    assert!(rt; answer.is_err_and(|fault| policy_is_taken(&fault)));
-    Ok(())
-}
-
-#[test]
-fn policies_claim_their_chains(rt: HostRuntime) -> Result<(), Fail> {
-    let mut store = Store::new(rt.alloc(), Text::new(rt.alloc(), b"here")?);
-    policies_clash(&rt, rt.alloc(), &mut store)
-}
-
-// Updates that are made together.
-fn pair(alloc: Global, first: Update, second: Update) -> Result<Vec<Update>, Memory>
-    requires first { is_formed first ≡ true }
-    requires second { is_formed second ≡ true }
-    ensures { IfOk result (λ updates. list_all is_formed updates.items ≡ true) }
-{
-    let mut updates = Vec::new(alloc);
-    updates.push(first)?;
-    updates.push(second)?;
-    Ok(updates)
-}
-
-// Makes updates that clash with nothing in the end.
-fn make_all(store: &mut Store, updates: &[Update]) -> Result<(), Fail>
+// Whether the updates are made by a delete and then a put.
+fn are_made(store: &mut Store, updates: &[Update]) -> Result<bool, Fail>
     requires claims { KeepsClaims plain_digest store.old }
     requires formed { list_all is_formed updates.now ≡ true }
     ensures { OnOk result (KeepsClaims plain_digest store.new) }
 {
+    let is_delete_first = {
+        let steps = store.steps(updates)?;
+        matches!(
+            steps.as_slice(),
+            [Update::Delete { .. }, Update::Put { .. }]
+        )
+    };
     store.check_all(updates, &plain())?;
     store.apply_all(updates, &plain())?;
-    Ok(())
+    Ok(is_delete_first)
 }
 
-fn delete(alloc: Global, name: &[u8]) -> Result<Update, Memory>
-    ensures { IfOk result (λ u. is_formed u ≡ true) }
-{
-    Ok(Update::Delete {
-        key: key(alloc, name)?,
-    })
+fn is_taken(told: &Result<(), CheckFault>) -> bool {
+    match told {
+        Err(CheckFault::Taken { name, holder }) => {
+            name.bytes() == b"cali-pri-_YWFhYWFhYWFhYWFhYW".as_slice()
+                && holder.bytes() == b"profile aaaaaaaaaaaaaaaaaaaa1".as_slice()
+        }
+        Ok(()) | Err(CheckFault::Memory) => false,
+    }
 }
 
-// One profile takes another's name in the kernel: alone it may not, and where the other goes in the same batch it may.
-fn changes_hands(rt: &impl Abort, alloc: Global, store: &mut Store) -> Result<(), Fail>
-    requires { KeepsClaims plain_digest store.old }
-{
-    make(store, put(alloc, b"aaaaaaaaaaaaaaaaaaaa1")?)?;
-    let tried = put(alloc, b"aaaaaaaaaaaaaaaaaaaa2")?;
-    assert!(rt;
-        store
-            .check(&tried, &plain())
-            .is_err_and(|fault| is_taken(&fault))
-    );
-    let batch = pair(alloc, tried, delete(alloc, b"aaaaaaaaaaaaaaaaaaaa1")?)?;
-    let steps = store.steps(&batch)?;
-    let mut walk = steps.iter();
-    assert!(rt; matches!(walk.next(), Some(Update::Delete { .. })));
-    assert!(rt; matches!(walk.next(), Some(Update::Put { .. })));
-    assert!(rt; walk.next().is_none());
-    make_all(store, &batch)?;
-    assert!(rt; store.get(&key(alloc, b"aaaaaaaaaaaaaaaaaaaa1")?).is_none());
-    assert!(rt; store.get(&key(alloc, b"aaaaaaaaaaaaaaaaaaaa2")?).is_some());
-    Ok(())
-}
-
-#[test]
-fn a_name_changes_hands_in_a_batch(rt: HostRuntime) -> Result<(), Fail> {
-    let mut store = Store::new(rt.alloc(), Text::new(rt.alloc(), b"here")?);
-    changes_hands(&rt, rt.alloc(), &mut store)
-}
-
-// Two new profiles of one batch want one name: the later is told the earlier.
-fn clash_together(rt: &impl Abort, alloc: Global, store: &Store) -> Result<(), Fail>
+fn is_refused(alloc: Global, store: &Store, change: Change) -> Result<bool, Memory>
     requires { KeepsClaims plain_digest store.now }
 {
-    let first = put(alloc, b"aaaaaaaaaaaaaaaaaaaa1")?;
-    let second = put(alloc, b"aaaaaaaaaaaaaaaaaaaa2")?;
-    let batch = pair(alloc, first, second)?;
-    let answer = store.check_all(&batch, &plain());
-    assert!(rt; answer.is_err_and(|fault| is_taken(&fault)));
-    Ok(())
+    let update = update(alloc, change)?;
+    Ok(is_taken(&store.check(&update, &plain())))
 }
 
-#[test]
-fn a_clash_within_a_batch_tells_the_earlier_holder(rt: HostRuntime) -> Result<(), Fail> {
-    let store = Store::new(rt.alloc(), Text::new(rt.alloc(), b"here")?);
-    clash_together(&rt, rt.alloc(), &store)
+fn are_refused(store: &Store, updates: &[Update]) -> bool
+    requires claims { KeepsClaims plain_digest store.now }
+    requires formed { list_all is_formed updates.now ≡ true }
+{
+    is_taken(&store.check_all(updates, &plain()))
 }
 
-fn comes_and_goes(rt: &impl Abort, alloc: Global, store: &mut Store) -> Result<(), Fail>
+fn is_found(alloc: Global, store: &Store, name: &[u8]) -> Result<bool, Memory> {
+    let key = key(alloc, name)?;
+    Ok(matches!(store.get(&key), Some(Found::Profile(_))))
+}
+
+fn changes_nothing(alloc: Global, store: &Store, change: Change) -> Result<bool, Memory> {
+    let update = update(alloc, change)?;
+    Ok(store.is_unchanged_by(&update))
+}
+
+// Whether all is as the step says.
+fn take(alloc: Global, store: &mut Store, step: Step) -> Result<bool, Fail>
+    requires { KeepsClaims plain_digest store.old }
+    ensures { OnOk result (KeepsClaims plain_digest store.new) }
+{
+    match step {
+        Step::Make(change) => {
+            make(store, update(alloc, change)?)?;
+            Ok(true)
+        }
+        Step::MakeBoth(first, second) => are_made(store, &both(alloc, first, second)?),
+        Step::Refuse(change) => Ok(is_refused(alloc, store, change)?),
+        Step::RefuseBoth(first, second) => Ok(are_refused(store, &both(alloc, first, second)?)),
+        Step::Find(name, wanted) => Ok(is_found(alloc, store, name)? == wanted),
+        Step::Compare(change, wanted) => Ok(changes_nothing(alloc, store, change)? == wanted),
+    }
+}
+
+// The first step, from 0, after which all isn't as it says.
+fn wrong_step(alloc: Global, store: &mut Store) -> Result<Option<usize>, Fail>
     requires { KeepsClaims plain_digest store.old }
 {
-    make(store, put(alloc, b"one")?)?;
-    let named = key(alloc, b"one")?;
-    assert!(rt; matches!(store.get(&named), Some(Found::Profile(_))));
-    let gone = key(alloc, b"one")?;
-    make(store, Update::Delete { key: gone })?;
-    assert!(rt; store.get(&named).is_none());
-    Ok(())
-}
-
-fn puts_the_same(rt: &impl Abort, alloc: Global, store: &mut Store) -> Result<(), Fail>
-    requires { KeepsClaims plain_digest store.old }
-{
-    make(store, put(alloc, b"one")?)?;
-    let again = put(alloc, b"one")?;
-    assert!(rt; store.is_unchanged_by(&again));
-    let gone = delete(alloc, b"one")?;
-    assert!(rt; !store.is_unchanged_by(&gone));
-    Ok(())
+    for (number, step) in STEPS.into_iter().enumerate() {
+        if !take(alloc, store, step)? {
+            return Ok(Some(number));
+        }
+    }
+    Ok(None)
 }
 
 #[test]
-fn a_record_that_is_put_again_changes_nothing(rt: HostRuntime) -> Result<(), Fail> {
+fn each_step_is_answered(rt: HostRuntime) -> Result<(), Fail> {
     let mut store = Store::new(rt.alloc(), Text::new(rt.alloc(), b"here")?);
-    puts_the_same(&rt, rt.alloc(), &mut store)
-}
-
-#[test]
-fn a_profile_is_found_until_it_is_deleted(rt: HostRuntime) -> Result<(), Fail> {
-    let mut store = Store::new(rt.alloc(), Text::new(rt.alloc(), b"here")?);
-    comes_and_goes(&rt, rt.alloc(), &mut store)
+    assert_eq!(rt; wrong_step(rt.alloc(), &mut store)?, None);
+    Ok(())
 }
