@@ -1,41 +1,89 @@
-//! A store and a graph that are given the same updates.
+//! A store and a graph that are given the same updates, and the view that the graph's messages make.
 ghost use Rattle.std.specs.Prelude.{◌≡◌, true, None, OnOk};
 ghost use Rattle.fx_names.specs.Digests.{plain_digest};
 ghost use Rattle.fx_model.specs.Claims.{clash};
 ghost use Rattle.fx_model.specs.Formed.{is_formed};
 ghost use Rattle.fx_graph_tests.specs.Benches.{AreAlike, StaysAlike};
 
-use fx_base::{Counter, Memory};
+use fx_base::{Counter, Memory, Text};
 use fx_graph::Graph;
 use fx_lines::{Command, read_command};
-use fx_model::{Message, Update, View};
-use fx_names::PlainRule;
+use fx_model::{Update, View};
+use fx_names::{Namer, PlainRule};
 use fx_store::Store;
-use fx_wanted::{next_message, pending_key_of, take_at, view_of};
+use fx_wanted::{pending_key_of, take_at, view_of};
 use std::alloc::Global;
-use std::test::Fail;
 
 /// The graph under the rule that gives texts with one prefix one digest.
-pub type PlainGraph = Graph<PlainRule, PlainRule>;
+type PlainGraph = Graph<PlainRule, PlainRule>;
 
-/// Gives both the update of a line, unless it clashes.
-pub fn give(
+/// No more messages than this are left at the end of a list.
+const MOST_LEFT: u8 = 100;
+
+/// Whether the messages for the node `n1` make the view of the resources, computed whole, once a list of updates is given and all
+/// are marked as sent, one of them behind each update.
+// One place lets go of all.
+pub fn tells_the_view(alloc: Global, list: &str) -> Result<bool, Memory> {
+    let node = Text::new(alloc, b"n1")?;
+    let graph_node = node.clone()?;
+    let mut store = Store::new(alloc, node);
+    let mut graph: PlainGraph = Graph::new(alloc, graph_node, Namer::new(PlainRule));
+    let mut told = View::new(alloc);
+    let tells = follow(alloc, list, &mut store, &mut graph, &mut told);
+    drop(graph);
+    drop(store);
+    drop(told);
+    tells
+}
+
+fn follow(
+    alloc: Global,
+    list: &str,
+    store: &mut Store,
+    graph: &mut PlainGraph,
+    told: &mut View,
+) -> Result<bool, Memory>
+    requires { AreAlike store.old graph.old.state }
+{
+    for line in list.trim().lines() {
+        step(alloc, line.as_bytes(), store, graph, told)?;
+    }
+    let wanted = view_of(alloc, store.resources(), graph.namer())?;
+    finish(graph, told, &wanted)
+}
+
+// Gives both the update of a line, and marks a message as sent.
+fn step(
     alloc: Global,
     line: &[u8],
     store: &mut Store,
     graph: &mut PlainGraph,
-) -> Result<(), Fail>
+    told: &mut View,
+) -> Result<(), Memory>
     requires { AreAlike store.old graph.old.state }
     ensures { OnOk result (AreAlike store.new graph.new.state) }
 {
-    let Command::Update(update) = read_command(alloc, line)? else {
-        return Ok(());
+    give(alloc, line, store, graph)?;
+    let wanted = view_of(alloc, store.resources(), graph.namer())?;
+    deliver(graph, told, &wanted)?;
+    Ok(())
+}
+
+// Gives both the update of a line, unless it clashes.
+fn give(alloc: Global, line: &[u8], store: &mut Store, graph: &mut PlainGraph) -> Result<(), Memory>
+    requires { AreAlike store.old graph.old.state }
+    ensures { OnOk result (AreAlike store.new graph.new.state) }
+{
+    let Ok(command) = read_command(alloc, line) else {
+        return Err(Memory);
+    };
+    let Command::Update(update) = command else {
+        return Err(Memory);
     };
     if store.check(&update, graph.namer()).is_err() {
         return Ok(());
     }
-    take(update, store, graph)?;
-    Ok(())
+    take(update, store, graph)
 }
 
 fn take(update: Update, store: &mut Store, graph: &mut PlainGraph) -> Result<(), Memory>
@@ -49,8 +97,8 @@ fn take(update: Update, store: &mut Store, graph: &mut PlainGraph) -> Result<(),
     Ok(())
 }
 
-/// Marks the next message as sent, if there is one. At its key the view that was told is then as the wanted one.
-pub fn deliver(graph: &mut PlainGraph, told: &mut View, wanted: &View) -> Result<(), Memory>
+// Marks the next message as sent, if there is one. At its key the view that was told is then as the wanted one.
+fn deliver(graph: &mut PlainGraph, told: &mut View, wanted: &View) -> Result<(), Memory>
     ensures { OnOk result (StaysAlike graph.old.state graph.new.state) }
 {
     let Some(message) = graph.peek() else {
@@ -62,27 +110,10 @@ pub fn deliver(graph: &mut PlainGraph, told: &mut View, wanted: &View) -> Result
     Ok(())
 }
 
-/// Whether the next message tells of the key that comes first by the two views.
-pub fn tells_the_next(graph: &PlainGraph, told: &View, wanted: &View) -> Result<bool, Memory> {
-    match (graph.peek(), next_message(told, wanted)) {
-        (Some(message), Some(other)) => {
-            let by_graph = taken(told, wanted, &message)?;
-            let by_views = taken(told, wanted, &other)?;
-            Ok(by_graph == by_views)
-        }
-        (None, None) => Ok(true),
-        _ => Ok(false),
+// Whether the messages that are left make the wanted view.
+fn finish(graph: &mut PlainGraph, told: &mut View, wanted: &View) -> Result<bool, Memory> {
+    for _ in 0..MOST_LEFT {
+        deliver(graph, told, wanted)?;
     }
-}
-
-// The view that was told, after this message.
-fn taken(told: &View, wanted: &View, message: &Message<'_>) -> Result<View, Memory> {
-    let mut view = told.clone()?;
-    take_at(&mut view, wanted, pending_key_of(message)?)?;
-    Ok(view)
-}
-
-/// The view of the resources, computed whole.
-pub fn wanted_view(alloc: Global, store: &Store, graph: &PlainGraph) -> Result<View, Memory> {
-    view_of(alloc, store.resources(), graph.namer())
+    Ok(graph.peek().is_none() && *told == *wanted)
 }

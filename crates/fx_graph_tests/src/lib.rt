@@ -1,5 +1,4 @@
-//! The tests of `fx_graph`: after each update of a stored list the next message is the one towards the view of the
-//! resources, computed whole.
+//! The tests of `fx_graph`: the messages for stored lists of updates make the view of the resources, computed whole.
 #![tactic(auto)]
 
 #[cfg(test)]

@@ -1,5 +1,0 @@
-use Rattle.fx_graph_tests.specs.Benches.{AreAlike}
-use Rattle.fx_graph_tests.proofs.tests.follow.Given as goal
-
-abbrev pub invariant-loop-line : goal.invariant-loop-line
-invariant-loop-line g l = AreAlike l.store l.graph.state
