@@ -3,10 +3,14 @@
 //! The rows of a subject stand in `data/SUBJECT.rows`: a call, the text that it reads and what it answers.
 #![tactic(auto)]
 
+mod dispatch;
+mod found;
 mod hosts;
+mod joined;
 mod lines;
 mod resources;
 mod rules;
+mod selectors;
 mod spread;
 mod told;
 
@@ -21,13 +25,19 @@ enum Subject {
     Resources,
     Lines,
     Hosts,
+    Selectors,
+    Dispatch,
+    Found,
 }
 
 // The file and the subject of each.
-const SUBJECTS: [(&str, Subject); 3] = [
+const SUBJECTS: [(&str, Subject); 6] = [
     ("resources", Subject::Resources),
     ("lines", Subject::Lines),
     ("hosts", Subject::Hosts),
+    ("selectors", Subject::Selectors),
+    ("dispatch", Subject::Dispatch),
+    ("found", Subject::Found),
 ];
 
 fn main(rt: HostRuntime) -> io::Result<()> {
@@ -105,5 +115,8 @@ fn answer(alloc: Global, subject: Subject, call: &str, text: &str) -> Result<Str
         Subject::Resources => resources::answer(alloc, call, text.as_str()),
         Subject::Lines => lines::answer(alloc, call, text.as_str()),
         Subject::Hosts => hosts::answer(alloc, call, text.as_str()),
+        Subject::Selectors => selectors::answer(alloc, call, text.as_str()),
+        Subject::Dispatch => dispatch::answer(alloc, call, text.as_str()),
+        Subject::Found => found::answer(alloc, call, text.as_str()),
     }
 }
