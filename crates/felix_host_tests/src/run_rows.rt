@@ -457,4 +457,53 @@ pub const RUNS: &str = r#"
 < write cali-to-host-endpoint 1
 < applied 4
 < applied 0
+= profiles stand behind failsafe ports in the chain of a host endpoint
+> {"put":{"apiVersion":"projectcalico.org/v3","kind":"Profile","metadata":{"name":"open"},"spec":{"ingress":[{"action":"Allow"}],"egress":[{"action":"Allow"}]}}}
+> {"put":{"apiVersion":"projectcalico.org/v3","kind":"HostEndpoint","metadata":{"name":"h1"},"spec":{"node":"n1","interfaceName":"eth0","profiles":["open"]}}}
+> {"inSync":true}
+> {"flush":{}}
+> {"tables":true}
+< write cali-pri-open 2
+< write cali-pro-open 2
+< write cali-fh-eth0 7
+< write cali-th-eth0 7
+< write cali-from-host-endpoint 1
+< write cali-to-host-endpoint 1
+< applied 6
+< *filter
+< :cali-INPUT - [0:0]
+< :cali-OUTPUT - [0:0]
+< :cali-failsafe-in - [0:0]
+< :cali-failsafe-out - [0:0]
+< :cali-fh-eth0 - [0:0]
+< :cali-from-host-endpoint - [0:0]
+< :cali-pri-open - [0:0]
+< :cali-pro-open - [0:0]
+< :cali-th-eth0 - [0:0]
+< :cali-to-host-endpoint - [0:0]
+< -A cali-INPUT -j MARK --set-xmark 0x0/0xf0000
+< -A cali-INPUT -j cali-from-host-endpoint
+< -A cali-OUTPUT -j MARK --set-xmark 0x0/0xf0000
+< -A cali-OUTPUT -j cali-to-host-endpoint
+< -A cali-fh-eth0 -m conntrack --ctstate RELATED,ESTABLISHED -j ACCEPT
+< -A cali-fh-eth0 -m conntrack --ctstate INVALID -j DROP
+< -A cali-fh-eth0 -j cali-failsafe-in
+< -A cali-fh-eth0 -j MARK --set-xmark 0x0/0x10000
+< -A cali-fh-eth0 -j cali-pri-open
+< -A cali-fh-eth0 -m mark --mark 0x10000/0x10000 -j RETURN
+< -A cali-fh-eth0 -j DROP
+< -A cali-from-host-endpoint -i eth0 -g cali-fh-eth0
+< -A cali-pri-open -j MARK --set-xmark 0x10000/0x10000
+< -A cali-pri-open -m mark --mark 0x10000/0x10000 -j RETURN
+< -A cali-pro-open -j MARK --set-xmark 0x10000/0x10000
+< -A cali-pro-open -m mark --mark 0x10000/0x10000 -j RETURN
+< -A cali-th-eth0 -m conntrack --ctstate RELATED,ESTABLISHED -j ACCEPT
+< -A cali-th-eth0 -m conntrack --ctstate INVALID -j DROP
+< -A cali-th-eth0 -j cali-failsafe-out
+< -A cali-th-eth0 -j MARK --set-xmark 0x0/0x10000
+< -A cali-th-eth0 -j cali-pro-open
+< -A cali-th-eth0 -m mark --mark 0x10000/0x10000 -j RETURN
+< -A cali-th-eth0 -j DROP
+< -A cali-to-host-endpoint -o eth0 -g cali-th-eth0
+< COMMIT
 "#;

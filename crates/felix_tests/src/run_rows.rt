@@ -490,4 +490,140 @@ pub const RUNS: &str = r#"
 > {"put":{"apiVersion":"projectcalico.org/v3","kind":"GlobalNetworkPolicy","metadata":{"name":"x"},"spec":{"selector":"!!!!!!!!!!!!!!!!!!!!!!!!!!!!!!!!!!!!!!!!!!!!!!!!!!!!!!!!!!!!!!!!!all()"}}}
 > {"put":{"apiVersion":"projectcalico.org/v3","kind":"GlobalNetworkPolicy","metadata":{"name":"x"},"spec":{"selector":"!!!!!!!!!!!!!!!!!!!!!!!!!!!!!!!!!!!!!!!!!!!!!!!!!!!!!!!!!!!!!!!!all()"}}}
 < refused 1 4 BadSelector spec.selector 64
+= tiers stand before profiles in the chain of an endpoint, and in a profile stand rules with blocks
+> {"put":{"apiVersion":"projectcalico.org/v3","kind":"Tier","metadata":{"name":"first"},"spec":{"order":1}}}
+> {"put":{"apiVersion":"projectcalico.org/v3","kind":"Tier","metadata":{"name":"second"},"spec":{"order":2}}}
+> {"put":{"apiVersion":"projectcalico.org/v3","kind":"GlobalNetworkPolicy","metadata":{"name":"a"},"spec":{"tier":"first","order":1,"selector":"role == 'a'"}}}
+> {"put":{"apiVersion":"projectcalico.org/v3","kind":"GlobalNetworkPolicy","metadata":{"name":"b"},"spec":{"tier":"first","order":2,"selector":"role == 'a'"}}}
+> {"put":{"apiVersion":"projectcalico.org/v3","kind":"NetworkPolicy","metadata":{"name":"c","namespace":"x"},"spec":{"tier":"second","selector":"role == 'a'"}}}
+> {"put":{"apiVersion":"projectcalico.org/v3","kind":"Profile","metadata":{"name":"open"},"spec":{"ingress":[{"action":"Deny","protocol":"TCP","source":{"nets":["10.1.0.0/16","10.2.0.0/16"]},"destination":{"nets":["10.3.0.0/16"],"notNets":["10.4.0.0/16"],"ports":[1,2,3,4,5,6,7,8,9,10,11,12,13,14,15,16]}}],"egress":[{"action":"Allow","protocol":"TCP","source":{"nets":["fd00::/8"]}},{"action":"Log","protocol":"TCP"}]}}}
+> {"put":{"apiVersion":"projectcalico.org/v3","kind":"WorkloadEndpoint","metadata":{"name":"w","namespace":"x","labels":{"role":"a"}},"spec":{"node":"n1","interfaceName":"cali1","ipNetworks":["10.0.0.1/32"],"profiles":["open"]}}}
+> {"put":{"apiVersion":"projectcalico.org/v3","kind":"WorkloadEndpoint","metadata":{"name":"v","namespace":"x"},"spec":{"node":"n1","interfaceName":"cali2","ipNetworks":["10.0.0.2/32"],"profiles":["gone"]}}}
+> {"inSync":true}
+> {"flush":{}}
+> {"tables":true}
+< policy gnp/a gnp/a in 0 out 0
+< policy gnp/b gnp/b in 0 out 0
+< policy np/x/c np/x/c in 0 out 0
+< profile gone gone missing
+< profile open open in 1 out 2
+< endpoint cali1 x/w in first(gnp/a,gnp/b);second(np/x/c) out - profiles open
+< endpoint cali2 x/v in - out - profiles gone
+< flushed 7
+< *filter
+< :cali-FORWARD - [0:0]
+< :cali-from-wl-dispatch - [0:0]
+< :cali-fw-cali1 - [0:0]
+< :cali-fw-cali2 - [0:0]
+< :cali-pi-gnp/a - [0:0]
+< :cali-pi-gnp/b - [0:0]
+< :cali-pi-np/x/c - [0:0]
+< :cali-po-gnp/a - [0:0]
+< :cali-po-gnp/b - [0:0]
+< :cali-po-np/x/c - [0:0]
+< :cali-pri-gone - [0:0]
+< :cali-pri-open - [0:0]
+< :cali-pro-gone - [0:0]
+< :cali-pro-open - [0:0]
+< :cali-to-wl-dispatch - [0:0]
+< :cali-tw-cali1 - [0:0]
+< :cali-tw-cali2 - [0:0]
+< -A cali-FORWARD -j MARK --set-xmark 0x0/0xf0000
+< -A cali-FORWARD -i cali+ -j cali-from-wl-dispatch
+< -A cali-FORWARD -o cali+ -j cali-to-wl-dispatch
+< -A cali-from-wl-dispatch -i cali1 -g cali-fw-cali1
+< -A cali-from-wl-dispatch -i cali2 -g cali-fw-cali2
+< -A cali-from-wl-dispatch -j DROP
+< -A cali-fw-cali1 -m conntrack --ctstate RELATED,ESTABLISHED -j ACCEPT
+< -A cali-fw-cali1 -m conntrack --ctstate INVALID -j DROP
+< -A cali-fw-cali1 -j MARK --set-xmark 0x0/0x10000
+< -A cali-fw-cali1 -j cali-pro-open
+< -A cali-fw-cali1 -m mark --mark 0x10000/0x10000 -j RETURN
+< -A cali-fw-cali1 -j DROP
+< -A cali-fw-cali2 -m conntrack --ctstate RELATED,ESTABLISHED -j ACCEPT
+< -A cali-fw-cali2 -m conntrack --ctstate INVALID -j DROP
+< -A cali-fw-cali2 -j MARK --set-xmark 0x0/0x10000
+< -A cali-fw-cali2 -j cali-pro-gone
+< -A cali-fw-cali2 -m mark --mark 0x10000/0x10000 -j RETURN
+< -A cali-fw-cali2 -j DROP
+< -A cali-pri-gone -j DROP
+< -A cali-pri-open -j MARK --set-xmark 0x40000/0x40000
+< -A cali-pri-open -j MARK --set-xmark 0x0/0x80000
+< -A cali-pri-open -s 10.1.0.0/16 -j MARK --set-xmark 0x80000/0x80000
+< -A cali-pri-open -s 10.2.0.0/16 -j MARK --set-xmark 0x80000/0x80000
+< -A cali-pri-open -m mark --mark 0x0/0x80000 -j MARK --set-xmark 0x0/0x40000
+< -A cali-pri-open -j MARK --set-xmark 0x0/0x80000
+< -A cali-pri-open -p tcp -m multiport --dports 1,2,3,4,5,6,7,8,9,10,11,12,13,14,15 -j MARK --set-xmark 0x80000/0x80000
+< -A cali-pri-open -p tcp -m multiport --dports 16 -j MARK --set-xmark 0x80000/0x80000
+< -A cali-pri-open -m mark --mark 0x0/0x80000 -j MARK --set-xmark 0x0/0x40000
+< -A cali-pri-open -d 10.4.0.0/16 -j MARK --set-xmark 0x0/0x40000
+< -A cali-pri-open -p tcp -d 10.3.0.0/16 -m mark --mark 0x40000/0x40000 -j DROP
+< -A cali-pro-gone -j DROP
+< -A cali-pro-open -p tcp -j LOG
+< -A cali-to-wl-dispatch -o cali1 -g cali-tw-cali1
+< -A cali-to-wl-dispatch -o cali2 -g cali-tw-cali2
+< -A cali-to-wl-dispatch -j DROP
+< -A cali-tw-cali1 -m conntrack --ctstate RELATED,ESTABLISHED -j ACCEPT
+< -A cali-tw-cali1 -m conntrack --ctstate INVALID -j DROP
+< -A cali-tw-cali1 -j MARK --set-xmark 0x0/0x10000
+< -A cali-tw-cali1 -j MARK --set-xmark 0x0/0x20000
+< -A cali-tw-cali1 -m mark --mark 0x0/0x20000 -j cali-pi-gnp/a
+< -A cali-tw-cali1 -m mark --mark 0x10000/0x10000 -j RETURN
+< -A cali-tw-cali1 -m mark --mark 0x0/0x20000 -j cali-pi-gnp/b
+< -A cali-tw-cali1 -m mark --mark 0x10000/0x10000 -j RETURN
+< -A cali-tw-cali1 -m mark --mark 0x0/0x20000 -j DROP
+< -A cali-tw-cali1 -j MARK --set-xmark 0x0/0x20000
+< -A cali-tw-cali1 -m mark --mark 0x0/0x20000 -j cali-pi-np/x/c
+< -A cali-tw-cali1 -m mark --mark 0x10000/0x10000 -j RETURN
+< -A cali-tw-cali1 -m mark --mark 0x0/0x20000 -j DROP
+< -A cali-tw-cali1 -j cali-pri-open
+< -A cali-tw-cali1 -m mark --mark 0x10000/0x10000 -j RETURN
+< -A cali-tw-cali1 -j DROP
+< -A cali-tw-cali2 -m conntrack --ctstate RELATED,ESTABLISHED -j ACCEPT
+< -A cali-tw-cali2 -m conntrack --ctstate INVALID -j DROP
+< -A cali-tw-cali2 -j MARK --set-xmark 0x0/0x10000
+< -A cali-tw-cali2 -j cali-pri-gone
+< -A cali-tw-cali2 -m mark --mark 0x10000/0x10000 -j RETURN
+< -A cali-tw-cali2 -j DROP
+< COMMIT
+= what is sent of each kind, and a set whose members change both ways
+> {"put":{"apiVersion":"projectcalico.org/v3","kind":"Tier","metadata":{"name":"t1"},"spec":{"order":1}}}
+> {"put":{"apiVersion":"projectcalico.org/v3","kind":"Tier","metadata":{"name":"aa"},"spec":{"order":2,"defaultAction":"Pass"}}}
+> {"put":{"apiVersion":"projectcalico.org/v3","kind":"GlobalNetworkPolicy","metadata":{"name":"a"},"spec":{"tier":"t1","order":1,"selector":"role == 'a'","ingress":[{"action":"Allow","source":{"selector":"role == 'b'"}}]}}}
+> {"put":{"apiVersion":"projectcalico.org/v3","kind":"GlobalNetworkPolicy","metadata":{"name":"b"},"spec":{"tier":"t1","order":2,"selector":"role == 'a'"}}}
+> {"put":{"apiVersion":"projectcalico.org/v3","kind":"GlobalNetworkPolicy","metadata":{"name":"d"},"spec":{"tier":"aa","selector":"role == 'a'","ingress":[{"action":"Allow","protocol":"SCTP","destination":{"ports":["pg"]}}]}}}
+> {"put":{"apiVersion":"projectcalico.org/v3","kind":"GlobalNetworkPolicy","metadata":{"name":"g"},"spec":{"order":1,"selector":"role == 'b'","ingress":[{"action":"Allow","protocol":"TCP","destination":{"ports":[80]}},{"action":"Allow","protocol":"UDP","destination":{"ports":[53]}}],"egress":[{"action":"Deny","protocol":"TCP","destination":{"ports":[1]}},{"action":"Deny","protocol":"TCP","destination":{"ports":[2]}},{"action":"Deny","protocol":"TCP","destination":{"ports":[3]}},{"action":"Deny","protocol":"TCP","destination":{"ports":[4]}},{"action":"Deny","protocol":"TCP","destination":{"ports":[5]}},{"action":"Deny","protocol":"TCP","destination":{"ports":[6]}},{"action":"Deny","protocol":"TCP","destination":{"ports":[7]}},{"action":"Deny","protocol":"TCP","destination":{"ports":[8]}},{"action":"Deny","protocol":"TCP","destination":{"ports":[9]}},{"action":"Deny","protocol":"TCP","destination":{"ports":[10]}},{"action":"Allow"}]}}}
+> {"put":{"apiVersion":"projectcalico.org/v3","kind":"NetworkPolicy","metadata":{"name":"p","namespace":"a"},"spec":{"order":2,"selector":"role == 'b'","ingress":[{"action":"Allow","protocol":"TCP","destination":{"ports":[80]}},{"action":"Allow","protocol":"UDP","destination":{"ports":[53]}}],"egress":[{"action":"Deny"}]}}}
+> {"put":{"apiVersion":"networking.k8s.io/v1","kind":"NetworkPolicy","metadata":{"name":"p","namespace":"a"},"spec":{"podSelector":{},"policyTypes":["Ingress","Egress"],"ingress":[{"ports":[{"port":80},{"protocol":"UDP","port":53}]}],"egress":[{"ports":[{"port":443}]}]}}}
+> {"put":{"apiVersion":"projectcalico.org/v3","kind":"Profile","metadata":{"name":"open"},"spec":{"egress":[{"action":"Allow"},{"action":"Allow"},{"action":"Allow"},{"action":"Allow"},{"action":"Allow"},{"action":"Allow"},{"action":"Allow"},{"action":"Allow"},{"action":"Allow"},{"action":"Allow"},{"action":"Allow"},{"action":"Allow"}]}}}
+> {"put":{"apiVersion":"projectcalico.org/v3","kind":"WorkloadEndpoint","metadata":{"name":"w1","namespace":"a","labels":{"role":"a"}},"spec":{"node":"n1","interfaceName":"cali1","ipNetworks":["10.0.0.3/32"],"profiles":["open","shut"]}}}
+> {"put":{"apiVersion":"projectcalico.org/v3","kind":"WorkloadEndpoint","metadata":{"name":"w2","namespace":"a","labels":{"role":"b"}},"spec":{"node":"n1","orchestrator":"k8s","interfaceName":"cali2","ipNetworks":["10.0.0.2/32"],"ports":[{"name":"pg","protocol":"SCTP","port":9}]}}}
+> {"put":{"apiVersion":"projectcalico.org/v3","kind":"GlobalNetworkSet","metadata":{"name":"s","labels":{"role":"b"}},"spec":{"nets":["255.254.1.2/32"]}}}
+> {"inSync":true}
+> {"flush":{}}
+> {"packet":{"in":"cali2","out":"eth0","src":"10.0.0.2","dst":"192.0.2.1","proto":"TCP","sport":40000,"dport":443}}
+> {"put":{"apiVersion":"projectcalico.org/v3","kind":"GlobalNetworkSet","metadata":{"name":"s","labels":{"role":"b"}},"spec":{"nets":["10.0.0.1/32"]}}}
+> {"flush":{}}
+> {"put":{"apiVersion":"projectcalico.org/v3","kind":"GlobalNetworkSet","metadata":{"name":"s","labels":{"role":"b"}},"spec":{"nets":["255.254.1.2/32"]}}}
+> {"flush":{}}
+< set-add cali40n:c2N0cCxwZyxhbGwoKQAAAAA hash:ip,port 10.0.0.2,sctp:9
+< set-add cali40s:cm9sZSA9PSAiYiIAAAAAAAA hash:net 10.0.0.2/32 255.254.1.2/32
+< policy gnp/a gnp/a in 1 out 0
+< policy gnp/b gnp/b in 0 out 0
+< policy gnp/d gnp/d in 1 out 0
+< policy gnp/g gnp/g in 2 out 11
+< policy knp/a/p knp/a/p in 2 out 1
+< policy np/a/p np/a/p in 2 out 1
+< profile open open in 0 out 12
+< profile shut shut missing
+< endpoint cali1 a/w1 in t1(gnp/a,gnp/b);aa/pass(gnp/d) out - profiles open,shut
+< endpoint cali2 a/w2 in default(gnp/g,np/a/p,knp/a/p) out default(gnp/g,np/a/p,knp/a/p) profiles -
+< flushed 12
+< path cali-FORWARD:2 cali-from-wl-dispatch:2 cali-fw-cali2:5 cali-po-gnp/g:11
+< egress cali2 policy gnp/g 11
+< verdict allow
+< set-delta cali40s:cm9sZSA9PSAiYiIAAAAAAAA +10.0.0.1/32 -255.254.1.2/32
+< flushed 1
+< set-delta cali40s:cm9sZSA9PSAiYiIAAAAAAAA +255.254.1.2/32 -10.0.0.1/32
+< flushed 1
 "#;

@@ -1,9 +1,5 @@
-//! The tests of `fx_lines`: lines, and what they say.
+//! The tests of `fx_lines`: how a source is cut into lines. What lines say is told by rows of the program `rows`.
 #![tactic(auto)]
 
-#[cfg(test)]
-mod batches;
-#[cfg(test)]
-mod commands;
 #[cfg(test)]
 mod lines;

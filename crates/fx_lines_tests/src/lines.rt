@@ -23,19 +23,25 @@ fn barred(alloc: Global, input: &[u8], piece: u32) -> Result<Vec<u8>, Fail>
     Ok(found)
 }
 
+// Whether a source that gives so many bytes at a time is cut so.
+fn is_cut(alloc: Global, input: &[u8], piece: u32, want: &[u8]) -> Result<bool, Fail>
+    requires { 0 < piece }
+{
+    Ok(barred(alloc, input, piece)?.as_slice() == want)
+}
+
+const CUT: [(&[u8], &[u8]); 4] = [
+    (b"", b""),
+    (b"\n", b"|"),
+    (b"a\n", b"a|"),
+    (b"ab\r\n\n\ncde", b"ab\r|||cde|"),
+];
+
 #[test]
 fn lines_are_cut_whatever_the_pieces(rt: HostRuntime) -> Result<(), Fail> {
-    let alloc = rt.alloc();
-    let inputs: [(&[u8], &[u8]); 4] = [
-        (b"", b""),
-        (b"\n", b"|"),
-        (b"a\n", b"a|"),
-        (b"ab\r\n\n\ncde", b"ab\r|||cde|"),
-    ];
-    for (input, want) in inputs {
+    for (input, want) in CUT {
         for piece in [1, 2, 3, 4096] {
-            let found = barred(alloc, input, piece)?;
-            assert_eq!(rt; found.as_slice(), want, "{input:?} by {piece}");
+            assert!(rt; is_cut(rt.alloc(), input, piece, want)?);
         }
     }
     Ok(())
@@ -52,24 +58,31 @@ fn past_a_fault<S: Source>(reader: &mut LineReader, source: &mut S) -> Result<bo
     }
 }
 
-#[test]
-fn a_reader_goes_on_behind_a_fault(rt: HostRuntime) -> Result<(), Fail> {
-    let alloc = rt.alloc();
+// Whether the first line is read behind a read that fails.
+fn goes_on(alloc: Global) -> Result<bool, Fail> {
     let mut source = MemSource::new(b"ab\nc".to_vec(alloc)?, 2, vec![in alloc; 2]?);
     let mut reader = LineReader::new(alloc);
-    assert_eq!(rt; past_a_fault(&mut reader, &mut source), Ok(true));
-    assert_eq!(rt; reader.line(), b"ab".as_slice());
-    assert_eq!(rt; reader.taken, 4);
+    let answer = past_a_fault(&mut reader, &mut source);
+    Ok(answer == Ok(true) && reader.line() == b"ab".as_slice() && reader.taken == 4)
+}
+
+#[test]
+fn a_reader_goes_on_behind_a_fault(rt: HostRuntime) -> Result<(), Fail> {
+    assert!(rt; goes_on(rt.alloc())?);
     Ok(())
+}
+
+// Whether a read that fails behind the first line is told.
+fn tells_a_fault(alloc: Global) -> Result<bool, Fail> {
+    let mut source = MemSource::new(b"a\nb\nc".to_vec(alloc)?, 3, vec![in alloc; 2]?);
+    let mut reader = LineReader::new(alloc);
+    let first = reader.advance(&mut source);
+    let is_first = first == Ok(true) && reader.line() == b"a".as_slice();
+    Ok(is_first && reader.advance(&mut source) == Err(LineFault::ReadFault))
 }
 
 #[test]
 fn a_failing_read_is_told(rt: HostRuntime) -> Result<(), Fail> {
-    let alloc = rt.alloc();
-    let mut source = MemSource::new(b"a\nb\nc".to_vec(alloc)?, 3, vec![in alloc; 2]?);
-    let mut reader = LineReader::new(alloc);
-    assert_eq!(rt; reader.advance(&mut source), Ok(true));
-    assert_eq!(rt; reader.line(), b"a".as_slice());
-    assert_eq!(rt; reader.advance(&mut source), Err(LineFault::ReadFault));
+    assert!(rt; tells_a_fault(rt.alloc())?);
     Ok(())
 }

@@ -1,5 +1,0 @@
-//! The tests of `fx_hostep`.
-#![tactic(auto)]
-
-#[cfg(test)]
-mod tests;
