@@ -5,13 +5,14 @@
 //! `NAME.rows`.
 #![tactic(auto)]
 
-mod faults;
+mod failing;
+mod lines;
 mod rows;
 mod running;
 
 use felix_replay::Status;
 use fx_base::Memory;
-use rows::{Form, Tally, tally};
+use rows::{Form, Tally, count_rows};
 use running::{NO_FAULTS, NODE, Program, Rule, Setting, answered};
 use std::rt::Files;
 use std::{fs, io};
@@ -48,7 +49,7 @@ const EXAMPLES: [(&str, Program, &str); 27] = [
 ];
 
 // The name of each file of rows, and what they are.
-const ROWS: [(&str, Form); 16] = [
+const FILES: [(&str, Form); 16] = [
     ("runs", Form::Runs(Program::Replay, Rule::Plain)),
     ("endpoints", Form::Runs(Program::Replay, Rule::Plain)),
     ("flushes", Form::Runs(Program::Replay, Rule::Plain)),
@@ -113,7 +114,7 @@ fn judged(status: Status, is_stored: bool) -> &'static str {
 }
 
 fn tell_rows<R: Files + Print + AllocGlobal>(rt: &R) -> io::Result<()> {
-    for (name, form) in ROWS {
+    for (name, form) in FILES {
         let rows = data_file(rt, name, ".rows")?;
         match str::from_utf8(rows.as_slice()) {
             Ok(rows) => tell_file(rt, name, form, rows)?,
@@ -124,7 +125,7 @@ fn tell_rows<R: Files + Print + AllocGlobal>(rt: &R) -> io::Result<()> {
 }
 
 fn tell_file<R: Print + AllocGlobal>(rt: &R, name: &str, form: Form, rows: &str) -> io::Result<()> {
-    match tally(rt.alloc(), form, rows) {
+    match count_rows(rt.alloc(), form, rows) {
         Ok(Tally::Stored(count)) => println!(rt; "{name}.rows: {count} as stored"),
         Ok(Tally::Otherwise(count, row)) => {
             println!(rt; "{name}.rows: {count} is answered otherwise: {row}")

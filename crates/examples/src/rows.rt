@@ -1,6 +1,7 @@
 //! Rows of the files of `data/` whose names end in `.rows`.
-use crate::faults::wrong_fault;
-use crate::running::{NO_FAULTS, NODE, Program, Rule, Setting, answered};
+use crate::failing::wrong_fault;
+use crate::lines::{input_of, push_lines};
+use crate::running::{NO_FAULTS, NODE, Program, Rule, Setting, answered, name_of, setting_of};
 use felix_replay::Status;
 use fx_base::Memory;
 use std::alloc::Global;
@@ -36,8 +37,8 @@ pub enum Tally<'a> {
 }
 
 /// Goes through the rows of a file.
-pub fn tally<'a>(alloc: Global, form: Form, rows: &'a str) -> Result<Tally<'a>, Memory> {
-    let head = rows.split("\n= ").next().unwrap_or("");
+pub fn count_rows<'a>(alloc: Global, form: Form, rows: &'a str) -> Result<Tally<'a>, Memory> {
+    let (head, _) = rows.split_once("\n= ").unwrap_or((rows, ""));
     let mut count: usize = 0;
     for row in rows.split(form.separator()) {
         if row.is_empty() || row.starts_with('#') {
@@ -72,7 +73,8 @@ fn wrong_part<'a>(
         Form::Lines => is_line_answered(alloc, row)?,
         Form::Words => is_command_answered(alloc, row)?,
     };
-    Ok(if is_stored { None } else { row.lines().next() })
+    let (title, _) = row.split_once('\n').unwrap_or((row, ""));
+    Ok(if is_stored { None } else { Some(title) })
 }
 
 // Whether a run writes what is stored, and refuses lines only where that says so.
@@ -106,48 +108,6 @@ fn status_where(some_are_refused: bool) -> Status {
     }
 }
 
-// The lines that go in: the rows that were found, those of the head and those of the run.
-fn input_of(alloc: Global, head: &str, run: &str) -> Result<Vec<u8>, Memory> {
-    let mut input = Vec::new(alloc);
-    push_found(&mut input, run)?;
-    push_lines(&mut input, head, "> ", usize::MAX)?;
-    push_lines(&mut input, run, "> ", usize::MAX)?;
-    Ok(input)
-}
-
-// The line with the rows of a run, if it has some.
-fn push_found(line: &mut Vec<u8>, run: &str) -> Result<(), Memory> {
-    for row in run.lines() {
-        if let Some(text) = row.strip_prefix("| ") {
-            line.extend_from_slice(if line.is_empty() {
-                b"{\"found\":[\"".as_slice()
-            } else {
-                b"\",\"".as_slice()
-            })?;
-            line.extend_from_slice(text.as_bytes())?;
-        }
-    }
-    if !line.is_empty() {
-        line.extend_from_slice(b"\"]}\n")?;
-    }
-    Ok(())
-}
-
-/// The lines of a run that begin so, so many at most, without what they begin with.
-pub fn push_lines(lines: &mut Vec<u8>, run: &str, mark: &str, most: usize) -> Result<(), Memory> {
-    let mut count: usize = 0;
-    for line in run.lines() {
-        if let Some(text) = line.strip_prefix(mark)
-            && count < most
-        {
-            lines.extend_from_slice(text.as_bytes())?;
-            lines.push(b'\n')?;
-            count = count.saturating_add(1);
-        }
-    }
-    Ok(())
-}
-
 // Whether a replay of the row's line alone writes its refusal, or nothing if the row has none.
 fn is_line_answered(alloc: Global, row: &str) -> Result<bool, Memory> {
     let (line, refusal) = row.split_once(" => ").unwrap_or((row, ""));
@@ -178,30 +138,5 @@ fn is_line(written: &[u8], line: &str) -> bool {
     match written.strip_suffix(b"\n".as_slice()) {
         Some(text) => text == line.as_bytes(),
         None => written.is_empty() && line.is_empty(),
-    }
-}
-
-/// The run that a program's name and its words ask for, under the rule by which texts with one prefix have one digest.
-pub fn setting_of(command: &str) -> Option<Setting<'_>> {
-    let (name, words) = command.split_once(' ').unwrap_or((command, ""));
-    let program = Program::named(name)?;
-    Some(Setting {
-        program,
-        rule: Rule::Plain,
-        words,
-        faults: NO_FAULTS,
-    })
-}
-
-/// How a run ended.
-pub fn name_of(status: Status) -> &'static str {
-    match status {
-        Status::Done => "Done",
-        Status::Refused => "Refused",
-        Status::Usage => "Usage",
-        Status::ReadFault => "ReadFault",
-        Status::WriteFault => "WriteFault",
-        Status::Memory => "Memory",
-        Status::InputTooLong => "InputTooLong",
     }
 }

@@ -120,11 +120,35 @@ fn run<R: DigestRule, F: DigestFunction<R> + Drop>(
 // The words of a list, each but the first behind a blank.
 fn split(alloc: Global, list: &str) -> Result<Vec<Text>, Memory> {
     let mut words = Vec::new(alloc);
-    if list.is_empty() {
-        return Ok(words);
-    }
-    for word in list.split(' ') {
-        words.push(Text::new(alloc, word.as_bytes())?)?;
+    if !list.is_empty() {
+        for word in list.split(' ') {
+            words.push(Text::new(alloc, word.as_bytes())?)?;
+        }
     }
     Ok(words)
+}
+
+/// The run that a program's name and its words ask for, under the rule by which texts with one prefix have one digest.
+pub fn setting_of(command: &str) -> Option<Setting<'_>> {
+    let (name, words) = command.split_once(' ').unwrap_or((command, ""));
+    let program = Program::named(name)?;
+    Some(Setting {
+        program,
+        rule: Rule::Plain,
+        words,
+        faults: NO_FAULTS,
+    })
+}
+
+/// How a run ended.
+pub fn name_of(status: Status) -> &'static str {
+    match status {
+        Status::Done => "Done",
+        Status::Refused => "Refused",
+        Status::Usage => "Usage",
+        Status::ReadFault => "ReadFault",
+        Status::WriteFault => "WriteFault",
+        Status::Memory => "Memory",
+        Status::InputTooLong => "InputTooLong",
+    }
 }

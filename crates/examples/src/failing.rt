@@ -1,6 +1,6 @@
 //! Runs of which a read or a put fails.
-use crate::rows::{name_of, push_lines, setting_of};
-use crate::running::{Faults, NO_FAULTS, Setting, answered};
+use crate::lines::push_lines;
+use crate::running::{Faults, NO_FAULTS, Setting, answered, name_of, setting_of};
 use felix_replay::Status;
 use fx_base::Memory;
 use std::alloc::Global;
@@ -10,11 +10,11 @@ const PIECE: u32 = 100;
 
 /// The first row of a run that doesn't end as it says.
 pub fn wrong_fault<'a>(alloc: Global, run: &'a str) -> Result<Option<&'a str>, Memory> {
-    let command = run.lines().next().unwrap_or("");
+    let (command, rows) = run.split_once('\n').unwrap_or((run, ""));
     let Some(setting) = setting_of(command) else {
         return Ok(Some(command));
     };
-    for row in run.lines().skip(1) {
+    for row in rows.lines() {
         if !ends_as_told(alloc, &setting, run, row)? {
             return Ok(Some(row));
         }
