@@ -1,30 +1,21 @@
-//! Runs each example in memory, by the code that its program runs, and tells whether its output is the stored one.
+//! Runs each example in memory, by the code that its program runs, and tells whether its output is the stored one; and each
+//! row of the files of rows beside them.
 //!
-//! An example is its words and two files of `data/`: its lines, `NAME.jsonl`, and its output, `NAME.txt`. Beside them
-//! stand lines that are refused, each a row with its refusal and run by itself, `refused-lines.rows`.
+//! An example is its words and two files of `data/`: its lines, `NAME.jsonl`, and its output, `NAME.txt`. Rows stand in
+//! `NAME.rows`.
 #![tactic(auto)]
 
-use felix_host::felix_host;
-use felix_replay::{Status, felix_replay};
-use felix_restore::felix_restore;
-use felix_services::felix_services;
-use fx_base::{MemSink, Memory, SureSource, Text};
-use fx_names::Namer;
-use fx_stdio::Sha256Digest;
-use std::alloc::Global;
+mod failing;
+mod lines;
+mod rows;
+mod running;
+
+use felix_replay::Status;
+use fx_base::Memory;
+use rows::{Form, Tally, count_rows};
+use running::{NO_FAULTS, NODE, Program, Rule, Setting, answered};
 use std::rt::Files;
 use std::{fs, io};
-
-const NODE: &str = "--node n1";
-
-/// The program whose code runs an example.
-#[derive(Clone, Copy)]
-enum Program {
-    Replay,
-    Restore,
-    Host,
-    Services,
-}
 
 // The name, the program and the words of each.
 const EXAMPLES: [(&str, Program, &str); 27] = [
@@ -57,19 +48,35 @@ const EXAMPLES: [(&str, Program, &str); 27] = [
     ("services-refusals", Program::Services, NODE),
 ];
 
-const MOST_WRITTEN: u32 = 1_048_576;
+// The name of each file of rows, and what they are.
+const FILES: [(&str, Form); 16] = [
+    ("runs", Form::Runs(Program::Replay, Rule::Plain)),
+    ("endpoints", Form::Runs(Program::Replay, Rule::Plain)),
+    ("flushes", Form::Runs(Program::Replay, Rule::Plain)),
+    ("batches", Form::Runs(Program::Replay, Rule::Plain)),
+    ("rules", Form::Runs(Program::Replay, Rule::Plain)),
+    ("policies", Form::Runs(Program::Replay, Rule::Plain)),
+    ("sets", Form::Runs(Program::Replay, Rule::Plain)),
+    ("kubernetes", Form::Runs(Program::Replay, Rule::Plain)),
+    ("restarts", Form::Runs(Program::Restore, Rule::Plain)),
+    ("hosts", Form::Runs(Program::Host, Rule::Plain)),
+    ("services", Form::Runs(Program::Services, Rule::Plain)),
+    (
+        "service-verdicts",
+        Form::Runs(Program::Services, Rule::Plain),
+    ),
+    ("long-slices", Form::Runs(Program::Services, Rule::Plain)),
+    ("faults", Form::Faults),
+    ("refused-lines", Form::Lines),
+    ("words", Form::Words),
+];
 
 fn main(rt: HostRuntime) -> io::Result<()> {
     for (name, program, words) in EXAMPLES {
         let answer = outcome(&rt, name, program, words)?;
         println!(rt; "{name}: {answer}")?;
     }
-    match wrong_row(&rt)? {
-        Ok(None) => println!(rt; "refused-lines: each row as stored")?,
-        Ok(Some(row)) => println!(rt; "refused-lines: line {row} is answered otherwise")?,
-        Err(Memory) => println!(rt; "refused-lines: there is no memory")?,
-    }
-    Ok(())
+    tell_rows(&rt)
 }
 
 fn outcome<R: Files + AllocGlobal>(
@@ -78,45 +85,23 @@ fn outcome<R: Files + AllocGlobal>(
     program: Program,
     words: &str,
 ) -> io::Result<&'static str> {
-    let lines = example_file(rt, name, ".jsonl")?;
-    let stored = example_file(rt, name, ".txt")?;
-    let Ok((status, written)) = answered(rt.alloc(), program, words, lines) else {
+    let lines = data_file(rt, name, ".jsonl")?;
+    let stored = data_file(rt, name, ".txt")?;
+    let setting = Setting {
+        program,
+        rule: Rule::Sha256,
+        words,
+        faults: NO_FAULTS,
+    };
+    let Ok((status, written)) = answered(rt.alloc(), &setting, lines) else {
         return Ok("there is no memory");
     };
     Ok(judged(status, written.as_slice() == stored.as_slice()))
 }
 
-fn example_file<R: Files + AllocGlobal>(rt: &R, name: &str, ending: &str) -> io::Result<Vec<u8>> {
+fn data_file<R: Files + AllocGlobal>(rt: &R, name: &str, ending: &str) -> io::Result<Vec<u8>> {
     let path = format!(in rt.alloc(); "{name}{ending}")?;
     fs::read(rt, path.as_str())
-}
-
-// The status of a run on these lines, and what it wrote.
-fn answered(
-    alloc: Global,
-    program: Program,
-    words: &str,
-    lines: Vec<u8>,
-) -> Result<(Status, Vec<u8>), Memory> {
-    let words = split(alloc, words)?;
-    let mut source = SureSource::new(lines, 4096);
-    let mut sink = MemSink::new(alloc, MOST_WRITTEN, Vec::new(alloc))?;
-    let namer = Namer::new(Sha256Digest);
-    let status = match program {
-        Program::Replay => felix_replay(alloc, &words, &mut source, &mut sink, namer),
-        Program::Restore => felix_restore(alloc, &words, &mut source, &mut sink, namer),
-        Program::Host => felix_host(alloc, &words, &mut source, &mut sink, namer),
-        Program::Services => felix_services(alloc, &words, &mut source, &mut sink, namer),
-    };
-    Ok((status, sink.held().to_vec(alloc)?))
-}
-
-fn split(alloc: Global, list: &str) -> Result<Vec<Text>, Memory> {
-    let mut words = Vec::new(alloc);
-    for word in list.split(' ') {
-        words.push(Text::new(alloc, word.as_bytes())?)?;
-    }
-    Ok(words)
 }
 
 fn judged(status: Status, is_stored: bool) -> &'static str {
@@ -128,37 +113,23 @@ fn judged(status: Status, is_stored: bool) -> &'static str {
     }
 }
 
-// The first row that is answered otherwise, by its line in the file.
-fn wrong_row<R: Files + AllocGlobal>(rt: &R) -> io::Result<Result<Option<usize>, Memory>> {
-    let rows = example_file(rt, "refused-lines", ".rows")?;
-    Ok(match str::from_utf8(rows.as_slice()) {
-        Ok(rows) => first_wrong(rt.alloc(), rows),
-        Err(_) => Ok(Some(0)),
-    })
-}
-
-fn first_wrong(alloc: Global, rows: &str) -> Result<Option<usize>, Memory> {
-    for (above, row) in rows.lines().enumerate() {
-        if !row.starts_with('#') && !is_answered(alloc, row)? {
-            return Ok(Some(above.saturating_add(1)));
+fn tell_rows<R: Files + Print + AllocGlobal>(rt: &R) -> io::Result<()> {
+    for (name, form) in FILES {
+        let rows = data_file(rt, name, ".rows")?;
+        match str::from_utf8(rows.as_slice()) {
+            Ok(rows) => tell_file(rt, name, form, rows)?,
+            Err(_) => println!(rt; "{name}.rows: these are no texts")?,
         }
     }
-    Ok(None)
+    Ok(())
 }
 
-// Whether a run on the row's line alone writes its refusal, or nothing if the row has none.
-fn is_answered(alloc: Global, row: &str) -> Result<bool, Memory> {
-    let (line, refusal) = row.split_once(" => ").unwrap_or((row, ""));
-    let line = Vec::from_slice(alloc, line.as_bytes())?;
-    let (status, mut written) = answered(alloc, Program::Replay, NODE, line)?;
-    written.pop();
-    Ok(written.as_slice() == refusal.as_bytes() && status == status_of(refusal))
-}
-
-fn status_of(refusal: &str) -> Status {
-    if refusal.is_empty() {
-        Status::Done
-    } else {
-        Status::Refused
+fn tell_file<R: Print + AllocGlobal>(rt: &R, name: &str, form: Form, rows: &str) -> io::Result<()> {
+    match count_rows(rt.alloc(), form, rows) {
+        Ok(Tally::Stored(count)) => println!(rt; "{name}.rows: {count} as stored"),
+        Ok(Tally::Otherwise(count, row)) => {
+            println!(rt; "{name}.rows: {count} is answered otherwise: {row}")
+        }
+        Err(Memory) => println!(rt; "{name}.rows: there is no memory"),
     }
 }
