@@ -4,7 +4,7 @@ use Rattle.fx_node_tests.proofs.OnePair.{absent, put}
 use Rattle.fx_node_tests.proofs.benches.active.ActiveBench.come.Goals as goal
 
 pub matched-requires-clause-absent : goal.matched-requires-clause-absent
-matched-requires-clause-absent c = absent _ _ _ _ c.requires.told c.if-branch.false
+matched-requires-clause-absent c = absent _ _ _ _ c.requires.told c.if-self.false
 
 pub matched-requires-clause-active : goal.matched-requires-clause-active
 matched-requires-clause-active c = c.requires.active
@@ -15,5 +15,5 @@ returns c = record {
   told =
       ap (λ (n : Inputs). n.matched) c.in_ok-put_endpoint.ensures.inputs ∙ ap (λ (n : Inputs). n.matched) c.in_ok-put_profile.ensures.inputs
       ∙ ap (λ (n : Inputs). n.matched) c.in_ok-put_policy.ensures.inputs ∙ ap (λ (n : Inputs). n.matched) c.in_ok-matched.ensures.inputs
-      ∙ put _ _ _ _ c.requires.told c.if-branch.false;
+      ∙ put _ _ _ _ c.requires.told c.if-self.false;
 }

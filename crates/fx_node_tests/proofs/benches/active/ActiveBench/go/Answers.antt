@@ -4,7 +4,7 @@ use Rattle.fx_node_tests.proofs.OnePair.{present, taken}
 use Rattle.fx_node_tests.proofs.benches.active.ActiveBench.go.Goals as goal
 
 pub unmatched-requires-clause-present : goal.unmatched-requires-clause-present
-unmatched-requires-clause-present c = present _ _ _ _ c.requires.told c.if-branch.true
+unmatched-requires-clause-present c = present _ _ _ _ c.requires.told c.if-not-self.false
 
 pub unmatched-requires-clause-active : goal.unmatched-requires-clause-active
 unmatched-requires-clause-active c = c.requires.active
@@ -15,5 +15,5 @@ returns c = record {
   told =
       ap (λ (n : Inputs). n.matched) c.in_ok-remove_endpoint.ensures.inputs ∙ ap (λ (n : Inputs). n.matched) c.in_ok-remove_profile.ensures.inputs
       ∙ ap (λ (n : Inputs). n.matched) c.in_ok-remove_policy.ensures.inputs ∙ ap (λ (n : Inputs). n.matched) c.in_ok-unmatched.ensures.inputs
-      ∙ taken _ _ _ _ c.requires.told c.if-branch.true;
+      ∙ taken _ _ _ _ c.requires.told c.if-not-self.false;
 }

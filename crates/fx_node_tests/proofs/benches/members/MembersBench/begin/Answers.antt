@@ -4,7 +4,7 @@ use Rattle.fx_node_tests.proofs.OnePair.{absent, put}
 use Rattle.fx_node_tests.proofs.benches.members.MembersBench.begin.Goals as goal
 
 pub matched-requires-clause-absent : goal.matched-requires-clause-absent
-matched-requires-clause-absent c = absent _ _ _ _ c.requires.told c.if-branch.false
+matched-requires-clause-absent c = absent _ _ _ _ c.requires.told c.if-self.false
 
 pub matched-requires-clause-members : goal.matched-requires-clause-members
 matched-requires-clause-members c = c.requires.members
@@ -23,6 +23,6 @@ returns c = record {
   members = c.in_ok-use_on.ensures.members;
   told =
       ap (λ (n : Inputs). n.matched) c.in_ok-use_on.ensures.inputs ∙ ap (λ (n : Inputs). n.matched) c.in_ok-matched.ensures.inputs
-      ∙ put _ _ _ _ c.requires.told c.if-branch.false;
+      ∙ put _ _ _ _ c.requires.told c.if-self.false;
   usable = c.requires.usable;
 }
