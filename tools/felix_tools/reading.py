@@ -1,5 +1,6 @@
 """Reads what `kubectl get -o json` and `calicoctl get -o json` print, and lines that were made of it."""
 import collections
+import ipaddress
 import json
 import sys
 
@@ -113,3 +114,11 @@ def part(value, *names):
 def objects(value):
     """The objects of a list; of anything else none."""
     return [item for item in value if isinstance(item, dict)] if isinstance(value, list) else []
+
+
+def is_address(text):
+    """Whether a text is an address of IPv4."""
+    try:
+        return ipaddress.ip_address(text).version == 4
+    except ValueError:
+        return False

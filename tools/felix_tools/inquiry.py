@@ -1,0 +1,67 @@
+"""An inquiry: resources, the questions that are asked of them, and the answers as values (verdicts.py)."""
+from felix_tools import program
+from felix_tools.asking import Asking
+from felix_tools.cluster import Cluster, standing_lines
+from felix_tools.conversion import convert, services_lines
+from felix_tools.doubts import Doubts, host_policies, host_policy_text, without_host_policies
+from felix_tools.host import HostResources
+from felix_tools.nearby import near_notes, settled
+from felix_tools.resolving import resolve
+from felix_tools.verdicts import UNKNOWN, answer_of
+
+
+class Inquiry:
+    """The resources of some changes, and the answers to questions about them."""
+
+    def __init__(self, changes, options, paths=None, with_each_side=False):
+        self.conversion = convert(changes)
+        self.options = options
+        self.cluster = self.cluster_of(self.conversion.lines)
+        self.host_policies = host_policies(self.conversion.lines)
+        self.asking = Asking(paths or program.Paths(options.program), self.lines(), options.uplink,
+                             with_tables=getattr(options, "path", False) or bool(getattr(options, "raw", None)),
+                             with_each_side=with_each_side, host=self.host_resources(),
+                             forwarding=program.SERVICES if self.slices is not None else program.REPLAY)
+
+    def cluster_of(self, lines):
+        return Cluster(lines, self.conversion.pods_left_out, [change.resource for change in self.conversion.beside.values()])
+
+    def host_resources(self):
+        return HostResources(self.cluster, list(self.conversion.beside.values()), self.options.uplink)
+
+    def lines(self):
+        """The lines that the programs are given; with those of slices where some rule names a Service."""
+        lines = without_host_policies(self.conversion.lines)
+        self.slices, without_slices = services_lines(lines, self.conversion.beside.values())
+        self.misread = self.conversion.unknown_fields + without_slices
+        return lines if self.slices is None else self.slices + lines
+
+    def questions(self, wishes):
+        return [question for wish in wishes for question in resolve(wish, self.cluster)]
+
+    def answers(self, questions):
+        """An answer for each question, in their order."""
+        known = {place: settled(question) for place, question in enumerate(questions)}
+        asked = [question for place, question in enumerate(questions) if known[place] is None]
+        results = iter(self.asking.ask(asked))
+        standing = self.cluster_of(standing_lines(self.asking.lines, self.asking.refusals()))
+        doubts = Doubts(self.asking, self.conversion.unread, self.misread)
+        return [known[place] or self.answer(next(results), standing, doubts) for place in range(len(questions))]
+
+    def answer(self, result, standing, doubts):
+        made = answer_of(result, standing)
+        made.notes += near_notes(result.question, self.cluster)
+        made.doubts = doubts.of(result.question)
+        made.without = made.verdict
+        if made.doubts and not self.options.although_refused:
+            made.verdict = UNKNOWN
+            made.cause = "these may apply to it, and aren't part of what was asked"
+        return made
+
+    # ---- what is to be said of the resources, whatever was asked
+
+    def refusals(self):
+        return self.asking.refusals()
+
+    def host_policy_texts(self):
+        return [host_policy_text(line) for line in self.host_policies]

@@ -1,0 +1,44 @@
+"""Orders of tiers and policies as whole numbers. Calico's `order` is a float, and only how orders compare counts."""
+import math
+
+# Kubernetes' NetworkPolicies have this order, and stand among Calico's policies.
+KUBERNETES_ORDER = 1000
+LEAST, MOST = -2 ** 63, 2 ** 63 - 1
+POLICIES = ("GlobalNetworkPolicy", "NetworkPolicy")
+
+
+class Orders:
+    """What whole numbers stand for the orders of these resources, with equal ones for equal orders."""
+
+    def __init__(self, resources):
+        self.of_policies = whole_numbers([order_of(it) for it in resources if it.get("kind") in POLICIES], KUBERNETES_ORDER)
+        self.of_tiers = whole_numbers([order_of(it) for it in resources if it.get("kind") == "Tier"], 0)
+
+    def of(self, resource):
+        """The whole number for a resource's order; what is no number stays."""
+        order = order_of(resource)
+        numbers = self.of_tiers if resource.get("kind") == "Tier" else self.of_policies
+        return numbers.get(order, order) if is_number(order) else order
+
+
+def order_of(resource):
+    spec = resource.get("spec")
+    return spec.get("order") if isinstance(spec, dict) else None
+
+
+def is_number(value):
+    return isinstance(value, (int, float)) and not isinstance(value, bool) and (isinstance(value, int) or math.isfinite(value))
+
+
+def whole_numbers(orders, fixed):
+    """Each order and its whole number: itself where all of them are whole, and else its rank, counted from one that stays."""
+    values = {order for order in orders if is_number(order)}
+    if all(is_whole(order) for order in values):
+        return {order: int(order) for order in values}
+    ranks = sorted(values | {fixed})
+    zero = ranks.index(fixed)
+    return {order: fixed + place - zero for place, order in enumerate(ranks)}
+
+
+def is_whole(order):
+    return order == int(order) and LEAST <= order <= MOST
