@@ -105,7 +105,7 @@ def tell(before, after, with_reasons):
         old, new = before.answers.get(key), after.answers.get(key)
         is_changed = verdict_of(old) != verdict_of(new)
         changed += is_changed
-        if is_changed or with_reasons and causes_of(old) != causes_of(new):
+        if is_changed or may_change(old, new) or with_reasons and causes_of(old) != causes_of(new):
             blocks.append(change_lines(old, new))
     blocks.append(["%d of %d verdicts change.%s" % (changed, len(keys), unknown_words(before, after))])
     print("\n\n".join("\n".join(block) for block in blocks if block))
@@ -122,19 +122,32 @@ def verdict_of(answer):
     return answer.verdict if answer else "not there"
 
 
+def may_change(old, new):
+    """Whether neither verdict is known, and as far as all is read they differ."""
+    return bool(old and new) and old.verdict == new.verdict == UNKNOWN and old.without != new.without
+
+
 def causes_of(answer):
     return answer.causes if answer else None
 
 
 def change_lines(old, new):
-    verdicts = verdict_of(old), verdict_of(new)
-    change = "%s before, %s after" % verdicts if verdicts[0] != verdicts[1] else "%s by another rule" % verdicts[0]
+    change = change_words(old, new)
     lines = ["%s: %s" % (short_title((new or old).question), change)]
     for name, answer, other in (("before", old, new), ("after", new, old)):
         if answer:
             lines += ["  " + name] + [INDENT + line[2:] for line in doubt_lines(answer)]
             lines += [INDENT + line[2:] for reason in reasons_that_differ(answer, other) for line in reason_lines(reason)]
     return lines
+
+
+def change_words(old, new):
+    verdicts = verdict_of(old), verdict_of(new)
+    if verdicts[0] != verdicts[1]:
+        return "%s before, %s after" % verdicts
+    if may_change(old, new):
+        return "unknown; as far as all is read %s before, %s after" % (old.without, new.without)
+    return "%s by another rule" % verdicts[0]
 
 
 def reasons_that_differ(answer, other):

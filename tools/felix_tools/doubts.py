@@ -4,7 +4,7 @@ Whether a policy that was refused would apply to an end the program says: it is 
 types and without the rules that it doesn't read."""
 from felix_tools import program
 from felix_tools.answers import Answers
-from felix_tools.conversion import Line, display_name, input_of, is_for_hosts, key_of, kind_of
+from felix_tools.conversion import Line, Unread, display_name, input_of, is_for_hosts, key_of, kind_of
 from felix_tools.kinds import CALICO, KUBERNETES, is_of_one_namespace
 from felix_tools.questions import is_node, is_outside
 from felix_tools.reading import part
@@ -17,14 +17,17 @@ SELECTORS = {
     (CALICO, "GlobalNetworkPolicy"): ("selector", "namespaceSelector", "serviceAccountSelector"),
 }
 SORTS = {(KUBERNETES, "NetworkPolicy"): "knp", (CALICO, "NetworkPolicy"): "np", (CALICO, "GlobalNetworkPolicy"): "gnp"}
-DIRECTIONS = {"egress": "Egress", "ingress": "Ingress"}
+NAMESPACED = {kind for kind, names in SORTS.items() if names != "gnp"}
+HOST_ENDPOINT = (CALICO, "HostEndpoint")
 
 
 class Doubts:
     """The doubts of an input whose questions were asked."""
 
-    def __init__(self, asking, unread, misread):
+    def __init__(self, asking, unread, misread, host_policies):
         self.asking = asking
+        self.host_policies = [Unread(line.written, line.origin, "a policy with %s isn't read" % only_host_field(line.written))
+                              for line in host_policies]
         self.refused = [(line, refusal) for line, refusal in asking.refusals() if line.action == "put"]
         self.unread = unread
         self.misread = misread
@@ -44,13 +47,20 @@ class Doubts:
                    for line, refusal in self.refused if self.may_apply(line, direction, end)]
         unread = [doubt_of(it) for it in self.unread if may_be_of(it.resource, end)]
         misread = [doubt_of(it) for it in self.misread if self.is_misread_for(it, direction, end)]
-        return refused + unread + misread
+        for_hosts = [doubt_of(it) for it in self.host_policies if self.is_guarded(end)]
+        return refused + unread + misread + for_hosts
+
+    def is_guarded(self, end):
+        """Whether an end is a node with a host endpoint at its uplink: without one no policy is asked."""
+        return is_node(end) and self.asking.host.endpoint_of(end.node) is not None
 
     def may_apply(self, line, direction, end):
         """Whether a refused resource would have a say on an end."""
         kind = kind_of(line.resource)
+        if kind == HOST_ENDPOINT:
+            return is_node(end) and part(line.resource, "spec", "node") == end.node
         if is_node(end):
-            return kind not in (SORTS.keys() - {(CALICO, "GlobalNetworkPolicy")})
+            return self.is_guarded(end) and kind not in NAMESPACED
         if kind in SORTS:
             return self.would_apply(line, direction, end)
         if kind == (CALICO, "Tier"):
@@ -83,7 +93,7 @@ class Doubts:
     def is_misread_for(self, it, direction, end):
         """Whether a policy that isn't read as it is written applies to an end, or may, where it is its selectors that aren't."""
         kind = kind_of(it.resource)
-        if kind not in SORTS or is_node(end) and kind != (CALICO, "GlobalNetworkPolicy") or not may_be_of(it.resource, end):
+        if kind not in SORTS or not may_be_of(it.resource, end) or is_node(end) and not self.is_guarded(end):
             return False
         if is_node(end) or not it.is_selected:
             return True
@@ -152,6 +162,9 @@ def without_host_policies(lines):
     return kept
 
 
+def only_host_field(written):
+    return next(name for name in ("preDNAT", "doNotTrack") if part(written, "spec", name) is True)
+
+
 def host_policy_text(line):
-    name = next(name for name in ("preDNAT", "doNotTrack") if part(line.written, "spec", name) is True)
-    return "%s (%s): a policy with %s is for host endpoints alone" % (display_name(line.written), line.origin, name)
+    return "%s (%s): a policy with %s is for host endpoints alone" % (display_name(line.written), line.origin, only_host_field(line.written))

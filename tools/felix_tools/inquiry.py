@@ -6,6 +6,8 @@ from felix_tools.conversion import convert, services_lines
 from felix_tools.doubts import Doubts, host_policies, host_policy_text, without_host_policies
 from felix_tools.host import HostResources
 from felix_tools.nearby import near_notes, settled
+from felix_tools.questions import is_node, is_outside
+from felix_tools.reading import part
 from felix_tools.resolving import resolve
 from felix_tools.verdicts import UNKNOWN, answer_of
 
@@ -14,6 +16,7 @@ class Inquiry:
     """The resources of some changes, and the answers to questions about them."""
 
     def __init__(self, changes, options, paths=None, with_each_side=False):
+        self.changes = changes
         self.conversion = convert(changes)
         self.options = options
         self.cluster = self.cluster_of(self.conversion.lines)
@@ -45,18 +48,28 @@ class Inquiry:
         asked = [question for place, question in enumerate(questions) if known[place] is None]
         results = iter(self.asking.ask(asked))
         standing = self.cluster_of(standing_lines(self.asking.lines, self.asking.refusals()))
-        doubts = Doubts(self.asking, self.conversion.unread, self.misread)
+        doubts = Doubts(self.asking, self.conversion.unread, self.misread, self.host_policies)
         return [known[place] or self.answer(next(results), standing, doubts) for place in range(len(questions))]
 
     def answer(self, result, standing, doubts):
         made = answer_of(result, standing)
-        made.notes += near_notes(result.question, self.cluster)
+        made.notes += near_notes(result.question, self.cluster) + self.forwarded_notes(result.question)
         made.doubts = doubts.of(result.question)
         made.without = made.verdict
         if made.doubts and not self.options.although_refused:
             made.verdict = UNKNOWN
-            made.cause = "these may apply to it, and aren't part of what was asked"
+            made.cause = "these may apply to it, and aren't read, or not wholly"
         return made
+
+    def forwarded_notes(self, question):
+        """That host endpoints' policies meet what their node forwards, too, where the input has such a policy."""
+        policies = [change for change in self.changes if part(change.resource, "spec", "applyOnForward") is True]
+        nodes = [end.node for end in (question.sender, question.receiver) if not is_outside(end) and not is_node(end)]
+        if len(set(nodes)) == len(nodes) - 1 or not policies:
+            return []
+        guarded = [node for node in nodes if self.asking.host.endpoint_of(node)]
+        return ["the node %s has a host endpoint: its policies with applyOnForward meet what the node forwards, too, and weren't asked" % node
+                for node in guarded]
 
     # ---- what is to be said of the resources, whatever was asked
 

@@ -69,12 +69,12 @@ def node_of(end):
 
 
 def title(asked):
-    ends = end_words(asked.sender, asked.source), receiver_words(asked)
+    ends = end_words(asked.sender, asked.source, asked.receiver), receiver_words(asked)
     return "%s to %s, %s" % (ends + (asked.traffic.words,))
 
 
 def receiver_words(asked):
-    words = end_words(asked.receiver, asked.destination)
+    words = end_words(asked.receiver, asked.destination, asked.sender)
     return "%s, there %s" % (asked.service, words) if asked.service else words
 
 
@@ -85,7 +85,10 @@ def short_title(asked):
     return "%s to %s, %s" % (name_of(asked.sender), receiver, asked.traffic.words)
 
 
-def end_words(end, address):
+def end_words(end, address, other):
+    """An end with its address; an address outside that is the other end's node is said to be it."""
+    if is_outside(end) and end.address in getattr(other, "hosts", ()):
+        return "%s (its node %s)" % (end.address, other.node)
     if is_outside(end):
         return "%s (no pod of the input)" % end.address
     if is_node(end):

@@ -5,8 +5,9 @@ from felix_tools.questions import QuestionError, is_node, is_outside, question
 from felix_tools.reading import is_address
 
 MASQUERADE = ("the Service's traffic policy is Cluster, so a node that forwards to another node's pod puts its own address in the "
-              "client's place: ask with --from-address too")
-NODE_PORT = "a node port is translated before the node's INPUT, so its pods are asked, and no host endpoint's policy but preDNAT"
+              "client's place: ask with --from-address NODE'S-ADDRESS too")
+NODE_PORT = ("a node port is translated before the node's INPUT, and the packet is forwarded: the Service's pods are asked, and no host "
+             "endpoint's policy, of which those with preDNAT or applyOnForward would meet it")
 
 
 def resolve(wish, cluster):

@@ -27,10 +27,10 @@ def doubt_lines(answer):
         return ["  not known: %s" % answer.cause]
     if not answer.doubts:
         return []
-    head = "  not known: %s:" % answer.cause if answer.verdict == UNKNOWN else "  without these, which may apply to it:"
+    head = "  not known: %s:" % answer.cause if answer.verdict == UNKNOWN else "  these may apply to it, and aren't read, or not wholly:"
     lines = [head] + [INDENT + "  %s (%s): %s" % (it.resource, it.origin, it.why) for it in answer.doubts]
     if answer.verdict == UNKNOWN:
-        lines.append("  without these it is %s (--although-refused asks so):" % answer.without)
+        lines.append("  as far as all is read it is %s (--although-refused answers so):" % answer.without)
     return lines
 
 

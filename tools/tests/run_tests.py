@@ -3,6 +3,7 @@ import argparse
 import concurrent.futures
 import difflib
 import os
+import re
 import shlex
 import subprocess
 import sys
@@ -102,16 +103,24 @@ def compared(name, what, folder, environ):
     done = subprocess.run(run, cwd=DATA, env=dict(environ, COLUMNS="110"), stdin=subprocess.DEVNULL, stdout=subprocess.PIPE,
                           stderr=subprocess.PIPE)
     found = {"stdout": done.stdout.decode("utf-8"), "stderr": done.stderr.decode("utf-8"), "status": "%d\n" % done.returncode}
-    wrong = [file for file in ("stdout", "stderr", "status") if found[file] != stored(folder, file)]
+    found["verdicts"] = verdicts_in(found["stdout"]) if os.path.exists(os.path.join(folder, "verdicts")) else ""
+    wrong = [file for file in found if found[file] != stored(folder, file, is_commented=file == "verdicts")]
     for file in wrong:
-        changes = difflib.unified_diff(stored(folder, file).split("\n"), found[file].split("\n"), "stored", "found", lineterm="", n=1)
+        kept = stored(folder, file, is_commented=file == "verdicts")
+        changes = difflib.unified_diff(kept.split("\n"), found[file].split("\n"), "stored", "found", lineterm="", n=1)
         print("%s, with %s: %s differs\n%s" % (name, what, file, "\n".join(changes)))
     return not wrong
 
 
-def stored(folder, file):
+def verdicts_in(answer):
+    """The verdict of each question, one a line."""
+    return "".join("%s\n" % verdict.lower() for verdict in re.findall(r"^\S.*: (ALLOWED|DENIED|UNKNOWN)$", answer, re.MULTILINE))
+
+
+def stored(folder, file, is_commented=False):
     path = os.path.join(folder, file)
     if not os.path.exists(path):
         return "0\n" if file == "status" else ""
     with open(path, encoding="utf-8", newline="") as opened:
-        return opened.read()
+        text = opened.read()
+    return re.sub(r" *#.*", "", text) if is_commented else text
