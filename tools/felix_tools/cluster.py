@@ -7,7 +7,7 @@ import ipaddress
 from felix_tools.conversion import key_of, stands_as, text_of
 from felix_tools.kinds import CALICO
 from felix_tools.pods import ON_HOST, host_addresses
-from felix_tools.reading import is_address, objects, part
+from felix_tools.reading import is_address, members, objects, part
 
 # A workload endpoint: its pod's name behind the namespace (or its own), its id in answers, what a packet needs of it, the addresses
 # of the node that it is on, as far as the input tells them, and its own labels and the ports that have names.
@@ -173,6 +173,6 @@ def endpoint_of(resource, written):
         interface=text_of(part(resource, "spec", "interfaceName")),
         addresses=[text_of(net).split("/")[0] for net in nets if ":" not in text_of(net)] if isinstance(nets, list) else [],
         hosts=host_addresses(written),
-        labels=part(resource, "metadata", "labels") or {},
+        labels=members(part(resource, "metadata", "labels")),
         ports=objects(part(resource, "spec", "ports")),
     )

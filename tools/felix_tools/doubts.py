@@ -34,13 +34,16 @@ class Doubts:
         self.stand_ins = {id(line): stand_in(line) for line, _ in self.refused if kind_of(line.resource) in SORTS}
         self.applying = {}
 
-    def of(self, question):
-        """What may apply to a question's ends."""
-        found = []
-        for direction, end in (("egress", question.sender), ("ingress", question.receiver)):
-            if not is_outside(end):
-                found += self.of_end(direction, end)
-        return list({(it.resource, it.origin, it.why): it for it in found}.values())
+    def of(self, result):
+        """What may apply to the ends of a result and change its verdict: nothing where a side that is known denies."""
+        ends = {"egress": result.question.sender, "ingress": result.question.receiver}
+        found = {direction: self.of_end(direction, end) for direction, end in ends.items() if not is_outside(end)}
+        for side in result.sides:
+            if side.reason and side.reason[0] == "failsafe":
+                found[side.direction] = []
+        if any(not side.is_allowed and not found[side.direction] for side in result.sides):
+            return []
+        return list({(it.resource, it.origin, it.why): it for doubts in found.values() for it in doubts}.values())
 
     def of_end(self, direction, end):
         refused = [Doubt(display_name(line.written), line.origin, fault_words(refusal, line.written))

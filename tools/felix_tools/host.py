@@ -4,7 +4,7 @@ import json
 
 from felix_tools.conversion import Line, line_text, text_of
 from felix_tools.kinds import CALICO
-from felix_tools.reading import objects, part
+from felix_tools.reading import members, objects, part, texts
 
 # What Felix takes where no FelixConfiguration names any (Calico's reference of Felix's configuration).
 INBOUND = "failsafeInboundHostPorts"
@@ -45,7 +45,7 @@ class HostResources:
 
     def is_for_uplink(self, resource, node):
         interface = part(resource, "spec", "interfaceName")
-        expected = part(resource, "spec", "expectedIPs") or []
+        expected = texts(part(resource, "spec", "expectedIPs"))
         return interface == self.uplink or not interface and any(it in self.cluster.nodes.get(node, []) for it in expected)
 
     def failsafe_ports(self, node):
@@ -71,9 +71,9 @@ def name_of(change):
 
 
 def with_interface(resource, interface):
-    spec = {key: value for key, value in (part(resource, "spec") or {}).items()
+    spec = {key: value for key, value in members(part(resource, "spec")).items()
             if key in ("node", "expectedIPs", "profiles", "ports")}
-    metadata = {key: value for key, value in (part(resource, "metadata") or {}).items()
+    metadata = {key: value for key, value in members(part(resource, "metadata")).items()
                 if key in ("name", "labels") and value is not None}
     return {"apiVersion": CALICO, "kind": "HostEndpoint", "metadata": metadata, "spec": dict(spec, interfaceName=interface)}
 

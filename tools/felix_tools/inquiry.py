@@ -54,7 +54,7 @@ class Inquiry:
     def answer(self, result, standing, doubts):
         made = answer_of(result, standing)
         made.notes += near_notes(result.question, self.cluster) + self.forwarded_notes(result.question)
-        made.doubts = doubts.of(result.question)
+        made.doubts = doubts.of(result)
         made.without = made.verdict
         if made.doubts and not self.options.although_refused:
             made.verdict = UNKNOWN

@@ -35,11 +35,13 @@ def addresses(pod):
     """The pod's addresses: by its status, or before the kubelet wrote that, by the annotations of Calico's plugin."""
     several = [item.get("ip") for item in objects(part(pod, "status", "podIPs"))]
     if several:
-        return [address for address in several if address]
+        return [address for address in several if address and isinstance(address, str)]
     one = part(pod, "status", "podIP")
-    if one:
+    if one and isinstance(one, str):
         return [one]
     notes = part(pod, "metadata", "annotations", ADDRESSES_NOTE) or part(pod, "metadata", "annotations", ADDRESS_NOTE) or ""
+    if not isinstance(notes, str):
+        return []
     return [note.split("/")[0] for note in notes.split(",") if note]
 
 

@@ -128,6 +128,16 @@ def part(value, *names):
     return value
 
 
+def texts(value):
+    """The texts of a list; of anything else none."""
+    return [item for item in value if isinstance(item, str)] if isinstance(value, list) else []
+
+
+def members(value):
+    """A value where it is an object, else one without members."""
+    return value if isinstance(value, dict) else {}
+
+
 def objects(value):
     """The objects of a list; of anything else none."""
     return [item for item in value if isinstance(item, dict)] if isinstance(value, list) else []

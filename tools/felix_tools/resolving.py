@@ -2,7 +2,7 @@
 from felix_tools import services
 from felix_tools.cluster import NODE_FRONT, UnknownEnd
 from felix_tools.questions import QuestionError, is_node, is_outside, question
-from felix_tools.reading import is_address
+from felix_tools.reading import is_address, part
 
 MASQUERADE = ("the Service's traffic policy is Cluster, so a node that forwards to another node's pod puts its own address in the "
               "client's place: ask with --from-address NODE'S-ADDRESS too")
@@ -82,8 +82,7 @@ def through(wish, cluster, senders, resource, entry, title, notes):
 
 
 def masquerade_notes(resource):
-    spec = resource.get("spec") or {}
-    return [] if spec.get("externalTrafficPolicy") == "Local" else [MASQUERADE]
+    return [] if part(resource, "spec", "externalTrafficPolicy") == "Local" else [MASQUERADE]
 
 
 def is_to_itself(asked):

@@ -3,7 +3,7 @@ import collections
 
 from felix_tools.conversion import text_of
 from felix_tools.questions import PORT_PROTOCOLS, QuestionError, Traffic
-from felix_tools.reading import objects, part
+from felix_tools.reading import objects, part, texts
 
 SERVICE_LABEL = "kubernetes.io/service-name"
 # A Service at one of its addresses: what that address is to it, and the resource.
@@ -18,11 +18,10 @@ def name_of_service(resource):
 
 def addresses_of(resource):
     """(address, what it is) of each address of a Service."""
-    spec = part(resource, "spec") or {}
-    cluster = [part(spec, "clusterIP")] + list(part(spec, "clusterIPs") or [])
-    balanced = [part(spec, "loadBalancerIP")] + ingress_addresses(resource)
+    cluster = [part(resource, "spec", "clusterIP")] + texts(part(resource, "spec", "clusterIPs"))
+    balanced = [part(resource, "spec", "loadBalancerIP")] + ingress_addresses(resource)
     rows = [(address, "cluster IP") for address in cluster]
-    rows += [(address, "external IP") for address in part(spec, "externalIPs") or []]
+    rows += [(address, "external IP") for address in texts(part(resource, "spec", "externalIPs"))]
     return [(text_of(address), what) for address, what in rows + [(it, "load balancer's address") for it in balanced] if address]
 
 
@@ -95,7 +94,7 @@ def behind_slices(cluster, slices, entry, traffic):
         ports = [port for port in objects(it.get("ports")) if (port.get("name") or "") == (entry.get("name") or "")]
         ready = [end for end in objects(it.get("endpoints")) if part(end, "conditions", "ready") is not False]
         found += [Behind(cluster.end_at(text_of(address)), to_port(traffic, port.get("port")))
-                  for port in ports for end in ready for address in end.get("addresses") or []]
+                  for port in ports if isinstance(port.get("port"), int) for end in ready for address in texts(end.get("addresses"))]
     return list({(repr(one.end), one.traffic.words): one for one in found}.values())
 
 
