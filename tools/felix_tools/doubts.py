@@ -1,7 +1,7 @@
 """What isn't part of an answer and may apply to what was asked: resources that were refused or aren't read.
 
-Whether a policy that was refused would apply to an end the program says: it is asked again, with a policy of the same selectors and
-types and without the rules that it doesn't read."""
+Whether a policy that was refused would apply to an end the program says: it is asked again, with a policy of the same
+selectors and types and without the rules that it doesn't read."""
 from felix_tools import program
 from felix_tools.answers import Answers
 from felix_tools.conversion import Line, Unread, display_name, input_of, is_for_hosts, key_of, kind_of
@@ -26,8 +26,8 @@ class Doubts:
 
     def __init__(self, asking, unread, misread, host_policies):
         self.asking = asking
-        self.host_policies = [Unread(line.written, line.origin, "a policy with %s isn't read" % only_host_field(line.written))
-                              for line in host_policies]
+        why = "a policy with %s isn't read"
+        self.host_policies = [Unread(it.written, it.origin, why % only_host_field(it.written)) for it in host_policies]
         self.refused = [(line, refusal) for line, refusal in asking.refusals() if line.action == "put"]
         self.unread = unread
         self.misread = misread
@@ -94,7 +94,7 @@ class Doubts:
         return [name for name, _ in served.tiers[direction]] if served else []
 
     def is_misread_for(self, it, direction, end):
-        """Whether a policy that isn't read as it is written applies to an end, or may, where it is its selectors that aren't."""
+        """Whether a policy that isn't read as it is written applies to an end, or may, where its selectors aren't."""
         kind = kind_of(it.resource)
         if kind not in SORTS or not may_be_of(it.resource, end) or is_node(end) and not self.is_guarded(end):
             return False
@@ -170,4 +170,5 @@ def only_host_field(written):
 
 
 def host_policy_text(line):
-    return "%s (%s): a policy with %s is for host endpoints alone" % (display_name(line.written), line.origin, only_host_field(line.written))
+    name, field = display_name(line.written), only_host_field(line.written)
+    return "%s (%s): a policy with %s is for host endpoints alone" % (name, line.origin, field)

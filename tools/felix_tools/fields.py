@@ -1,12 +1,14 @@
 """Fields that the kinds that are read don't have, told as kubectl tells them: `unknown field "spec.podSelecter"`.
 
-The fields are those of Kubernetes' API reference and of Calico's resource reference. LEAF stands for a value that isn't looked into."""
+The fields are those of Kubernetes' API reference and of Calico's resource reference. LEAF stands for a value that isn't
+looked into."""
 from felix_tools.kinds import CALICO, KUBERNETES
 
 LEAF = None
 METADATA = dict.fromkeys((
-    "name", "namespace", "labels", "annotations", "uid", "resourceVersion", "generation", "creationTimestamp", "deletionTimestamp",
-    "deletionGracePeriodSeconds", "finalizers", "generateName", "managedFields", "ownerReferences", "selfLink", "clusterName"))
+    "name", "namespace", "labels", "annotations", "uid", "resourceVersion", "generation", "creationTimestamp",
+    "deletionTimestamp", "deletionGracePeriodSeconds", "finalizers", "generateName", "managedFields", "ownerReferences",
+    "selfLink", "clusterName"))
 
 
 def resource(spec=LEAF, **more):
@@ -14,25 +16,28 @@ def resource(spec=LEAF, **more):
 
 
 LABEL_SELECTOR = {"matchLabels": LEAF, "matchExpressions": dict.fromkeys(("key", "operator", "values"))}
-PEER = {"podSelector": LABEL_SELECTOR, "namespaceSelector": LABEL_SELECTOR, "ipBlock": dict.fromkeys(("cidr", "except"))}
+BLOCK = dict.fromkeys(("cidr", "except"))
+PEER = {"podSelector": LABEL_SELECTOR, "namespaceSelector": LABEL_SELECTOR, "ipBlock": BLOCK}
 PORT = dict.fromkeys(("protocol", "port", "endPort"))
 SIDE = dict(dict.fromkeys(("nets", "notNets", "selector", "notSelector", "namespaceSelector", "ports", "notPorts")),
             services=dict.fromkeys(("name", "namespace")), serviceAccounts=dict.fromkeys(("names", "selector")))
 ICMP = dict.fromkeys(("type", "code"))
-RULE = dict(dict.fromkeys(("action", "ipVersion", "protocol", "notProtocol")), icmp=ICMP, notICMP=ICMP, source=SIDE, destination=SIDE,
+RULE = dict(dict.fromkeys(("action", "ipVersion", "protocol", "notProtocol")), icmp=ICMP, notICMP=ICMP,
+            source=SIDE, destination=SIDE,
             http={"methods": LEAF, "paths": dict.fromkeys(("exact", "prefix"))}, metadata={"annotations": LEAF})
 POLICY = dict(dict.fromkeys(("tier", "order", "selector", "serviceAccountSelector", "types", "performanceHints")),
               ingress=RULE, egress=RULE)
 GLOBAL_POLICY = dict(POLICY, **dict.fromkeys(("namespaceSelector", "doNotTrack", "preDNAT", "applyOnForward")))
 ENDPOINT = dict.fromkeys((
-    "orchestrator", "workload", "node", "containerID", "pod", "endpoint", "serviceAccountName", "ipNetworks", "ipNATs", "ipv4Gateway",
-    "ipv6Gateway", "profiles", "interfaceName", "mac", "ports", "allowSpoofedSourcePrefixes", "qosControls"))
+    "orchestrator", "workload", "node", "containerID", "pod", "endpoint", "serviceAccountName", "ipNetworks", "ipNATs",
+    "ipv4Gateway", "ipv6Gateway", "profiles", "interfaceName", "mac", "ports", "allowSpoofedSourcePrefixes", "qosControls"))
 FIELDS = {
     ("v1", "Pod"): resource(),
     ("v1", "Namespace"): resource({"finalizers": LEAF}),
-    ("v1", "ServiceAccount"): resource(**dict.fromkeys(("secrets", "imagePullSecrets", "automountServiceAccountToken"))),
+    ("v1", "ServiceAccount"): resource(secrets=LEAF, imagePullSecrets=LEAF, automountServiceAccountToken=LEAF),
     (KUBERNETES, "NetworkPolicy"): resource({
-        "podSelector": LABEL_SELECTOR, "policyTypes": LEAF, "ingress": {"from": PEER, "ports": PORT}, "egress": {"to": PEER, "ports": PORT}}),
+        "podSelector": LABEL_SELECTOR, "policyTypes": LEAF,
+        "ingress": {"from": PEER, "ports": PORT}, "egress": {"to": PEER, "ports": PORT}}),
     (CALICO, "Tier"): resource(dict.fromkeys(("order", "defaultAction"))),
     (CALICO, "GlobalNetworkPolicy"): resource(GLOBAL_POLICY),
     (CALICO, "NetworkPolicy"): resource(POLICY),

@@ -24,7 +24,7 @@ class HostResources:
         self.cluster = cluster
         self.uplink = uplink
         self.endpoints = [change for change in changes if change.resource.get("kind") == "HostEndpoint"]
-        self.configurations = [change.resource for change in changes if change.resource.get("kind") == "FelixConfiguration"]
+        self.configurations = [it.resource for it in changes if it.resource.get("kind") == "FelixConfiguration"]
 
     def lines_of(self, node):
         """The lines that a run for a node is given before all others."""
@@ -36,8 +36,8 @@ class HostResources:
         return lines
 
     def endpoint_of(self, node):
-        """The host endpoint of a node's uplink: by Felix's choice the first name of those that name the interface or have an
-        address of it, and else of those of all interfaces."""
+        """The host endpoint of a node's uplink: by Felix's choice the first name of those that name the interface or
+        have an address of it, and else of those of all interfaces."""
         own = sorted((it for it in self.endpoints if part(it.resource, "spec", "node") == node), key=name_of)
         named = [it for it in own if self.is_for_uplink(it.resource, node)]
         every = [it for it in own if part(it.resource, "spec", "interfaceName") == ANY]
@@ -46,19 +46,21 @@ class HostResources:
     def is_for_uplink(self, resource, node):
         interface = part(resource, "spec", "interfaceName")
         expected = texts(part(resource, "spec", "expectedIPs"))
-        return interface == self.uplink or not interface and any(it in self.cluster.nodes.get(node, []) for it in expected)
+        addresses = self.cluster.nodes.get(node, [])
+        return interface == self.uplink or not interface and any(it in addresses for it in expected)
 
     def failsafe_ports(self, node):
-        """The failsafe ports of a node: those of the FelixConfiguration of all nodes, then those of its own, else Felix's own."""
+        """The failsafe ports of a node: by the FelixConfiguration of all nodes, then by its own, else Felix's own."""
         told = dict(DEFAULTS)
         for name in ("default", "node." + node):
             for resource in self.configurations:
                 if part(resource, "metadata", "name") == name:
-                    told.update({key: ports_of(part(resource, "spec", key)) for key in DEFAULTS if part(resource, "spec", key) is not None})
+                    spec = members(part(resource, "spec"))
+                    told.update({key: ports_of(spec[key]) for key in DEFAULTS if spec.get(key) is not None})
         return told
 
     def failsafe_line(self, node, packet):
-        """The line of the ports that are failsafe for a packet: one with a net is it for other ends of this net alone."""
+        """The line of the ports that are failsafe for a packet: with a net one is it for ends of this net alone."""
         ports = self.failsafe_ports(node)
         other = packet["src"] if packet["direction"] == "in" else packet["dst"]
         made = {name: [{"protocol": protocol, "port": port} for protocol, port, net in ports[key] if is_in(other, net)]
@@ -75,11 +77,13 @@ def with_interface(resource, interface):
             if key in ("node", "expectedIPs", "profiles", "ports")}
     metadata = {key: value for key, value in members(part(resource, "metadata")).items()
                 if key in ("name", "labels") and value is not None}
-    return {"apiVersion": CALICO, "kind": "HostEndpoint", "metadata": metadata, "spec": dict(spec, interfaceName=interface)}
+    spec["interfaceName"] = interface
+    return {"apiVersion": CALICO, "kind": "HostEndpoint", "metadata": metadata, "spec": spec}
 
 
 def ports_of(entries):
-    return [(text_of(entry.get("protocol")).upper() or "TCP", entry.get("port"), text_of(entry.get("net"))) for entry in objects(entries)]
+    return [(text_of(entry.get("protocol")).upper() or "TCP", entry.get("port"), text_of(entry.get("net")))
+            for entry in objects(entries)]
 
 
 def is_in(address, net):

@@ -15,12 +15,13 @@ BESIDE = {
     ("gateway.networking.k8s.io/v1", "Gateway"), (CALICO, "HostEndpoint"), (CALICO, "FelixConfiguration"),
 }
 # The names that these kinds have, in whichever API they come, decide or are selected by what decides.
-DECIDING = {kind for _, kind in READ} | {"Pod", "AdminNetworkPolicy", "BaselineAdminNetworkPolicy", "ClusterNetworkPolicy"}
+OF_ADMINISTRATORS = {"AdminNetworkPolicy", "BaselineAdminNetworkPolicy", "ClusterNetworkPolicy"}
+DECIDING = {kind for _, kind in READ} | {"Pod"} | OF_ADMINISTRATORS
 CALICO_GROUPS = ("projectcalico.org", "crd.projectcalico.org")
 # Calico's own kinds that configure it and let no packet pass or stop it between pods.
 CALICO_WITHOUT_SAY = {
-    "BGPConfiguration", "BGPFilter", "BGPPeer", "BlockAffinity", "CalicoNodeStatus", "ClusterInformation", "FelixConfiguration",
-    "HostEndpoint", "IPAMBlock", "IPAMConfig", "IPAMConfiguration", "IPAMHandle", "IPPool", "IPReservation",
+    "BGPConfiguration", "BGPFilter", "BGPPeer", "BlockAffinity", "CalicoNodeStatus", "ClusterInformation",
+    "FelixConfiguration", "HostEndpoint", "IPAMBlock", "IPAMConfig", "IPAMConfiguration", "IPAMHandle", "IPPool", "IPReservation",
     "KubeControllersConfiguration", "Node",
 }
 # Policies that aren't about packets.

@@ -5,9 +5,12 @@ from felix_tools.verdicts import ALLOWED, UNKNOWN, Answer, Reason
 
 ITSELF = ": a pod reaches itself within its own network, so no policy is asked"
 OWN_POD = ": a node always reaches its own pods, as the kubelet's probes do, so no policy is asked"
-OWN_NODE = ("what a pod sends to its own node passes the node's INPUT and not FORWARD, where Calico asks the pod's policies for egress, and "
-            "then `defaultEndpointToHostAction` of its FelixConfiguration decides; that isn't modelled")
-ITSELF_BY_SERVICE = "a pod that reaches itself through a Service has its own address changed on the way; that isn't modelled"
+OWN_NODE = ("what a pod sends to its own node passes the node's INPUT and not FORWARD, where Calico asks the pod's "
+            "policies for egress, and then `defaultEndpointToHostAction` of its FelixConfiguration decides; that isn't modelled")
+ITSELF_BY_SERVICE = ("a pod that reaches itself through a Service has its own address changed on the way; that isn't "
+                     "modelled")
+OTHER_NODE = ("%s is an address of the node %s, and is taken as any other: for its own side ask by --%s-node %s. Where "
+              "nodes reach pods through a tunnel, its packets have the tunnel's address")
 
 
 def settled(question):
@@ -15,9 +18,9 @@ def settled(question):
     if is_to_itself(question):
         if question.service:
             return unknown(question, ITSELF_BY_SERVICE)
-        return Answer(question, ALLOWED, [reason("ingress", question.receiver, "itself", ITSELF)], list(question.notes))
+        return allowed(question, "itself", ITSELF)
     if is_own_node(question.receiver, question.sender):
-        return Answer(question, ALLOWED, [reason("ingress", question.receiver, "own-node", OWN_POD)], list(question.notes))
+        return allowed(question, "own-node", OWN_POD)
     if is_own_node(question.sender, question.receiver):
         return unknown(question, OWN_NODE)
     if is_node(question.sender) and is_node(question.receiver) and question.sender.node == question.receiver.node:
@@ -29,8 +32,9 @@ def unknown(question, cause):
     return Answer(question, UNKNOWN, [], list(question.notes), cause)
 
 
-def reason(direction, end, sort, words):
-    return Reason(direction, end.name, end.node, ALLOWED, sort, words)
+def allowed(question, sort, words):
+    end = question.receiver
+    return Answer(question, ALLOWED, [Reason("ingress", end.name, end.node, ALLOWED, sort, words)], list(question.notes))
 
 
 def is_own_node(pod, other):
@@ -46,7 +50,5 @@ def near_notes(question, cluster):
     for end in (question.sender, question.receiver):
         if is_outside(end):
             for node in cluster.nodes_at(end.address):
-                notes.append("%s is an address of the node %s, and is taken as any other: for its own side ask by --%s-node %s. Where nodes "
-                             "reach pods through a tunnel, its packets have the tunnel's address" % (
-                                 end.address, node, "from" if end == question.sender else "to", node))
+                notes.append(OTHER_NODE % (end.address, node, "from" if end == question.sender else "to", node))
     return notes

@@ -11,7 +11,8 @@ class Orders:
     """What whole numbers stand for the orders of these resources, with equal ones for equal orders."""
 
     def __init__(self, resources):
-        self.of_policies = whole_numbers([order_of(it) for it in resources if it.get("kind") in POLICIES], KUBERNETES_ORDER)
+        policies = [order_of(it) for it in resources if it.get("kind") in POLICIES]
+        self.of_policies = whole_numbers(policies, KUBERNETES_ORDER)
         self.of_tiers = whole_numbers([order_of(it) for it in resources if it.get("kind") == "Tier"], 0)
 
     def of(self, resource):
@@ -27,11 +28,13 @@ def order_of(resource):
 
 
 def is_number(value):
-    return isinstance(value, (int, float)) and not isinstance(value, bool) and (isinstance(value, int) or math.isfinite(value))
+    if isinstance(value, float):
+        return math.isfinite(value)
+    return isinstance(value, int) and not isinstance(value, bool)
 
 
 def whole_numbers(orders, fixed):
-    """Each order and its whole number: itself where all of them are whole, and else its rank, counted from one that stays."""
+    """Each order and its whole number: itself where all are whole, and else its rank, counted from one that stays."""
     values = {order for order in orders if is_number(order)}
     if all(is_whole(order) for order in values):
         return {order: int(order) for order in values}

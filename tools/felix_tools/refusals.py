@@ -25,12 +25,13 @@ WANTED = [
     (r"spec\.defaultAction", "Deny or Pass"),
     (r"(types|policyTypes)(\[\d+\])?", "a list of Ingress and Egress"),
     (r"metadata\.namespace", "a namespace: 1 to 63 of a-z, 0-9 and -"),
-    (r"(metadata\.name|spec\.node|spec\.tier|serviceAccountName|orchestrator|names\[\d+\]|profiles\[\d+\]|services\.name)",
+    (r"(metadata\.name|spec\.node|spec\.tier|serviceAccountName|orchestrator|(names|profiles)\[\d+\]|services\.name)",
      "a name: 1 to 253 of A-Z, a-z, 0-9, _, . and -"),
     (r"(labels|labelsToApply|matchLabels)(\..*)?", "labels: an object whose values are texts"),
     (r"action", "Allow, Deny, Log or Pass"),
     (r"ipVersion", "4 or 6"),
-    (r"(protocol|notProtocol)", "TCP, UDP, ICMP, ICMPv6, SCTP, UDPLite or a number from 1 to 255; of Kubernetes TCP, UDP or SCTP"),
+    (r"(protocol|notProtocol)",
+     "TCP, UDP, ICMP, ICMPv6, SCTP, UDPLite or a number from 1 to 255; of Kubernetes TCP, UDP or SCTP"),
     (r"(nets|notNets|ipNetworks|except)\[\d+\]|cidr", "a net, as 10.0.0.0/8"),
     (r"(ports|notPorts)\[\d+\](\.port)?", "a port: a number, a range as 8000:8080, or a port's name"),
     (r"icmp\.type|notICMP\.type", "a number from 0 to 254"),
@@ -38,14 +39,16 @@ WANTED = [
     (r"interfaceName", "an interface of 1 to 15 letters, a workload's begins with cali"),
     (r"(doNotTrack|preDNAT|applyOnForward)", "true or false"),
     (r"(selector|notSelector|namespaceSelector|serviceAccountSelector)", "a text: a selector"),
-    (r"(ingress|egress|from|to|ports|nets|notNets|notPorts|profiles|ipNetworks|except|names|matchExpressions)", "a list"),
-    (r"(spec|metadata|source|destination|icmp|notICMP|podSelector|ipBlock|serviceAccounts|services|\w+\[\d+\])", "an object"),
+    (r"(ingress|egress|from|to|ports|nets|notNets|notPorts|profiles|ipNetworks|except|names|matchExpressions)",
+     "a list"),
+    (r"(spec|metadata|source|destination|icmp|notICMP|podSelector|ipBlock|serviceAccounts|services|\w+\[\d+\])",
+     "an object"),
 ]
 SHOWN = 40
 
 
 def fault_words(refusal, written):
-    """The fault, its place and what is wanted there: `BadField at spec.order (a number is wanted there, and not "ten")`."""
+    """The fault, its place and what is wanted: `BadField at spec.order (a number is wanted there, and not "ten")`."""
     where = " at %s" % refusal.rest if refusal.rest and refusal.name != "Taken" else ""
     return "%s%s (%s)" % (refusal.name, where, why_words(refusal, written))
 

@@ -4,10 +4,10 @@ from felix_tools.cluster import NODE_FRONT, UnknownEnd
 from felix_tools.questions import QuestionError, is_node, is_outside, question
 from felix_tools.reading import is_address, part
 
-MASQUERADE = ("the Service's traffic policy is Cluster, so a node that forwards to another node's pod puts its own address in the "
-              "client's place: ask with --from-address NODE'S-ADDRESS too")
-NODE_PORT = ("a node port is translated before the node's INPUT, and the packet is forwarded: the Service's pods are asked, and no host "
-             "endpoint's policy, of which those with preDNAT or applyOnForward would meet it")
+MASQUERADE = ("the Service's traffic policy is Cluster, so a node that forwards to another node's pod puts its own "
+              "address in the client's place: ask with --from-address NODE'S-ADDRESS too")
+NODE_PORT = ("a node port is translated before the node's INPUT, and the packet is forwarded: the Service's pods are "
+             "asked, and no host endpoint's policy, of which those with preDNAT or applyOnForward would meet it")
 
 
 def resolve(wish, cluster):
@@ -27,14 +27,14 @@ def resolved(wish, cluster):
         return through
     receivers = cluster.ends(wish.receiver)
     is_one = len(senders) == len(receivers) == 1
-    return [question(a, b, wish) for a in senders for b in receivers if (a != b or is_one) and not (is_outside(a) and is_outside(b))]
+    pairs = [(a, b) for a in senders for b in receivers if not (is_outside(a) and is_outside(b))]
+    return [question(a, b, wish) for a, b in pairs if a != b or is_one]
 
 
 def senders_of(wish, cluster):
     found = service_here(wish.sender, cluster)
     if found:
-        raise QuestionError("%s is the %s of the Service %s, which sends nothing: its pods send from their own addresses" % (
-            found.address, found.what, found.name))
+        raise QuestionError("%s, which sends nothing: its pods send from their own addresses" % services.told_as(found))
     return cluster.ends(wish.sender)
 
 
@@ -46,7 +46,7 @@ def service_here(text, cluster):
 
 
 def service_questions(wish, cluster, senders):
-    """The questions to the pods behind a Service, where the receiver is one of its addresses or a node port; else None."""
+    """The questions to the pods behind a Service, where the receiver is an address of it or a node port; else None."""
     found = service_here(wish.receiver, cluster)
     if found:
         return questions_to(wish, cluster, senders, found)
@@ -71,7 +71,8 @@ def questions_to_node_port(wish, cluster, senders):
         return None
     node = cluster.node_end(wish.receiver[len(NODE_FRONT):])
     resource, entry = found
-    title = "the node port of the Service %s (node %s, %s)" % (services.name_of_service(resource), node.node, wish.traffic.words)
+    name = services.name_of_service(resource)
+    title = "the node port of the Service %s (node %s, %s)" % (name, node.node, wish.traffic.words)
     return through(wish, cluster, senders, resource, entry, title, [NODE_PORT] + masquerade_notes(resource))
 
 

@@ -6,6 +6,8 @@ from felix_tools.questions import PORT_PROTOCOLS, QuestionError, Traffic
 from felix_tools.reading import objects, part, texts
 
 SERVICE_LABEL = "kubernetes.io/service-name"
+PROXY = ("%s is the address of the %s %s, whose proxy ends the connection and opens one of its own: ask from the address "
+         "to the proxy's pods, and from these to the pods behind it")
 # A Service at one of its addresses: what that address is to it, and the resource.
 Found = collections.namedtuple("Found", "name address what resource")
 # A pod (or another end) behind a Service, and the traffic that comes to it.
@@ -22,7 +24,8 @@ def addresses_of(resource):
     balanced = [part(resource, "spec", "loadBalancerIP")] + ingress_addresses(resource)
     rows = [(address, "cluster IP") for address in cluster]
     rows += [(address, "external IP") for address in texts(part(resource, "spec", "externalIPs"))]
-    return [(text_of(address), what) for address, what in rows + [(it, "load balancer's address") for it in balanced] if address]
+    rows += [(address, "load balancer's address") for address in balanced]
+    return [(text_of(address), what) for address, what in rows if address]
 
 
 def ingress_addresses(resource):
@@ -42,11 +45,9 @@ def refuse_proxy(cluster, address):
     """That an end is no address of an Ingress or a Gateway, where a proxy ends each connection."""
     for kind in ("Ingress", "Gateway"):
         for resource in cluster.of_kind(kind):
-            own = ingress_addresses(resource) + [it.get("value") for it in objects(part(resource, "status", "addresses"))]
-            if address in own:
-                raise QuestionError(
-                    "%s is the address of the %s %s, whose proxy ends the connection and opens one of its own: ask from the address "
-                    "to the proxy's pods, and from these to the pods behind it" % (address, kind, name_of_service(resource)))
+            own = [it.get("value") for it in objects(part(resource, "status", "addresses"))]
+            if address in ingress_addresses(resource) + own:
+                raise QuestionError(PROXY % (address, kind, name_of_service(resource)))
 
 
 def service_of_node_port(cluster, traffic):
@@ -69,12 +70,11 @@ def port_of(found, traffic):
         if entry.get("port") == traffic.members.get("dport") and protocol_of(entry) == traffic.members["proto"]:
             return entry
     told = ", ".join("%s %s" % (protocol_of(entry), entry.get("port")) for entry in entries) or "no port"
-    raise QuestionError("%s is the %s of the Service %s, which answers %s and not %s" % (
-        found.address, found.what, found.name, told, traffic.words))
+    raise QuestionError("%s, which answers %s and not %s" % (told_as(found), told, traffic.words))
 
 
 def behind(cluster, resource, entry, traffic):
-    """What stands behind a port of a Service: by its EndpointSlices, and where the input has none of it by its selector."""
+    """What stands behind a port of a Service: by its EndpointSlices, and where there are none by its selector."""
     slices = [it for it in cluster.of_kind("EndpointSlice") if is_slice_of(it, resource)]
     found = behind_slices(cluster, slices, entry, traffic) if slices else selected(cluster, resource, entry, traffic)
     if not found:
@@ -85,16 +85,18 @@ def behind(cluster, resource, entry, traffic):
 
 def is_slice_of(it, resource):
     names = part(resource, "metadata", "namespace"), part(resource, "metadata", "name")
-    return (part(it, "metadata", "namespace"), part(it, "metadata", "labels", SERVICE_LABEL)) == names and it.get("addressType") == "IPv4"
+    of = part(it, "metadata", "namespace"), part(it, "metadata", "labels", SERVICE_LABEL)
+    return of == names and it.get("addressType") == "IPv4"
 
 
 def behind_slices(cluster, slices, entry, traffic):
     found = []
     for it in slices:
-        ports = [port for port in objects(it.get("ports")) if (port.get("name") or "") == (entry.get("name") or "")]
+        named = [port for port in objects(it.get("ports")) if (port.get("name") or "") == (entry.get("name") or "")]
+        numbers = [port["port"] for port in named if isinstance(port.get("port"), int)]
         ready = [end for end in objects(it.get("endpoints")) if part(end, "conditions", "ready") is not False]
-        found += [Behind(cluster.end_at(text_of(address)), to_port(traffic, port.get("port")))
-                  for port in ports if isinstance(port.get("port"), int) for end in ready for address in texts(end.get("addresses"))]
+        addresses = [address for end in ready for address in texts(end.get("addresses"))]
+        found += [Behind(cluster.end_at(address), to_port(traffic, number)) for number in numbers for address in addresses]
     return list({(repr(one.end), one.traffic.words): one for one in found}.values())
 
 
@@ -110,12 +112,14 @@ def selected(cluster, resource, entry, traffic):
 
 
 def target_of(pod, entry):
-    """The number of the pod's port that a port of a Service leads to, or None where the pod has no port of that name."""
+    """The number of the pod's port that a Service's port leads to, or None where the pod has no port of that name."""
     target = entry.get("targetPort") or entry.get("port")
     if isinstance(target, int):
         return target
-    named = [port.get("port") for port in pod.ports if port.get("name") == target and protocol_of(port) == protocol_of(entry)]
-    return named[0] if named else None
+    for port in pod.ports:
+        if port.get("name") == target and protocol_of(port) == protocol_of(entry):
+            return port.get("port")
+    return None
 
 
 def to_port(traffic, number):
@@ -129,4 +133,8 @@ def title_of(found, traffic):
 
 def check_ports(found, traffic):
     if traffic.members["proto"] not in PORT_PROTOCOLS:
-        raise QuestionError("%s is the %s of the Service %s, which answers its ports alone" % (found.address, found.what, found.name))
+        raise QuestionError("%s, which answers its ports alone" % told_as(found))
+
+
+def told_as(found):
+    return "%s is the %s of the Service %s" % (found.address, found.what, found.name)

@@ -1,5 +1,5 @@
-"""An answer as a value: what was asked, the verdict, why on each side, and what is to be said beside it. How answers are printed
-stands in words.py and matrix.py."""
+"""An answer as a value: what was asked, the verdict, why on each side, and what is to be said beside it. How answers are
+printed stands in words.py and matrix.py."""
 import dataclasses
 
 from felix_tools.cluster import Cluster
@@ -20,8 +20,8 @@ class Reason:
     end: str
     node: str
     verdict: str
-    # What decided: the first word of the program's reason, or `own-node`, `itself`, `not-modelled` where none was asked for;
-    # `none` where the program names no reason.
+    # What decided: the first word of the program's reason, or `own-node` and `itself` where no program was asked; `none`
+    # where it names no reason, and `open` where no host endpoint guards the node.
     sort: str
     words: str  # a sentence's end, behind the verdict
     is_met: bool = True  # whether the packet comes to this side at all
@@ -30,7 +30,7 @@ class Reason:
     tier: str = ""
     place: str = ""  # where the rule stands in its resource, as `ingress[1] (from[0], TCP)`
     rule: object = None  # the rule as it was written
-    policies: list = dataclasses.field(default_factory=list)  # ids of those that apply and don't decide, where a tier ends
+    policies: list = dataclasses.field(default_factory=list)  # ids of those that apply, where a tier's end decides
     way: list = dataclasses.field(default_factory=list)  # (chain, place, rule of the tables) of each step
 
     @property
@@ -94,7 +94,8 @@ def answer_of(result, cluster: Cluster):
 def reason_of(side, cluster):
     """A side's reason as a value."""
     sort, *words = side.reason or ["none"]
-    made = Reason(side.direction, side.end.name, side.node, word_of(side.is_allowed), sort, "", side.is_met, way=way_of(side))
+    verdict = word_of(side.is_allowed)
+    made = Reason(side.direction, side.end.name, side.node, verdict, sort, "", side.is_met, way=way_of(side))
     fill = FILLED.get(sort)
     if fill:
         fill(made, side, cluster, *words)
@@ -185,7 +186,8 @@ def fill_no_profile_rule(made, side, cluster):
 
 
 def fill_unknown_interface(made, side, cluster):
-    made.words = ": the node %s has no endpoint at the interface %s; is its resource refused?" % (side.node, side.end.interface)
+    made.words = ": the node %s has no endpoint at the interface %s; is its resource refused?" % (
+        side.node, side.end.interface)
 
 
 FILLED = {
