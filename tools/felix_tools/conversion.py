@@ -127,7 +127,7 @@ class Conversion:
         key = self.key_here(change.resource)
         before = self.origins.get(key)
         if change.action == "delete":
-            if before is None:
+            if before is None and kind_of(change.resource) in READ | {("v1", "Pod")}:
                 self.mistakes.append("%s (%s) is deleted, and isn't there" % (display_name(change.resource), change.origin))
             self.origins.pop(key, None)
             return

@@ -55,7 +55,7 @@ class Version:
         for wish in wishes:
             try:
                 questions += self.inquiry.questions([wish])
-            except UnknownEnd as fault:
+            except (UnknownEnd, QuestionError) as fault:
                 self.missing.append(str(fault))
         for answer in self.inquiry.answers(questions):
             self.answers[answer.key] = answer

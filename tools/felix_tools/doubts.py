@@ -2,6 +2,8 @@
 
 Whether a policy that was refused would apply to an end the program says: it is asked again, with a policy of the same
 selectors and types and without the rules that it doesn't read."""
+import concurrent.futures
+
 from felix_tools import program
 from felix_tools.answers import Answers
 from felix_tools.conversion import Line, Unread, display_name, input_of, is_for_hosts, key_of, kind_of
@@ -33,6 +35,15 @@ class Doubts:
         self.misread = misread
         self.stand_ins = {id(line): stand_in(line) for line, _ in self.refused if kind_of(line.resource) in SORTS}
         self.applying = {}
+
+    def prepare(self, questions):
+        """Asks for the nodes of these questions, several side by side, where a refused policy may apply to their pods."""
+        ends = [end for question in questions for end in (question.sender, question.receiver)]
+        policies = [made.resource for made in self.stand_ins.values()]
+        nodes = list(dict.fromkeys(end.node for end in ends if not is_outside(end) and not is_node(end)
+                                   and any(may_be_of(policy, end) for policy in policies)))
+        with concurrent.futures.ThreadPoolExecutor(max_workers=4) as pool:
+            self.applying.update(zip(nodes, pool.map(self.run, nodes)))
 
     def of(self, result):
         """What may apply to the ends of a result and change its verdict: nothing where a side that is known denies."""
@@ -73,21 +84,18 @@ class Doubts:
     def would_apply(self, line, direction, end):
         if not may_be_of(line.resource, end):
             return False
-        answers, unread = self.run(end.node)
+        answers, unread = self.applying[end.node]
         if id(line) in unread:
             return True
         return id_of(line.resource) in applying(answers, direction, end)
 
     def run(self, node):
         """What the program answers for a node with the policies that stand in, and which of these it refused, too."""
-        if node not in self.applying:
-            lines = self.asking.lines + [made for made in self.stand_ins.values()]
-            path = self.asking.paths.of(self.asking.forwarding)
-            answers = Answers(program.run(path, node, input_of(lines)))
-            first = len(self.asking.lines)
-            numbers = {refusal.line - first - 1 for refusal in answers.refusals if refusal.line > first}
-            self.applying[node] = answers, {key for place, key in enumerate(self.stand_ins) if place in numbers}
-        return self.applying[node]
+        first = len(self.asking.lines)
+        path = self.asking.paths.of(self.asking.forwarding)
+        answers = Answers(program.run(path, node, input_of(self.asking.lines + list(self.stand_ins.values()))))
+        numbers = {refusal.line - first - 1 for refusal in answers.refusals if refusal.line > first}
+        return answers, {key for place, key in enumerate(self.stand_ins) if place in numbers}
 
     def tiers(self, direction, end):
         served = self.asking.served(end)

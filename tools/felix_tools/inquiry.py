@@ -44,11 +44,12 @@ class Inquiry:
 
     def answers(self, questions):
         """An answer for each question, in their order."""
-        known = {place: settled(question) for place, question in enumerate(questions)}
+        known = {place: settled(question, self.cluster) for place, question in enumerate(questions)}
         asked = [question for place, question in enumerate(questions) if known[place] is None]
         results = iter(self.asking.ask(asked))
         standing = self.cluster_of(standing_lines(self.asking.lines, self.asking.refusals()))
         doubts = Doubts(self.asking, self.conversion.unread, self.misread, self.host_policies)
+        doubts.prepare(asked)
         return [known[place] or self.answer(next(results), standing, doubts) for place in range(len(questions))]
 
     def answer(self, result, standing, doubts):
