@@ -13,7 +13,7 @@ class Orders:
     def __init__(self, resources):
         policies = [order_of(it) for it in resources if it.get("kind") in POLICIES]
         self.of_policies = whole_numbers(policies, KUBERNETES_ORDER)
-        self.of_tiers = whole_numbers([order_of(it) for it in resources if it.get("kind") == "Tier"], 0)
+        self.of_tiers = whole_numbers([order_of(it) for it in resources if it.get("kind") == "Tier"])
 
     def of(self, resource):
         """The whole number for a resource's order; what is no number stays."""
@@ -33,14 +33,21 @@ def is_number(value):
     return isinstance(value, int) and not isinstance(value, bool)
 
 
-def whole_numbers(orders, fixed):
-    """Each order and its whole number: itself where all are whole, and else its rank, counted from one that stays."""
-    values = {order for order in orders if is_number(order)}
+def whole_numbers(orders, fixed=None):
+    """Each order and its whole number, which is itself where all of them are whole. Else the numbers compare as the
+    orders do, also with the one that is fixed, and an order that is whole and has room beside it stays."""
+    values = sorted({order for order in orders if is_number(order)})
     if all(is_whole(order) for order in values):
         return {order: int(order) for order in values}
-    ranks = sorted(values | {fixed})
-    zero = ranks.index(fixed)
-    return {order: fixed + place - zero for place, order in enumerate(ranks)}
+    made = {} if fixed is None else {fixed: fixed}
+    least, most = LEAST + len(values), MOST - len(values)
+    last = fixed
+    for order in reversed([order for order in values if fixed is not None and order < fixed]):
+        made[order] = last = min(last - 1, max(math.ceil(order), least))
+    last = least - 1 if fixed is None else fixed
+    for order in (order for order in values if fixed is None or order > fixed):
+        made[order] = last = max(last + 1, min(math.floor(order), most))
+    return made
 
 
 def is_whole(order):

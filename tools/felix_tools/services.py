@@ -2,7 +2,7 @@
 import collections
 
 from felix_tools.conversion import text_of
-from felix_tools.questions import PORT_PROTOCOLS, QuestionError, Traffic
+from felix_tools.questions import PORT_PROTOCOLS, QuestionError, Traffic, is_outside
 from felix_tools.reading import objects, part, texts
 
 SERVICE_LABEL = "kubernetes.io/service-name"
@@ -96,8 +96,15 @@ def behind_slices(cluster, slices, entry, traffic):
         numbers = [port["port"] for port in named if isinstance(port.get("port"), int)]
         ready = [end for end in objects(it.get("endpoints")) if part(end, "conditions", "ready") is not False]
         addresses = [address for end in ready for address in texts(end.get("addresses"))]
-        found += [Behind(cluster.end_at(address), to_port(traffic, number)) for number in numbers for address in addresses]
+        ends = [end_behind(cluster, address) for address in addresses]
+        found += [Behind(end, to_port(traffic, number)) for number in numbers for end in ends]
     return list({(repr(one.end), one.traffic.words): one for one in found}.values())
+
+
+def end_behind(cluster, address):
+    """The pod that has an address, or its node where the pod is on the host's network."""
+    end, nodes = cluster.end_at(address), cluster.nodes_at(address)
+    return cluster.node_end(nodes[0]) if nodes and is_outside(end) else end
 
 
 def selected(cluster, resource, entry, traffic):

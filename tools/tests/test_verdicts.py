@@ -28,24 +28,34 @@ class Orders(unittest.TestCase):
         self.assertEqual(whole_numbers([100.0, 1e6, 3, -7.0], 1000), {100: 100, 1e6: 1000000, 3: 3, -7: -7})
 
     def test_others_keep_how_they_compare_also_with_kubernetes_own(self):
-        rows = [[10.5, 10, 11, 1e6, -0.25], [0.1, 0.2, 0.30000000000000004, 0.3], [999.5, 1000, 1000.0, 1000.5], [1e300, -1e300, 5], [2.5, 2.5]]
+        rows = [[10.5, 10, 11, 1e6, -0.25], [0.1, 0.2, 0.30000000000000004, 0.3], [999.5, 1000, 1000.0, 1000.5], [2.5, 2.5],
+                [1e300, -1e300, 5], [998.5, 999, 999.5, 999.75], [2 ** 63, 2 ** 63 - 1, -2 ** 63, 0.5]]
         for orders in rows:
-            numbers = whole_numbers(orders, 1000)
-            self.assertTrue(all(isinstance(number, int) for number in numbers.values()))
-            compared = [numbers.get(order, order) for order in orders] + [1000]
-            for a, first in zip(orders + [1000], compared):
-                for b, second in zip(orders + [1000], compared):
-                    self.assertEqual((a < b, a == b), (first < second, first == second), (a, b))
+            for fixed in (1000, None):
+                self.compare(orders, fixed)
+
+    def compare(self, orders, fixed):
+        numbers = whole_numbers(orders, fixed)
+        self.assertTrue(all(isinstance(number, int) and -2 ** 63 <= number < 2 ** 63 for number in numbers.values()), orders)
+        known = orders + [fixed] * (fixed is not None)
+        for a in known:
+            for b in known:
+                first, second = numbers[a], numbers[b]
+                self.assertEqual((a < b, a == b), (first < second, first == second), (a, b, fixed))
+
+    def test_a_whole_order_with_room_stays(self):
+        self.assertEqual(whole_numbers([10, 10.5, 11, 20, 1200.5, 1300], 1000),
+                         {10: 9, 10.5: 10, 11: 11, 20: 20, 1000: 1000, 1200.5: 1200, 1300: 1300})
 
     def test_lines_have_whole_numbers_and_keep_what_is_no_number(self):
         rows = [policy(CALICO, "a", {"order": 1.5}), policy(CALICO, "b", {"order": "ten"}), policy(CALICO, "c", {"order": None}), policy(CALICO, "d", {"order": True})]
         found = [line.resource["spec"]["order"] for line in converted(*[("put", row, "f") for row in rows]).lines]
-        self.assertEqual(found, [999, "ten", None, True])
+        self.assertEqual(found, [2, "ten", None, True])
 
     def test_tiers_count_by_themselves(self):
         tiers = [{"apiVersion": CALICO, "kind": "Tier", "metadata": {"name": name}, "spec": {"order": order}} for name, order in (("a", 2.5), ("b", 2.25))]
         found = [line.resource["spec"]["order"] for line in converted(*[("put", tier, "f") for tier in tiers]).lines]
-        self.assertEqual(found, [2, 1])
+        self.assertEqual(found, [3, 2])
 
 
 class Kinds(unittest.TestCase):
