@@ -23,7 +23,7 @@ whether the packet leaves, and the receiver's whether it enters. The packet open
 
 Status: 0 allowed, 1 denied (of several questions: some is), 2 the question or a file can't be read, 3 some answer isn't known, as
 a resource that may apply to it was refused or isn't read, or the packet's way isn't modelled, 4 the program didn't run to its
-end, 5 the answer couldn't be written."""
+end, 5 the answer can't be written."""
 
 
 def main(words):

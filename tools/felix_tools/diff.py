@@ -24,7 +24,7 @@ What kubectl would refuse is no change, and is told in its place: what is delete
 isn't there.
 
 Status: 0 no verdict changes, 1 some does, 2 a question, a file or a change can't be read, 3 some verdict isn't known, as a resource
-that may apply to it was refused or isn't read, 4 the program didn't run to its end, 5 the answer couldn't be written."""
+that may apply to it was refused or isn't read, 4 the program didn't run to its end, 5 the answer can't be written."""
 
 
 def main(words):

@@ -19,7 +19,7 @@ Pods become workload endpoints, as Calico makes them, and orders whole numbers t
 left out, kind by kind, what stands in two files, and what kubectl would refuse.
 Whether a resource is accepted the program says, and not this tool.
 
-Status: 0 done, 2 some file or word can't be read, 5 the lines couldn't be written."""
+Status: 0 done, 2 some file or word can't be read, 5 the lines can't be written."""
 
 
 def main(words):
