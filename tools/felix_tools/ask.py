@@ -21,9 +21,9 @@ Asks the proved program whether a packet may go from one end to another, and say
 Files are those of tools/lines, or what it wrote. Where two pods run on two nodes, the sender's node is asked
 whether the packet leaves, and the receiver's whether it enters. The packet opens a connection.
 
-Status: 0 allowed, 1 denied (of several questions: some is), 2 the question or a file can't be read, 3 some answer isn't known, as
-a resource that may apply to it was refused or isn't read, or the packet's way isn't modelled, 4 the program didn't run to its
-end, 5 the answer can't be written."""
+Status: 0 allowed, 1 denied (of several questions: some is), 2 the question or a file can't be read,
+3 some verdict isn't known, as a resource that may apply was refused or isn't read, or the packet's way isn't
+modelled, 4 a program didn't run to its end, 5 the answer can't be written."""
 
 
 def main(words):

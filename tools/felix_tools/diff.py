@@ -20,11 +20,12 @@ Without --from and --to all pairs of pods are asked about. In `--after` a resour
 one of the last file, so a change is the cluster's file and behind it what is applied to it. To delete something give a
 line {"delete": RESOURCE}.
 
-What kubectl would refuse is no change, and is told in its place: what is deleted and isn't there, and a policy of a namespace that
-isn't there.
+What kubectl would refuse is no change, and is told in its place: what is deleted and isn't there, and a policy
+of a namespace that isn't there.
 
-Status: 0 no verdict changes, 1 some does, 2 a question, a file or a change can't be read, 3 some verdict isn't known, as a resource
-that may apply to it was refused or isn't read, 4 the program didn't run to its end, 5 the answer can't be written."""
+Status: 0 no verdict changes, 1 some does, 2 a question, a file or the change can't be read, 3 some verdict isn't
+known, as a resource that may apply was refused or isn't read, 4 a program didn't run to its end, 5 the answer
+can't be written."""
 
 
 def main(words):

@@ -15,8 +15,8 @@ Writes what kubectl and calicoctl print as lines for felix-replay, with `inSync`
   tools/lines cluster.json global.json > lines.jsonl
 
 A file holds JSON: lists, single resources, several of them, or lines that were made before. YAML isn't read.
-Pods become workload endpoints, as Calico makes them, and orders whole numbers that compare alike. Told on standard error is what is
-left out, kind by kind, what stands in two files, and what kubectl would refuse.
+Pods become workload endpoints, as Calico makes them, and orders whole numbers that compare alike. Told on
+standard error is what is left out, kind by kind, what stands in two files, and what kubectl would refuse.
 Whether a resource is accepted the program says, and not this tool.
 
 Status: 0 done, 2 some file or word can't be read, 5 the lines can't be written."""
