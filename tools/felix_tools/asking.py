@@ -20,9 +20,11 @@ Run = collections.namedtuple("Run", "node is_host")
 class Asking:
     """The programs, the lines that they are given, and the questions whose packets are put to them, node by node."""
 
-    def __init__(self, paths, lines, uplink, with_tables=False, with_each_side=False, host=None, forwarding=program.REPLAY):
+    def __init__(self, paths, lines, uplink, with_tables=False, with_each_side=False, host=None, peers=(),
+                 forwarding=program.REPLAY):
         self.paths = paths
         self.lines = lines
+        self.forwarded_lines = list(peers) + lines
         self.uplink = uplink
         self.with_tables = with_tables
         self.with_each_side = with_each_side
@@ -95,7 +97,7 @@ class Asking:
 
     def lines_of(self, run):
         """The lines that a run is given, in their order."""
-        return self.host_lines(run) if run.is_host else self.lines
+        return self.host_lines(run) if run.is_host else self.forwarded_lines
 
     def count(self, run):
         return len(self.lines_of(run))
@@ -137,14 +139,14 @@ class Asking:
         answers = self.answers.get(run_of(end))
         return answers.endpoints.get(end.interface) if answers else None
 
-    def refusals(self):
-        """(line, refusal) of each refused line, and of the first run that refused it."""
+    def refusals(self, is_host=False):
+        """(line, refusal) of each line that one of the two programs refused, and of the first run of it that did."""
         refused = collections.OrderedDict()
         for run, answers in self.answers.items():
             lines = self.lines_of(run)
-            for refusal in answers.refusals:
+            for refusal in answers.refusals if run.is_host == is_host else ():
                 if refusal.line <= len(lines):
-                    refused.setdefault(id(lines[refusal.line - 1]), (lines[refusal.line - 1], refusal))
+                    refused.setdefault(id(lines[refusal.line - 1].written), (lines[refusal.line - 1], refusal))
         places = {id(line): place for place, line in enumerate(self.lines)}
         return sorted(refused.values(), key=lambda pair: places.get(id(pair[0]), -1))
 

@@ -30,10 +30,11 @@ class Doubts:
         self.asking = asking
         why = "a policy with %s isn't read"
         self.host_policies = [Unread(it.written, it.origin, why % only_host_field(it.written)) for it in host_policies]
-        self.refused = [(line, refusal) for line, refusal in asking.refusals() if line.action == "put"]
+        self.refused = {is_host: [(line, refusal) for line, refusal in asking.refusals(is_host) if line.action == "put"]
+                        for is_host in (False, True)}
         self.unread = unread
         self.misread = misread
-        self.stand_ins = {id(line): stand_in(line) for line, _ in self.refused if kind_of(line.resource) in SORTS}
+        self.stand_ins = {id(line): stand_in(line) for line, _ in self.refused[False] if kind_of(line.resource) in SORTS}
         self.applying = {}
 
     def prepare(self, questions):
@@ -58,7 +59,7 @@ class Doubts:
 
     def of_end(self, direction, end):
         refused = [Doubt(display_name(line.written), line.origin, fault_words(refusal, line.written))
-                   for line, refusal in self.refused if self.may_apply(line, direction, end)]
+                   for line, refusal in self.refused[is_node(end)] if self.may_apply(line, direction, end)]
         unread = [doubt_of(it) for it in self.unread if may_be_of(it.resource, end)]
         misread = [doubt_of(it) for it in self.misread if self.is_misread_for(it, direction, end)]
         for_hosts = [doubt_of(it) for it in self.host_policies if self.is_guarded(end)]
@@ -91,9 +92,10 @@ class Doubts:
 
     def run(self, node):
         """What the program answers for a node with the policies that stand in, and which of these it refused, too."""
-        first = len(self.asking.lines)
+        lines = self.asking.forwarded_lines
+        first = len(lines)
         path = self.asking.paths.of(self.asking.forwarding)
-        answers = Answers(program.run(path, node, input_of(self.asking.lines + list(self.stand_ins.values()))))
+        answers = Answers(program.run(path, node, input_of(lines + list(self.stand_ins.values()))))
         numbers = {refusal.line - first - 1 for refusal in answers.refusals if refusal.line > first}
         return answers, {key for place, key in enumerate(self.stand_ins) if place in numbers}
 

@@ -72,6 +72,21 @@ def name_of(change):
     return text_of(part(change.resource, "metadata", "name"))
 
 
+def peer_lines(changes):
+    """The lines by which selectors in rules of pods find host endpoints, as network sets of their labels and addresses."""
+    endpoints = [change for change in changes if change.resource.get("kind") == "HostEndpoint"]
+    return [Line("put", network_set_of(it.resource), it.resource, it.origin) for it in endpoints]
+
+
+def network_set_of(resource):
+    """A global network set that a selector finds where it finds this host endpoint. No resource has a name of capitals."""
+    metadata = {"name": "HostEndpoint.%s" % part(resource, "metadata", "name")}
+    if part(resource, "metadata", "labels") is not None:
+        metadata["labels"] = part(resource, "metadata", "labels")
+    nets = texts(part(resource, "spec", "expectedIPs"))
+    return {"apiVersion": CALICO, "kind": "GlobalNetworkSet", "metadata": metadata, "spec": {"nets": nets}}
+
+
 def with_interface(resource, interface):
     spec = {key: value for key, value in members(part(resource, "spec")).items()
             if key in ("node", "expectedIPs", "profiles", "ports")}

@@ -2,9 +2,9 @@
 from felix_tools import program
 from felix_tools.asking import Asking
 from felix_tools.cluster import Cluster, standing_lines
-from felix_tools.conversion import convert, services_lines
-from felix_tools.doubts import Doubts, host_policies, host_policy_text, without_host_policies
-from felix_tools.host import HostResources
+from felix_tools.conversion import convert, kind_of, services_lines
+from felix_tools.doubts import NAMESPACED, Doubts, host_policies, host_policy_text, without_host_policies
+from felix_tools.host import HostResources, peer_lines
 from felix_tools.nearby import near_notes, settled
 from felix_tools.questions import is_node, is_outside
 from felix_tools.reading import part
@@ -23,7 +23,7 @@ class Inquiry:
         self.host_policies = host_policies(self.conversion.lines)
         self.asking = Asking(paths or program.Paths(options.program), self.lines(), options.uplink,
                              with_tables=getattr(options, "path", False) or bool(getattr(options, "raw", None)),
-                             with_each_side=with_each_side, host=self.host_resources(),
+                             with_each_side=with_each_side, host=self.host_resources(), peers=self.peers,
                              forwarding=program.SERVICES if self.slices is not None else program.REPLAY)
 
     def cluster_of(self, lines):
@@ -33,11 +33,13 @@ class Inquiry:
         return HostResources(self.cluster, list(self.conversion.beside.values()), self.options.uplink)
 
     def lines(self):
-        """The lines that the programs are given; with those of slices where some rule names a Service."""
+        """The lines that all programs are given; and as `peers` those that only rules of pods find: host endpoints, and
+        slices where some rule names a Service."""
         lines = without_host_policies(self.conversion.lines)
         self.slices, without_slices = services_lines(lines, self.conversion.beside.values())
+        self.peers = peer_lines(self.conversion.beside.values()) + (self.slices or [])
         self.misread = self.conversion.unknown_fields + without_slices
-        return lines if self.slices is None else self.slices + lines
+        return lines
 
     def questions(self, wishes):
         return [question for wish in wishes for question in resolve(wish, self.cluster)]
@@ -47,7 +49,8 @@ class Inquiry:
         known = {place: settled(question, self.cluster) for place, question in enumerate(questions)}
         asked = [question for place, question in enumerate(questions) if known[place] is None]
         results = iter(self.asking.ask(asked))
-        standing = self.cluster_of(standing_lines(self.asking.lines, self.asking.refusals()))
+        standing = {is_host: self.cluster_of(standing_lines(self.asking.lines, self.asking.refusals(is_host)))
+                    for is_host in (False, True)}
         doubts = Doubts(self.asking, self.conversion.unread, self.misread, self.host_policies)
         doubts.prepare(asked)
         return [known[place] or self.answer(next(results), standing, doubts) for place in range(len(questions))]
@@ -75,7 +78,11 @@ class Inquiry:
     # ---- what is to be said of the resources, whatever was asked
 
     def refusals(self):
-        return self.asking.refusals()
+        """What was refused: by the program for pods, and what may apply to a node's processes by that for these."""
+        refused = self.asking.refusals()
+        known = {id(line.written) for line, _ in refused}
+        return refused + [(line, refusal) for line, refusal in self.asking.refusals(True)
+                          if id(line.written) not in known and kind_of(line.resource) not in NAMESPACED]
 
     def host_policy_texts(self):
         return [host_policy_text(line) for line in self.host_policies]

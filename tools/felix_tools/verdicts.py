@@ -2,7 +2,6 @@
 printed stands in words.py and matrix.py."""
 import dataclasses
 
-from felix_tools.cluster import Cluster
 from felix_tools.conversion import kind_of
 from felix_tools.kinds import CALICO
 from felix_tools.questions import Question, is_node, name_of
@@ -85,9 +84,9 @@ def policy_name(policy_id):
     return "%s %s" % (POLICY_KINDS.get(sort, sort), name)
 
 
-def answer_of(result, cluster: Cluster):
-    """The answer that a result of the program is, with its rules as the resources of this cluster have them."""
-    reasons = [reason_of(side, cluster) for side in result.sides]
+def answer_of(result, clusters):
+    """The answer that a result is, with its rules as the resources have them: those that stand for nodes, and for pods."""
+    reasons = [reason_of(side, clusters[is_node(side.end)]) for side in result.sides]
     return Answer(result.question, word_of(result.is_allowed), reasons, list(result.question.notes))
 
 
