@@ -16,7 +16,7 @@ class Inquiry:
     """The resources of some changes, and the answers to questions about them."""
 
     def __init__(self, changes, options, paths=None, with_each_side=False):
-        self.changes = changes
+        self.has_forward_policy = any(part(change.resource, "spec", "applyOnForward") is True for change in changes)
         self.conversion = convert(changes)
         self.options = options
         self.cluster = self.cluster_of(self.conversion.lines)
@@ -49,11 +49,14 @@ class Inquiry:
         known = {place: settled(question, self.cluster) for place, question in enumerate(questions)}
         asked = [question for place, question in enumerate(questions) if known[place] is None]
         results = iter(self.asking.ask(asked))
-        standing = {is_host: self.cluster_of(standing_lines(self.asking.lines, self.asking.refusals(is_host)))
-                    for is_host in (False, True)}
+        standing = {is_host: self.standing(self.asking.refusals(is_host)) for is_host in (False, True)}
         doubts = Doubts(self.asking, self.conversion.unread, self.misread, self.host_policies)
         doubts.prepare(asked)
         return [known[place] or self.answer(next(results), standing, doubts) for place in range(len(questions))]
+
+    def standing(self, refusals):
+        """What stands without the lines that were refused."""
+        return self.cluster_of(standing_lines(self.asking.lines, refusals)) if refusals else self.cluster
 
     def answer(self, result, standing, doubts):
         made = answer_of(result, standing)
@@ -67,13 +70,12 @@ class Inquiry:
 
     def forwarded_notes(self, question):
         """That host endpoints' policies meet what their node forwards, too, where the input has such a policy."""
-        policies = [change for change in self.changes if part(change.resource, "spec", "applyOnForward") is True]
         nodes = [end.node for end in (question.sender, question.receiver) if not is_outside(end) and not is_node(end)]
-        if len(set(nodes)) == len(nodes) - 1 or not policies:
+        if len(set(nodes)) == len(nodes) - 1 or not self.has_forward_policy:
             return []
         guarded = [node for node in nodes if self.asking.host.endpoint_of(node)]
-        return ["the node %s has a host endpoint: its policies with applyOnForward meet what the node forwards, too, and weren't asked" % node
-                for node in guarded]
+        return ["the node %s has a host endpoint: its policies with applyOnForward meet what the node forwards, too, and "
+                "weren't asked" % node for node in guarded]
 
     # ---- what is to be said of the resources, whatever was asked
 
