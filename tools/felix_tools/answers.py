@@ -7,6 +7,24 @@ Packet = collections.namedtuple("Packet", "path reasons verdict state")
 Served = collections.namedtuple("Served", "owner tiers profiles")
 
 
+class HostAnswers:
+    """What felix-host wrote, read: refusals and packets. It names neither policies nor the endpoint's tiers."""
+
+    def __init__(self, text):
+        self.refusals = []
+        self.packets = []
+        self.endpoints = {}
+        reasons = {}
+        for words in (line.split(" ") for line in text.split("\n")):
+            if words[0] == "refused":
+                self.refusals.append(Refusal(int(words[1]), int(words[2]), words[3], " ".join(words[4:])))
+            elif words[0] == "reason":
+                reasons = {"host": words[1:]}
+            elif words[0] == "verdict":
+                self.packets.append(Packet([], reasons, words[1], None))
+                reasons = {}
+
+
 class Answers:
     """An output, read: refusals, what the messages named, the last tables, and the packets."""
 

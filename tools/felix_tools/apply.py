@@ -22,7 +22,8 @@ into the sets, then all chains at once, then what goes from the sets. The first 
 says of what is found then what is left to do.
 
 Status: 0 done, 2 some file or word can't be read, or the files don't fit each other, 3 felix-restore waits, or it
-refused some resource: these are told on standard error, and nothing is written without --although-refused."""
+refused some resource: these are told on standard error, and nothing is written without --although-refused,
+5 the script can't be written."""
 
 # A set that `ipset create` makes by itself holds so many members.
 USUAL_ROOM = 65536

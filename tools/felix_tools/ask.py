@@ -1,16 +1,15 @@
 """tools/ask: a question about a packet, answered in words."""
 import sys
 
-from felix_tools import program
-from felix_tools.asking import Asking
-from felix_tools.cluster import Cluster, standing_lines
-from felix_tools.conversion import convert
+from felix_tools.asking import run_of
+from felix_tools.inquiry import Inquiry
 from felix_tools.matrix import matrix_lines
 from felix_tools.options import add_program, add_questions, check_questions, tool_parser, wishes
-from felix_tools.questions import QuestionError, is_outside, name_of, resolve
+from felix_tools.questions import QuestionError, is_outside, name_of
 from felix_tools.reading import read_changes
 from felix_tools.start import REFUSED, answered
-from felix_tools.words import left_out_lines, refused_lines, result_lines
+from felix_tools.verdicts import ALLOWED, UNKNOWN
+from felix_tools.words import answer_lines, input_blocks
 
 DESCRIPTION = """\
 Asks the proved program whether a packet may go from one end to another, and says by which rule.
@@ -23,7 +22,8 @@ Files are those of tools/lines, or what it wrote. Where two pods run on two node
 whether the packet leaves, and the receiver's whether it enters. The packet opens a connection.
 
 Status: 0 allowed, 1 denied (of several questions: some is), 2 the question or a file can't be read,
-3 some resource was refused or left out that may have a say, 4 the program didn't run to its end."""
+3 some verdict isn't known, as a resource that may apply was refused or isn't read, or the packet's way isn't
+modelled, 4 a program didn't run to its end, 5 the answer can't be written."""
 
 
 def main(words):
@@ -45,62 +45,61 @@ def parser():
 
 def answer(options):
     check_questions(options)
-    conversion = convert(read_changes(options.files))
-    cluster = Cluster(conversion.lines, conversion.pods_left_out)
-    questions = [question for wish in wishes(options, all_pods=options.matrix) for question in resolve(wish, cluster)]
+    inquiry = Inquiry(read_changes(options.files), options, with_each_side=not options.matrix and not options.raw)
+    questions = inquiry.questions(wishes(options, all_pods=options.matrix))
     if not questions:
-        raise QuestionError("nothing is asked: --from and --to name two ends, and one of them at least is a pod")
+        raise QuestionError(inquiry.cluster.why_empty() or
+                            "nothing is asked: --from and --to name two ends, and one of them at least is a pod or a node")
     if options.raw and len(questions) > 1:
         raise QuestionError("--raw is for one question")
-    asking = Asking(program.find(options.program), conversion.lines, options.uplink,
-                    with_tables=options.path or bool(options.raw), with_each_side=not options.matrix and not options.raw)
-    results = asking.ask(questions)
+    answers = inquiry.answers(questions)
     if options.raw:
-        sys.stdout.write(raw_output(asking, results[0], options.raw))
+        sys.stdout.write(raw_output(inquiry.asking, answers[0], options.raw))
     else:
-        show(options, conversion, asking, results)
-    return status(conversion, asking, results)
+        show(options, inquiry, answers)
+    return status(answers)
 
 
-def show(options, conversion, asking, results):
-    refusals = asking.refusals()
-    blocks = [left_out_lines(conversion.left_out)[:-1], refused_lines(refusals)[:-1]]
-    standing = Cluster(standing_lines(conversion.lines, refusals), conversion.pods_left_out)
+def show(options, inquiry, answers):
+    blocks = input_blocks(inquiry)
     if options.matrix:
-        blocks += matrices(results)
+        blocks += matrices(answers)
     else:
-        blocks += [result_lines(result, standing, options.path) for result in results]
+        blocks += [answer_lines(answer, options.path) for answer in answers]
     print("\n\n".join("\n".join(block) for block in blocks if block))
 
 
-def matrices(results):
+def matrices(answers):
     """A table for each traffic, with the ends in the order in which they were asked about."""
     by_traffic = {}
-    for result in results:
-        by_traffic.setdefault(result.question.traffic.words, []).append(result)
+    for answer in answers:
+        by_traffic.setdefault(answer.question.traffic.words, []).append(answer)
     return [matrix_of(group) for group in by_traffic.values()]
 
 
-def matrix_of(results):
+def matrix_of(answers):
     senders, receivers, table = [], [], {}
-    for result in results:
-        question = result.question
+    for answer in answers:
+        question = answer.question
         senders += [question.sender] * (question.sender not in senders)
         receivers += [question.receiver] * (question.receiver not in receivers)
-        table[name_of(question.sender), name_of(question.receiver)] = result
+        table[name_of(question.sender), name_of(question.receiver)] = answer
     if set(map(name_of, senders)) == set(map(name_of, receivers)):
         receivers = senders
-    return matrix_lines(results[0].question.traffic, senders, receivers, table)
+    return matrix_lines(answers[0].question.traffic, senders, receivers, table)
 
 
-def raw_output(asking, result, wanted_side):
-    end = result.question.sender if wanted_side == "sender" else result.question.receiver
+def raw_output(asking, answer, wanted_side):
+    end = answer.question.sender if wanted_side == "sender" else answer.question.receiver
     if is_outside(end):
         raise QuestionError("the %s is no pod, so it has no node" % wanted_side)
-    return asking.outputs[end.node]
+    if run_of(end) not in asking.outputs:
+        raise QuestionError("no program was asked: %s" % answer.cause if answer.cause else "no program was asked")
+    return asking.outputs[run_of(end)]
 
 
-def status(conversion, asking, results):
-    if asking.refusals() or conversion.left_out.texts(True):
+def status(answers):
+    verdicts = {answer.verdict for answer in answers}
+    if UNKNOWN in verdicts:
         return REFUSED
-    return 0 if all(result.is_allowed for result in results) else 1
+    return 0 if verdicts <= {ALLOWED} else 1

@@ -1,28 +1,35 @@
-"""Asks the program: which packets a question is, on which nodes, and what the answers are for each side of it."""
+"""Asks the programs: which packets a question is, on which nodes, and what the answers are for each side of it."""
 import collections
 import concurrent.futures
 import json
 
 from felix_tools import program
-from felix_tools.answers import Answers
+from felix_tools.answers import Answers, HostAnswers
 from felix_tools.conversion import input_of
-from felix_tools.questions import node_of, packet
+from felix_tools.host import host_input_of
+from felix_tools.questions import host_packet, is_node, node_of, packet
 
 # One end's side of an answer. `reason` holds the program's words, or is None where the packet's way ended before;
 # `is_met` says whether the packet comes to this side at all.
 Side = collections.namedtuple("Side", "direction end node reason is_allowed is_met path answers")
 Result = collections.namedtuple("Result", "question is_allowed sides")
+# A run of a program: what passes a node between its pods and others, or what comes to its own processes or from them.
+Run = collections.namedtuple("Run", "node is_host")
 
 
 class Asking:
-    """A program, the lines that it is given, and the questions whose packets are put to it, node by node."""
+    """The programs, the lines that they are given, and the questions whose packets are put to them, node by node."""
 
-    def __init__(self, path, lines, uplink, with_tables=False, with_each_side=False):
-        self.path = path
+    def __init__(self, paths, lines, uplink, with_tables=False, with_each_side=False, host=None, peers=(),
+                 forwarding=program.REPLAY):
+        self.paths = paths
         self.lines = lines
+        self.forwarded_lines = list(peers) + lines
         self.uplink = uplink
         self.with_tables = with_tables
         self.with_each_side = with_each_side
+        self.host = host
+        self.forwarding = forwarding
         self.packets = collections.OrderedDict()
         self.answers = {}
         self.outputs = {}
@@ -31,68 +38,87 @@ class Asking:
     def ask(self, questions):
         """The answers to the questions."""
         for question in questions:
-            for node, asked in self.packets_of(question):
-                self.packets.setdefault(node, collections.OrderedDict()).setdefault(text_of(asked), asked)
+            for run, asked in self.packets_of(question):
+                self.packets.setdefault(run, collections.OrderedDict()).setdefault(text_of(asked), asked)
         self.run_all()
         return [self.result(question) for question in questions]
 
     def packets_of(self, question):
-        """(node, packet) of each packet that the question is."""
-        sender, receiver = node_of(question.sender), node_of(question.receiver)
-        if sender == receiver:
-            packets = [(sender, self.passing(question))]
-            return packets + [(receiver, self.entering(question))] if self.with_each_side else packets
-        packets = [] if sender is None else [(sender, self.leaving(question))]
-        return packets if receiver is None else packets + [(receiver, self.entering(question))]
+        """(run, packet) of each packet that the question is."""
+        if is_on_one_node(question):
+            run = run_of(question.sender)
+            packets = [(run, self.passing(question))]
+            return packets + [(run, self.entering(question))] if self.with_each_side else packets
+        packets = [] if node_of(question.sender) is None else [(run_of(question.sender), self.leaving(question))]
+        return packets if node_of(question.receiver) is None else packets + [(run_of(question.receiver), self.entering(question))]
 
     def passing(self, question):
         return packet(question, question.sender.interface, question.receiver.interface)
 
     def leaving(self, question):
+        if is_node(question.sender):
+            return host_packet(question, "out", self.uplink)
         return packet(question, question.sender.interface, self.uplink)
 
     def entering(self, question):
+        if is_node(question.receiver):
+            return host_packet(question, "in", self.uplink)
         return packet(question, self.uplink, question.receiver.interface)
 
     def run_all(self):
         """Runs the program for each node: once alone, since the first run may build it, and then several side by side."""
-        nodes = list(self.packets)
-        outputs = [self.run(node) for node in nodes[:1]]
+        runs = list(self.packets)
+        firsts = [next(run for run in runs if run.is_host == is_host) for is_host in {run.is_host for run in runs}]
+        outputs = {run: self.run(run) for run in firsts}
         with concurrent.futures.ThreadPoolExecutor(max_workers=4) as pool:
-            outputs += pool.map(self.run, nodes[1:])
-        for node, output in zip(nodes, outputs):
-            self.outputs[node] = output
-            self.answers[node] = Answers(output)
-            self.keep_packets(node)
+            others = [run for run in runs if run not in outputs]
+            outputs.update(zip(others, pool.map(self.run, others)))
+        for run in runs:
+            self.outputs[run] = outputs[run]
+            self.answers[run] = (HostAnswers if run.is_host else Answers)(outputs[run])
+            self.keep_packets(run)
 
-    def keep_packets(self, node):
-        asked, answered = self.packets[node], self.answers[node].packets
+    def keep_packets(self, run):
+        asked, answered = self.packets[run], self.answers[run].packets
         if len(asked) != len(answered):
-            faults = ["%s %s" % (refusal.name, refusal.rest) for refusal in self.answers[node].refusals if refusal.line > len(self.lines)]
-            raise program.ProgramError("the program refused a packet of node %s: %s" % (node, ", ".join(faults)))
-        self.answered[node] = dict(zip(asked, answered))
+            faults = ["%s %s" % (refusal.name, refusal.rest) for refusal in self.answers[run].refusals if refusal.line > self.count(run)]
+            raise program.ProgramError("the program refused a packet of node %s: %s" % (run.node, ", ".join(faults)))
+        self.answered[run] = dict(zip(asked, answered))
 
-    def run(self, node):
-        return program.run(self.path, node, input_of(self.lines, self.packets[node].values(), self.with_tables))
+    def run(self, run):
+        asked = self.packets[run].values()
+        if run.is_host:
+            given = host_input_of(self.host_lines(run), asked, lambda asked: self.host.failsafe_line(run.node, asked))
+            return program.run(self.paths.of(program.HOST), run.node, given)
+        return program.run(self.paths.of(self.forwarding), run.node, input_of(self.lines_of(run), asked, self.with_tables))
 
-    def found(self, node, asked):
-        return self.answered[node][text_of(asked)]
+    def host_lines(self, run):
+        return self.host.lines_of(run.node) + self.lines
+
+    def lines_of(self, run):
+        """The lines that a run is given, in their order."""
+        return self.host_lines(run) if run.is_host else self.forwarded_lines
+
+    def count(self, run):
+        return len(self.lines_of(run))
+
+    def found(self, end, asked):
+        return self.answered[run_of(end)][text_of(asked)]
 
     def result(self, question):
-        sender, receiver = node_of(question.sender), node_of(question.receiver)
-        if sender == receiver:
-            return self.result_on_one_node(question, sender)
+        if is_on_one_node(question):
+            return self.result_on_one_node(question)
         sides = []
-        if sender is not None:
-            sides.append(self.side("egress", question.sender, self.found(sender, self.leaving(question)), True))
-        if receiver is not None:
+        if node_of(question.sender) is not None:
+            sides.append(self.side("egress", question.sender, self.found(question.sender, self.leaving(question)), True))
+        if node_of(question.receiver) is not None:
             is_met = all(side.is_allowed for side in sides)
-            sides.append(self.side("ingress", question.receiver, self.found(receiver, self.entering(question)), is_met))
+            sides.append(self.side("ingress", question.receiver, self.found(question.receiver, self.entering(question)), is_met))
         return Result(question, all(side.is_allowed for side in sides), sides)
 
-    def result_on_one_node(self, question, node):
+    def result_on_one_node(self, question):
         """A packet that passes both: where its way ends at the sender's side, what the receiver's would say is asked apart."""
-        passing = self.found(node, self.passing(question))
+        passing = self.found(question.sender, self.passing(question))
         is_allowed = passing.verdict == "allow"
         is_met = is_allowed or "ingress" in passing.reasons
         first = self.side("egress", question.sender, passing, True)._replace(is_allowed=is_met)
@@ -100,21 +126,39 @@ class Asking:
             return Result(question, is_allowed, [first, self.side("ingress", question.receiver, passing, True)])
         sides = [first]
         if self.with_each_side:
-            sides.append(self.side("ingress", question.receiver, self.found(node, self.entering(question)), False))
+            sides.append(self.side("ingress", question.receiver, self.found(question.receiver, self.entering(question)), False))
         return Result(question, is_allowed, sides)
 
     def side(self, direction, end, answer, is_met):
-        reason = answer.reasons.get(direction)
+        reason = answer.reasons.get("host" if is_node(end) else direction)
         return Side(direction, end, end.node, reason[1:] if reason else None, answer.verdict == "allow", is_met,
-                    answer.path, self.answers[end.node])
+                    answer.path, self.answers[run_of(end)])
 
-    def refusals(self):
-        """(line, refusal) of each refused line, and of the first node that refused it."""
-        refused = {}
-        for answers in self.answers.values():
-            for refusal in answers.refusals:
-                refused.setdefault(refusal.line, refusal)
-        return [(self.lines[number - 1], refused[number]) for number in sorted(refused) if number <= len(self.lines)]
+    def served(self, end):
+        """What the program served a pod with: its tiers and its profiles."""
+        answers = self.answers.get(run_of(end))
+        return answers.endpoints.get(end.interface) if answers else None
+
+    def refusals(self, is_host=False):
+        """(line, refusal) of each line that one of the two programs refused, and of the first run of it that did."""
+        refused = collections.OrderedDict()
+        for run, answers in self.answers.items():
+            lines = self.lines_of(run)
+            for refusal in answers.refusals if run.is_host == is_host else ():
+                if refusal.line <= len(lines):
+                    refused.setdefault(id(lines[refusal.line - 1].written), (lines[refusal.line - 1], refusal))
+        places = {id(line): place for place, line in enumerate(self.lines)}
+        return sorted(refused.values(), key=lambda pair: places.get(id(pair[0]), -1))
+
+
+def run_of(end):
+    return Run(end.node, is_node(end))
+
+
+def is_on_one_node(question):
+    """Whether one packet passes both ends, which are pods of one node."""
+    ends = question.sender, question.receiver
+    return not any(map(is_node, ends)) and node_of(ends[0]) is not None and node_of(ends[0]) == node_of(ends[1])
 
 
 def text_of(asked):

@@ -4,16 +4,22 @@ import difflib
 import fnmatch
 import ipaddress
 
-from felix_tools.conversion import key_of, text_of
-from felix_tools.pods import CALICO
-from felix_tools.reading import part
+from felix_tools.conversion import key_of, stands_as, text_of
+from felix_tools.kinds import CALICO
+from felix_tools.pods import ON_HOST, host_addresses
+from felix_tools.reading import is_address, members, objects, part
 
-# A workload endpoint: its pod's name behind the namespace (or its own), its id in answers, and what a packet needs of it.
-Endpoint = collections.namedtuple("Endpoint", "name id node interface addresses")
+# A workload endpoint: its pod's name behind the namespace (or its own), its id in answers, what a packet needs of it, the addresses
+# of the node that it is on, as far as the input tells them, and its own labels and the ports that have names.
+Endpoint = collections.namedtuple("Endpoint", "name id node interface addresses hosts labels ports")
 # An end of a connection that is no workload endpoint.
 Outside = collections.namedtuple("Outside", "address")
+# The processes of a node itself, which no interface of a workload leads to.
+NodeEnd = collections.namedtuple("NodeEnd", "name node addresses interface", defaults=(None,))
 
 PATTERN_LETTERS = "*?["
+NODE_FRONT = "node:"
+SHOWN = 5
 
 
 class UnknownEnd(Exception):
@@ -23,8 +29,9 @@ class UnknownEnd(Exception):
 class Cluster:
     """The resources that stand once all lines were taken; of one that was put twice the last."""
 
-    def __init__(self, lines, pods_left_out=None):
+    def __init__(self, lines, pods_left_out=None, beside=()):
         self.pods_left_out = pods_left_out or {}
+        self.beside = list(beside)
         self.written = collections.OrderedDict()
         made = collections.OrderedDict()
         for line in lines:
@@ -33,7 +40,25 @@ class Cluster:
             made.pop(key, None)
             if line.action == "put":
                 self.written[key], made[key] = line.written, line.resource
-        self.endpoints = [endpoint_of(resource) for key, resource in made.items() if key[:2] == (CALICO, "WorkloadEndpoint")]
+        self.endpoints = [endpoint_of(resource, self.written[key]) for key, resource in made.items()
+                          if key[:2] == (CALICO, "WorkloadEndpoint")]
+        self.nodes = self.node_addresses()
+
+    def node_addresses(self):
+        """The addresses of each node, by the node itself and by what its pods say of it."""
+        nodes = collections.OrderedDict()
+        for resource in self.of_kind("Node"):
+            told = [text_of(item.get("address")) for item in objects(part(resource, "status", "addresses"))
+                    if item.get("type") in ("InternalIP", "ExternalIP")]
+            nodes.setdefault(text_of(part(resource, "metadata", "name")), []).extend(filter(is_address, told))
+        for pod in self.endpoints + [pod for pod in self.pods_left_out.values() if pod.node]:
+            known = nodes.setdefault(pod.node, [])
+            known += [address for address in pod.hosts if address not in known]
+        return nodes
+
+    def of_kind(self, kind):
+        """The resources of a kind that becomes no line."""
+        return [resource for resource in self.beside if resource.get("kind") == kind]
 
     def resource(self, version, kind, namespace, name):
         return self.written.get(stands_as((version, kind, namespace, name)))
@@ -42,6 +67,9 @@ class Cluster:
         """The ends that a name, a pattern of names or an address stands for."""
         if is_address(text):
             return [self.end_at(text)]
+        refuse_other_addresses(text)
+        if text.startswith(NODE_FRONT):
+            return [self.node_end(text[len(NODE_FRONT):])]
         if any(letter in text for letter in PATTERN_LETTERS):
             return self.named_like(text)
         return [self.named(text)]
@@ -52,10 +80,19 @@ class Cluster:
             raise UnknownEnd("%s is the address of several endpoints: %s" % (address, ", ".join(e.name for e in found)))
         return found[0] if found else Outside(address)
 
+    def node_end(self, name):
+        if name not in self.nodes:
+            raise UnknownEnd("no node %s in the input%s" % (name, near_words(name, list(self.nodes))))
+        return NodeEnd("the node " + name, name, self.nodes[name])
+
+    def nodes_at(self, address):
+        """The names of the nodes that have an address."""
+        return [name for name, addresses in self.nodes.items() if address in addresses]
+
     def named_like(self, pattern):
         found = [endpoint for endpoint in self.endpoints if fnmatch.fnmatchcase(endpoint.name, pattern)]
         if not found:
-            raise UnknownEnd("no pod has a name like %s" % pattern)
+            raise UnknownEnd(self.why_empty() or "no pod has a name like %s" % pattern)
         return found
 
     def named(self, name):
@@ -66,23 +103,56 @@ class Cluster:
             raise UnknownEnd(self.why_unknown(name))
         return found[0]
 
+    def why_empty(self):
+        """That there is no pod to be asked about, where that is so."""
+        if self.endpoints:
+            return ""
+        if not self.pods_left_out:
+            return "no pods in the input"
+        reasons = collections.Counter(pod.why for pod in self.pods_left_out.values())
+        return "no pods in the input that a packet can reach: " + ", ".join("%d %s" % (n, why) for why, n in sorted(reasons.items()))
+
     def why_unknown(self, name):
         if "/" not in name:
             return "%s is neither an address nor a name; a pod is named NAMESPACE/POD" % name
         if name in self.pods_left_out:
-            return "the pod %s has no workload endpoint (%s)" % (name, self.pods_left_out[name])
-        near = difflib.get_close_matches(name, [endpoint.name for endpoint in self.endpoints], 3)
-        return "no running pod %s in the input%s" % (name, "; there is " + ", ".join(near) if near else "")
+            return self.why_left_out(name)
+        if not self.endpoints:
+            return self.why_empty()
+        begin = [endpoint.name for endpoint in self.endpoints if endpoint.name.startswith(name)]
+        if begin:
+            return "no running pod %s in the input; there %s %s" % (name, "is" if len(begin) == 1 else "are", shown_names(begin))
+        return "no running pod %s in the input%s" % (name, near_words(name, [endpoint.name for endpoint in self.endpoints]))
+
+    def why_left_out(self, name):
+        left_out = self.pods_left_out[name]
+        if left_out.why != ON_HOST:
+            return "the pod %s has no workload endpoint (%s)" % (name, left_out.why)
+        return ("the pod %s is on the host's network: it has its node's addresses and no workload endpoint, so ask about its node, "
+                "by --from-node or --to-node %s" % (name, left_out.node or "NODE"))
 
 
-def stands_as(key):
-    """The key of the resource that this one is to the program: a namespace and a service account are profiles."""
-    version, kind, namespace, name = key
-    if (version, kind) == ("v1", "Namespace"):
-        return CALICO, "Profile", "", "kns.%s" % name
-    if (version, kind) == ("v1", "ServiceAccount"):
-        return CALICO, "Profile", "", "ksa.%s.%s" % (namespace, name)
-    return key
+def near_words(name, names):
+    near = difflib.get_close_matches(name, names, 3)
+    return "; there is " + ", ".join(near) if near else ""
+
+
+def shown_names(names):
+    """Some of the names, and how many there are beside these."""
+    more = len(names) - SHOWN
+    return ", ".join(names[:SHOWN]) + (" and %d more" % more if more > 0 else "")
+
+
+def refuse_other_addresses(text):
+    """That an end is no address of IPv6 and no net, which no question is about."""
+    try:
+        found = ipaddress.ip_interface(text)
+    except ValueError:
+        return
+    if found.version == 6:
+        raise UnknownEnd("%s is %s of IPv6, which isn't modelled: all answers are those of IPv4" % (
+            text, "a net" if "/" in text else "an address"))
+    raise UnknownEnd("%s is a net, and a packet has one address at each end: give an address of it" % text)
 
 
 def standing_lines(lines, refusals):
@@ -91,7 +161,7 @@ def standing_lines(lines, refusals):
     return [line for line in lines if id(line) not in refused]
 
 
-def endpoint_of(resource):
+def endpoint_of(resource, written):
     namespace = text_of(part(resource, "metadata", "namespace"))
     own = text_of(part(resource, "metadata", "name"))
     pod = text_of(part(resource, "spec", "pod"))
@@ -102,19 +172,7 @@ def endpoint_of(resource):
         node=text_of(part(resource, "spec", "node")),
         interface=text_of(part(resource, "spec", "interfaceName")),
         addresses=[text_of(net).split("/")[0] for net in nets if ":" not in text_of(net)] if isinstance(nets, list) else [],
+        hosts=host_addresses(written),
+        labels=members(part(resource, "metadata", "labels")),
+        ports=objects(part(resource, "spec", "ports")),
     )
-
-
-def is_address(text):
-    try:
-        return ipaddress.ip_address(text).version == 4
-    except ValueError:
-        return False
-
-
-def display_name(resource):
-    """The resource as a reader names it: kind, namespace and name."""
-    _, kind, namespace, name = key_of(resource)
-    return "%s %s" % (kind or "resource", "%s/%s" % (namespace, name) if namespace else name or "without a name")
-
-

@@ -20,7 +20,7 @@ are of the node n1, the others of 900 other nodes. Each policy selects one app o
 these stand `inSync` and a flush, then CHANGES lines that put an endpoint at another address, a flush after each hundred,
 and a flush at the end.
 
-Status: 0 done, 2 a word can't be read."""
+Status: 0 done, 2 a word can't be read, 5 the lines can't be written."""
 
 NAMESPACES = 200
 TEAMS = 20

@@ -1,14 +1,14 @@
 """tools/diff: which verdicts a change of resources changes, and by which rule."""
 
 from felix_tools import program
-from felix_tools.asking import Asking
-from felix_tools.cluster import Cluster, UnknownEnd, standing_lines
-from felix_tools.conversion import convert
+from felix_tools.cluster import UnknownEnd
+from felix_tools.inquiry import Inquiry
 from felix_tools.options import add_program, add_questions, check_questions, tool_parser, wishes
-from felix_tools.questions import QuestionError, name_of, resolve, short_title
-from felix_tools.reading import read_changes
+from felix_tools.questions import QuestionError, short_title
+from felix_tools.reading import InputError, read_changes
 from felix_tools.start import REFUSED, answered
-from felix_tools.words import INDENT, left_out_lines, refused_lines, side_lines, verdict_word
+from felix_tools.verdicts import UNKNOWN
+from felix_tools.words import INDENT, doubt_lines, input_blocks, reason_lines
 
 DESCRIPTION = """\
 Asks the proved program the same questions of two sets of resources, and tells which verdicts change and by which rule.
@@ -20,8 +20,12 @@ Without --from and --to all pairs of pods are asked about. In `--after` a resour
 one of the last file, so a change is the cluster's file and behind it what is applied to it. To delete something give a
 line {"delete": RESOURCE}.
 
-Status: 0 no verdict changes, 1 some does, 2 a question or a file can't be read,
-3 some resource was refused or left out that may have a say, 4 the program didn't run to its end."""
+What kubectl would refuse is no change, and is told in its place: what is deleted and isn't there, and a policy
+of a namespace that isn't there.
+
+Status: 0 no verdict changes, 1 some does, 2 a question, a file or the change can't be read, 3 some verdict isn't
+known, as a resource that may apply was refused or isn't read, 4 a program didn't run to its end, 5 the answer
+can't be written."""
 
 
 def main(words):
@@ -41,89 +45,115 @@ def parser():
 class Version:
     """One of the two sets of resources, with the answers to the questions that can be asked of it."""
 
-    def __init__(self, name, files, path, options):
+    def __init__(self, name, files, options, paths):
         self.name = name
-        self.conversion = convert(read_changes(files))
-        self.cluster = Cluster(self.conversion.lines, self.conversion.pods_left_out)
-        self.asking = Asking(path, self.conversion.lines, options.uplink)
-        self.results = {}
+        self.inquiry = Inquiry(read_changes(files), options, paths)
+        self.answers = {}
         self.missing = []
 
     def ask(self, wishes):
         questions = []
         for wish in wishes:
             try:
-                questions += resolve(wish, self.cluster)
-            except UnknownEnd as fault:
+                questions += self.inquiry.questions([wish])
+            except (UnknownEnd, QuestionError) as fault:
                 self.missing.append(str(fault))
-        for result in self.asking.ask(questions):
-            self.results[key_of(result.question)] = result
-        standing = standing_lines(self.conversion.lines, self.asking.refusals())
-        self.cluster = Cluster(standing, self.conversion.pods_left_out)
+        for answer in self.inquiry.answers(questions):
+            self.answers[answer.key] = answer
 
     def notes(self):
-        lines = left_out_lines(self.conversion.left_out) + refused_lines(self.asking.refusals())
+        lines = [line for block in input_blocks(self.inquiry) for line in block]
         lines += [text + "." for text in dict.fromkeys(self.missing)]
-        return ["In what is %s:" % self.name] + [INDENT + line if line else line for line in lines if line] if lines else []
+        return ["In what is %s:" % self.name] + [INDENT + line for line in lines] if lines else []
 
-    def has_refused(self):
-        return bool(self.asking.refusals() or self.conversion.left_out.texts(True))
-
-
-def key_of(question):
-    return name_of(question.sender), name_of(question.receiver), question.traffic.words
+    def forget_repeated(self):
+        """In what is after a later file is what is applied to an earlier one."""
+        self.inquiry.conversion.repeated.clear()
 
 
 def compare(options):
     check_questions(options)
-    path = program.find(options.program)
-    before = Version("before", options.before, path, options)
-    after = Version("after", options.after, path, options)
+    paths = program.Paths(options.program)
+    before = Version("before", options.before, options, paths)
+    after = Version("after", options.after, options, paths)
+    after.forget_repeated()
+    check_change(before.inquiry, after.inquiry)
     for version in (before, after):
         version.ask(wishes(options, all_pods=True))
-    if not before.results and not after.results:
+    if not before.answers and not after.answers:
         raise QuestionError("; ".join(before.missing + after.missing) or "nothing is asked: --from and --to name two ends")
     changed = tell(before, after, options.reasons)
-    if before.has_refused() or after.has_refused():
+    if any(answer.verdict == UNKNOWN for version in (before, after) for answer in version.answers.values()):
         return REFUSED
     return 1 if changed else 0
+
+
+def check_change(before, after):
+    """That the change is one that can be made."""
+    mistakes = [text for text in after.conversion.mistakes if text not in before.conversion.mistakes]
+    if mistakes:
+        raise InputError("\n".join(["this can't be applied:"] + [INDENT + text for text in mistakes]))
+    if before.cluster.endpoints and not after.cluster.endpoints:
+        raise InputError("what is after has no pods: give the cluster's own files too, and what is applied to them behind")
 
 
 def tell(before, after, with_reasons):
     """Prints what changes; answers how many verdicts do."""
     blocks = [version.notes() for version in (before, after)]
-    keys = list(before.results) + [key for key in after.results if key not in before.results]
+    keys = list(before.answers) + [key for key in after.answers if key not in before.answers]
     changed = 0
     for key in keys:
-        old, new = before.results.get(key), after.results.get(key)
+        old, new = before.answers.get(key), after.answers.get(key)
         is_changed = verdict_of(old) != verdict_of(new)
         changed += is_changed
-        if is_changed or with_reasons and reasons_of(old) != reasons_of(new):
-            blocks.append(change_lines(old, new, before.cluster, after.cluster))
-    blocks.append(["%d of %d verdicts change." % (changed, len(keys))])
+        if is_changed or may_change(old, new) or with_reasons and causes_of(old) != causes_of(new):
+            blocks.append(change_lines(old, new))
+    blocks.append(["%d of %d verdicts change.%s" % (changed, len(keys), unknown_words(before, after))])
     print("\n\n".join("\n".join(block) for block in blocks if block))
     return changed
 
 
-def verdict_of(result):
-    return verdict_word(result.is_allowed) if result else "not there"
+def unknown_words(before, after):
+    counts = [(version.name, sum(answer.verdict == UNKNOWN for answer in version.answers.values())) for version in (before, after)]
+    told = " and ".join("%d %s" % (count, name) for name, count in counts if count)
+    return " Not known: %s." % told if told else ""
 
 
-def reasons_of(result):
-    return [(side.direction, side.reason) for side in result.sides] if result else None
+def verdict_of(answer):
+    return answer.verdict if answer else "not there"
 
 
-def change_lines(old, new, old_cluster, new_cluster):
-    verdicts = verdict_of(old), verdict_of(new)
-    change = "%s before, %s after" % verdicts if verdicts[0] != verdicts[1] else "%s by another rule" % verdicts[0]
+def may_change(old, new):
+    """Whether neither verdict is known, and as far as all is read they differ."""
+    return bool(old and new) and old.verdict == new.verdict == UNKNOWN and old.without != new.without
+
+
+def causes_of(answer):
+    return answer.causes if answer else None
+
+
+def change_lines(old, new):
+    change = change_words(old, new)
     lines = ["%s: %s" % (short_title((new or old).question), change)]
-    for name, result, other, cluster in (("before", old, new, old_cluster), ("after", new, old, new_cluster)):
-        if result:
-            lines += ["  " + name] + [INDENT + line[2:] for side in sides_that_differ(result, other) for line in side_lines(side, cluster)]
+    for name, answer, other in (("before", old, new), ("after", new, old)):
+        if answer:
+            lines += ["  " + name] + [INDENT + line[2:] for line in doubt_lines(answer)]
+            lines += [INDENT + line[2:] for reason in reasons_that_differ(answer, other) for line in reason_lines(reason)]
     return lines
 
 
-def sides_that_differ(result, other):
-    """The sides whose reason isn't that of the other answer."""
-    known = {(side.direction, tuple(side.reason or [])) for side in other.sides} if other else set()
-    return [side for side in result.sides if (side.direction, tuple(side.reason or [])) not in known]
+def change_words(old, new):
+    verdicts = verdict_of(old), verdict_of(new)
+    if verdicts[0] != verdicts[1]:
+        return "%s before, %s after" % verdicts
+    if may_change(old, new):
+        return "unknown; as far as all is read %s before, %s after" % (old.without, new.without)
+    return "%s by another rule" % verdicts[0]
+
+
+def reasons_that_differ(answer, other):
+    """The sides whose reason isn't that of the other answer; all of them where one of the answers is in doubt."""
+    if answer.doubts or other and other.doubts:
+        return answer.reasons
+    known = other.causes if other else []
+    return [reason for reason, cause in zip(answer.reasons, answer.causes) if cause not in known]

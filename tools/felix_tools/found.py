@@ -23,7 +23,7 @@ has no such text keeps its own: felix-restore refuses it, and it is told here on
 they are saved. Save by the backend that the rules are in (iptables-legacy-save or iptables-nft-save).
 
 Status: 0 done, 1 done, and felix-restore will refuse the line, 2 some file or word can't be read, or no filter table
-is in them."""
+is in them, 5 the line can't be written."""
 
 PROTOCOLS = "/etc/protocols"
 LINE_LIMIT = 4194304

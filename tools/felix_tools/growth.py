@@ -22,7 +22,7 @@ Two programs are measured, felix-replay and another one of the same formats. For
 tools/cluster, once without changes and once with them, several times in turn; the least time of each counts. A change costs
 what the one run took beyond the other of a processor, divided by the changes. Environment and priority are passed on.
 
-Status: 0 done, 2 a word or the table can't be read, 4 a program didn't run to its end."""
+Status: 0 done, 2 a word or the table can't be read, 4 a program didn't run to its end, 5 the output can't be written."""
 
 # The two programs, as the table names them.
 PROGRAMS = tuple(STYLES)

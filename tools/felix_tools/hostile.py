@@ -17,7 +17,8 @@ it writes without them, and beside that one refusal for each, with its number an
 The lines are drawn from the seed: lines that are cut off, bytes that no text of UTF-8 has, brackets, unknown kinds and
 members, names and selectors of wrong forms, lines that are too long.
 
-Status: 0 all is written as it should be, 1 it isn't, 2 some file or word can't be read, 4 the program didn't run to its end."""
+Status: 0 all is written as it should be, 1 it isn't, 2 some file or word can't be read, 4 the program didn't run to its
+end, 5 the output can't be written."""
 
 LINE_LIMIT = 4194304
 RESOURCE = b'{"put":{"apiVersion":"projectcalico.org/v3","kind":"%s","metadata":{"name":"%s"},"spec":%s}}'

@@ -20,7 +20,7 @@ goes to PREFIX/lib/felix, and the man page felix-replay(1) to PREFIX/share/man. 
 moved. Nothing is copied unless each program is built from the sources that stand here. `felix-ask --version` says which
 they are.
 
-Status: 0 done, 2 a file can't be written, 4 some program isn't built."""
+Status: 0 done, 2 a file can't be written, 4 some program isn't built, 5 the output can't be written."""
 
 TOOLS = ("apply", "ask", "cluster", "diff", "found", "growth", "hostile", "limits", "lines", "picture", "refuse-memory")
 MODULES = os.path.dirname(os.path.abspath(__file__))

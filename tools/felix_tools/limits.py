@@ -19,7 +19,8 @@ of them and once with all. Says for each run how long it took and how much memor
   tools/limits policies nets   those whose names begin so
   tools/limits --list          the names alone
 
-Status: 0 each run wrote what it should, in time, 1 some didn't, 2 a word can't be read, 4 the program didn't run."""
+Status: 0 each run wrote what it should, in time, 1 some didn't, 2 a word can't be read, 4 the program didn't run,
+5 the output can't be written."""
 
 LINE_LIMIT = 4194304
 NAME_LIMIT = 253

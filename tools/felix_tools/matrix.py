@@ -1,11 +1,13 @@
 """A table of verdicts: who may reach whom."""
+from felix_tools import verdicts
 from felix_tools.questions import name_of
 
-ALLOWED, DENIED, ITSELF = "+", "-", "."
+MARKS = {verdicts.ALLOWED: "+", verdicts.DENIED: "-", verdicts.UNKNOWN: "?"}
+ITSELF = "."
 
 
-def matrix_lines(traffic, senders, receivers, results):
-    """The table of one traffic; `results` has the results by (name of the sender, name of the receiver)."""
+def matrix_lines(traffic, senders, receivers, answers):
+    """The table of one traffic; `answers` has the answers by (name of the sender, name of the receiver)."""
     sender_names = [name_of(end) for end in senders]
     receiver_names = [name_of(end) for end in receivers]
     wide = max(len(name) for name in sender_names)
@@ -19,12 +21,15 @@ def matrix_lines(traffic, senders, receivers, results):
         lines = ["%3s %s" % pair for pair in zip(heads, receiver_names)] + [""]
     lines.append(" " * (wide + 4) + "".join("%3s" % head for head in heads))
     for label, sender in zip(labels, sender_names):
-        cells = [cell(results.get((sender, receiver))) for receiver in receiver_names]
+        cells = [cell(answers.get((sender, receiver))) for receiver in receiver_names]
         lines.append(label + "".join("%3s" % mark for mark in cells))
-    return ["%s, from the row to the column (%s allowed, %s denied, %s not asked)" % (traffic.words, ALLOWED, DENIED, ITSELF), ""] + lines
+    return [head(traffic, answers), ""] + lines
 
 
-def cell(result):
-    if result is None:
-        return ITSELF
-    return ALLOWED if result.is_allowed else DENIED
+def head(traffic, answers):
+    unknown = any(answer.verdict == verdicts.UNKNOWN for answer in answers.values())
+    return "%s, from the row to the column (+ allowed, - denied, %s. not asked)" % (traffic.words, "? not known, " if unknown else "")
+
+
+def cell(answer):
+    return MARKS[answer.verdict] if answer else ITSELF

@@ -1,11 +1,11 @@
 """The words that tools/ask and tools/diff share."""
 import argparse
 
-from felix_tools.cluster import is_address
+from felix_tools.cluster import NODE_FRONT
 from felix_tools.questions import (
     PORT_PROTOCOLS, SOURCE_PORT, QuestionError, Wish, icmp_traffic, is_number, other_traffic, port_traffic, read_list,
 )
-from felix_tools.reading import read_text
+from felix_tools.reading import is_address, read_text
 from felix_tools.version import tool_name, version_text, with_names_here
 
 UPLINK = "eth0"
@@ -21,6 +21,9 @@ def add_questions(parser):
                        help="the packet's source address, in the place of the sender's own; alone it names the sender")
     group.add_argument("--to-address", type=address, metavar="ADDRESS",
                        help="the packet's destination address, in the place of the receiver's own; alone it names the receiver")
+    for way, metavar in (("from", "senders"), ("to", "receivers")):
+        group.add_argument("--%s-node" % way, dest=metavar, action="append", type=node, metavar="NODE",
+                           help="the processes of this node as %s: felix-host is asked" % ("the sender" if way == "from" else "the receiver"))
     for protocol in PORT_PROTOCOLS:
         group.add_argument("--" + protocol.lower(), dest=protocol, type=port, action="append", metavar="PORT", default=[],
                            help="%s to this port; may be given again" % protocol)
@@ -34,6 +37,8 @@ def add_questions(parser):
 
 def add_program(parser):
     group = parser.add_argument_group("the program")
+    group.add_argument("--although-refused", action="store_true",
+                       help="answers also where something was refused or isn't read that may apply, as though it weren't there")
     group.add_argument("--program", metavar="PATH", help="the proved program (else $FELIX_REPLAY, else this repository's own)")
     group.add_argument("--uplink", type=uplink, metavar="INTERFACE", default=UPLINK,
                        help="the interface by which nodes reach each other (%(default)s)")
@@ -93,6 +98,10 @@ def address(text):
     if not is_address(text):
         raise argparse.ArgumentTypeError("%s isn't an address of IPv4" % text)
     return text
+
+
+def node(text):
+    return NODE_FRONT + text
 
 
 def uplink(text):

@@ -16,7 +16,7 @@ Draws what felix-replay writes: the last tables, and the way of the last packet 
 
 The lines have to ask for the tables ({"tables":true}). `dot` is Graphviz's. With a packet, its chains alone are drawn.
 
-Status: 0 done, 2 some file or word can't be read, or there are no tables."""
+Status: 0 done, 2 some file or word can't be read, or there are no tables, 5 the graph can't be written."""
 
 KINDS = [  # what a chain's name begins with, what the chain is, its colour
     ("cali-FORWARD", "every forwarded packet", "#cfe2f3"),

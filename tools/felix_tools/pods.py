@@ -1,11 +1,12 @@
 """A pod as the workload endpoint that Calico makes of it (libcalico-go, the conversion of pods)."""
 import hashlib
 
-from felix_tools.reading import objects, part
+from felix_tools.kinds import CALICO
+from felix_tools.reading import is_address, objects, part
 
-CALICO = "projectcalico.org/v3"
 ENDED = ("Succeeded", "Failed", "Completed")
 PROTOCOLS = ("TCP", "UDP", "SCTP")
+ON_HOST = "on the host's network"
 ADDRESSES_NOTE = "cni.projectcalico.org/podIPs"
 ADDRESS_NOTE = "cni.projectcalico.org/podIP"
 
@@ -13,7 +14,7 @@ ADDRESS_NOTE = "cni.projectcalico.org/podIP"
 def why_no_endpoint(pod):
     """Why the pod has no endpoint, in words, or None where it has one."""
     if part(pod, "spec", "hostNetwork") is True:
-        return "on the host's network"
+        return ON_HOST
     if not part(pod, "spec", "nodeName"):
         return "not on a node yet"
     if has_ended(pod):
@@ -34,12 +35,20 @@ def addresses(pod):
     """The pod's addresses: by its status, or before the kubelet wrote that, by the annotations of Calico's plugin."""
     several = [item.get("ip") for item in objects(part(pod, "status", "podIPs"))]
     if several:
-        return [address for address in several if address]
+        return [address for address in several if address and isinstance(address, str)]
     one = part(pod, "status", "podIP")
-    if one:
+    if one and isinstance(one, str):
         return [one]
     notes = part(pod, "metadata", "annotations", ADDRESSES_NOTE) or part(pod, "metadata", "annotations", ADDRESS_NOTE) or ""
+    if not isinstance(notes, str):
+        return []
     return [note.split("/")[0] for note in notes.split(",") if note]
+
+
+def host_addresses(pod):
+    """The IPv4 addresses of the node that a pod is on, which its status tells."""
+    told = [part(pod, "status", "hostIP")] + [item.get("ip") for item in objects(part(pod, "status", "hostIPs"))]
+    return list(dict.fromkeys(address for address in told if isinstance(address, str) and is_address(address)))
 
 
 def endpoint_of(pod):

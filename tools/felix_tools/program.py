@@ -22,21 +22,34 @@ ENDINGS = {
     6: "the input has 4 GiB or more",
     70: "it isn't built, since some proof failed or `rt` isn't there",
 }
-WAIT_WORD = ("The proved program isn't built from these sources yet. ./felix-replay proves and builds it now, which takes an hour "
-             "or more on four processors; another one is asked by --program PATH or %s=PATH." % REPLAY.variable)
+WAIT_WORD = ("The proved program isn't built from these sources yet. ./{0.name} proves and builds it now, which takes an hour "
+             "or more on four processors; another one is asked by {1}{0.variable}=PATH.")
 
 
 class ProgramError(Exception):
     """The program couldn't be run to its end; the text says why."""
 
 
-def find(path=None):
-    """The path of felix-replay: the one that is given, the environment's, the built one, or its launcher."""
-    found = path_if_built(REPLAY, path)
+def find(path=None, program=REPLAY):
+    """The path of a program: the one that is given, the environment's, the built one, or its launcher."""
+    found = path_if_built(program, path)
     if found:
         return found
-    print(WAIT_WORD, file=sys.stderr)
-    return os.path.join(TOP, REPLAY.name)
+    print(WAIT_WORD.format(program, "--program PATH or " if program == REPLAY else ""), file=sys.stderr)
+    return os.path.join(TOP, program.name)
+
+
+class Paths:
+    """The paths of the programs that are asked, each looked for once it is needed."""
+
+    def __init__(self, given=None):
+        self.found = {}
+        self.given = given
+
+    def of(self, program):
+        if program not in self.found:
+            self.found[program] = find(self.given if program == REPLAY else None, program)
+        return self.found[program]
 
 
 def find_built(path=None, program=REPLAY):

@@ -1,7 +1,7 @@
 """Questions: may a packet go from one end to another?"""
 import collections
 
-from felix_tools.cluster import Outside
+from felix_tools.cluster import NodeEnd, Outside
 
 SOURCE_PORT = 40000
 ECHO_REQUEST = (8, 0)
@@ -9,10 +9,12 @@ PORT_PROTOCOLS = ("TCP", "UDP", "SCTP")
 
 # What a packet is beside its ends: the words that name it, and the members of a packet's line.
 Traffic = collections.namedtuple("Traffic", "words members")
-# What was asked, as it was asked: names, patterns or addresses of ends, and the addresses that the packet has in place of theirs.
-Wish = collections.namedtuple("Wish", "sender receiver traffic source destination")
-# Two ends of the cluster with the addresses that the packet has, and the traffic.
-Question = collections.namedtuple("Question", "sender receiver source destination traffic")
+# What was asked, as it was asked: names, patterns or addresses of ends, the addresses that the packet has in place of theirs, and in
+# a list its file and line.
+Wish = collections.namedtuple("Wish", "sender receiver traffic source destination place", defaults=("",))
+# Two ends of the cluster with the addresses that the packet has, and the traffic. `service` names the Service through which the
+# receiver was found, as it is said in a title; `notes` are what is to be said of the packet's way there.
+Question = collections.namedtuple("Question", "sender receiver source destination traffic service notes")
 
 
 class QuestionError(Exception):
@@ -32,28 +34,29 @@ def other_traffic(number):
     return Traffic("protocol %d" % number, {"proto": number})
 
 
-def resolve(wish, cluster):
-    """The questions of a wish in a cluster, one for each pair of its ends of which one is a pod."""
-    senders, receivers = cluster.ends(wish.sender), cluster.ends(wish.receiver)
-    return [question(a, b, wish) for a in senders for b in receivers if a != b and not (is_outside(a) and is_outside(b))]
-
-
 def is_outside(end):
     return isinstance(end, Outside)
 
 
-def question(sender, receiver, wish):
+def is_node(end):
+    return isinstance(end, NodeEnd)
+
+
+def question(sender, receiver, wish, service="", notes=()):
     source = wish.source or address_of(sender)
     destination = wish.destination or address_of(receiver)
-    return Question(sender, receiver, source, destination, wish.traffic)
+    return Question(sender, receiver, source, destination, wish.traffic, service, tuple(notes))
 
 
 def address_of(end):
     if is_outside(end):
         return end.address
-    for what, value in (("IPv4 address", end.addresses), ("node", end.node), ("interface", end.interface)):
+    wanted = [("IPv4 address", end.addresses)]
+    if not is_node(end):
+        wanted += [("node", end.node), ("interface", end.interface)]
+    for what, value in wanted:
         if not value:
-            raise QuestionError("%s has no %s" % (end.name, what))
+            raise QuestionError("%s has no %s%s" % (end.name, what, " in the input" if is_node(end) else ""))
     return end.addresses[0]
 
 
@@ -66,22 +69,42 @@ def node_of(end):
 
 
 def title(asked):
-    ends = end_words(asked.sender, asked.source), end_words(asked.receiver, asked.destination)
+    ends = end_words(asked.sender, asked.source, asked.receiver), receiver_words(asked)
     return "%s to %s, %s" % (ends + (asked.traffic.words,))
 
 
+def receiver_words(asked):
+    words = end_words(asked.receiver, asked.destination, asked.sender)
+    return "%s, there %s" % (asked.service, words) if asked.service else words
+
+
 def short_title(asked):
-    return "%s to %s, %s" % (name_of(asked.sender), name_of(asked.receiver), asked.traffic.words)
+    receiver = name_of(asked.receiver)
+    if asked.service:
+        receiver = "%s, there %s" % (asked.service, receiver)
+    return "%s to %s, %s" % (name_of(asked.sender), receiver, asked.traffic.words)
 
 
-def end_words(end, address):
+def end_words(end, address, other):
+    """An end with its address; an address outside that is the other end's node is said to be it."""
+    if is_outside(end) and end.address in getattr(other, "hosts", ()):
+        return "%s (its node %s)" % (end.address, other.node)
     if is_outside(end):
         return "%s (no pod of the input)" % end.address
+    if is_node(end):
+        return "the node %s (%s)" % (end.node, address)
     return "%s (%s, node %s)" % (end.name, address, end.node)
 
 
 def packet(asked, incoming, outgoing):
     members = {"in": incoming, "out": outgoing, "src": asked.source, "dst": asked.destination}
+    members.update(asked.traffic.members)
+    return members
+
+
+def host_packet(asked, direction, interface):
+    """A packet that comes to a node's own processes, or from them, as felix-host reads it."""
+    members = {"direction": direction, "interface": interface, "src": asked.source, "dst": asked.destination}
     members.update(asked.traffic.members)
     return members
 
@@ -100,7 +123,7 @@ def read_list(text, origin):
 def listed(words, place):
     if len(words) not in (3, 4):
         raise QuestionError("%s: a line has FROM, TO, a protocol and a port" % place)
-    return Wish(words[0], words[1], traffic_of(words[2:], place), None, None)
+    return Wish(words[0], words[1], traffic_of(words[2:], place), None, None, place)
 
 
 def traffic_of(words, place):

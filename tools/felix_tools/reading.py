@@ -1,5 +1,6 @@
 """Reads what `kubectl get -o json` and `calicoctl get -o json` print, and lines that were made of it."""
 import collections
+import ipaddress
 import json
 import sys
 
@@ -52,11 +53,28 @@ def documents(text, origin):
     while place < len(text):
         try:
             value, place = decoder.raw_decode(text, place)
-        except (ValueError, RecursionError):
-            line = text.count("\n", 0, place) + 1
-            raise InputError("%s: what begins in line %d isn't JSON; YAML isn't read, so ask for `-o json`" % (origin, line))
+        except ValueError as fault:
+            raise InputError("%s: %s" % (origin, why_no_json(text, place, fault)))
+        except RecursionError:
+            raise InputError("%s: the JSON that begins in line %d is nested too deeply" % (origin, line_at(text, place)))
         yield value
         place = behind_blanks(text, place)
+
+
+def why_no_json(text, place, fault):
+    """Where a text stops to be JSON, and how: it breaks off, something odd stands there, or it never was."""
+    begin, at = line_at(text, place), getattr(fault, "pos", place)
+    if at >= len(text.rstrip()) or str(fault).startswith("Unterminated string"):
+        return "the JSON that begins in line %d breaks off at the file's end, in line %d: is the file whole?" % (
+            begin, line_at(text, len(text.rstrip())))
+    if at == place:
+        return "what begins in line %d isn't JSON; YAML isn't read, so ask for `-o json`" % begin
+    column = at - (text.rfind("\n", 0, at) + 1) + 1
+    return "line %d, column %d: this isn't JSON (%s)" % (line_at(text, at), column, fault.msg)
+
+
+def line_at(text, place):
+    return text.count("\n", 0, place) + 1
 
 
 def behind_blanks(text, place):
@@ -110,6 +128,24 @@ def part(value, *names):
     return value
 
 
+def texts(value):
+    """The texts of a list; of anything else none."""
+    return [item for item in value if isinstance(item, str)] if isinstance(value, list) else []
+
+
+def members(value):
+    """A value where it is an object, else one without members."""
+    return value if isinstance(value, dict) else {}
+
+
 def objects(value):
     """The objects of a list; of anything else none."""
     return [item for item in value if isinstance(item, dict)] if isinstance(value, list) else []
+
+
+def is_address(text):
+    """Whether a text is an address of IPv4."""
+    try:
+        return ipaddress.ip_address(text).version == 4
+    except ValueError:
+        return False

@@ -29,7 +29,8 @@ Growths are refused by a small library that is loaded before the program (felix_
 ($CC, else cc). With --checked the runs are those of `rt try --fail-alloc N` instead, of the unproved code with checks of
 each access; each takes as long as it takes to build the program.
 
-Status: 0 each run ended so, 1 some run didn't, 2 some file or word can't be read, 4 the program or `rt` didn't run."""
+Status: 0 each run ended so, 1 some run didn't, 2 some file or word can't be read, 4 the program or `rt` didn't
+run, 5 the output can't be written."""
 
 MEMORY = 5
 # Statuses of a run to which nothing is refused.

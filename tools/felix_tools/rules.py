@@ -1,8 +1,7 @@
 """Finds the rule of a policy that an answer counts, as it was written."""
 import collections
 
-from felix_tools.conversion import KUBERNETES
-from felix_tools.pods import CALICO
+from felix_tools.kinds import CALICO, KUBERNETES
 from felix_tools.reading import objects, part
 
 PEERS = {"egress": "to", "ingress": "from"}

@@ -3,6 +3,7 @@ import argparse
 import concurrent.futures
 import difflib
 import os
+import re
 import shlex
 import subprocess
 import sys
@@ -18,6 +19,8 @@ from felix_tools import program  # noqa: E402
 CASES = os.path.join(TESTS, "cases")
 DATA = os.path.join(TESTS, "data")
 RECORDED = os.path.join(TESTS, "recorded")
+# The programs that the tools ask questions; each has a stand-in of its own, which answers what was recorded.
+ASKED = (program.REPLAY, program.HOST, program.SERVICES)
 
 
 def main(words, help_text):
@@ -47,13 +50,18 @@ def main(words, help_text):
 
 
 def program_words(options):
-    path = compared_program(options)
-    return ", with recorded answers" + (" and with those of %s" % path if path else "")
+    paths = ", ".join(compared_programs(options).values())
+    return ", with recorded answers" + (" and with those of %s" % paths if paths else "")
 
 
-def compared_program(options):
-    """The program whose answers are compared with the recorded ones, or None."""
-    return options.program or (program.built_path(program.REPLAY) if program.is_built() else None)
+def compared_programs(options):
+    """The programs whose answers are compared with the recorded ones: the one that is given and what lies beside it, or those that
+    are built."""
+    if options.program:
+        beside = {one: os.path.join(os.path.dirname(os.path.abspath(options.program)), one.name) for one in ASKED}
+        found = {one: path for one, path in beside.items() if os.path.exists(path)}
+        return {**found, program.REPLAY: os.path.abspath(options.program)}
+    return {one: program.built_path(one) for one in ASKED if program.is_built(one)}
 
 
 def run_functions():
@@ -64,20 +72,29 @@ def run_functions():
 def run_case(name, options):
     """Whether the case passes, with recorded answers and, where there is a program, with that one's."""
     folder = os.path.join(CASES, name)
-    if not compared(name, "recorded answers", folder, environment(folder, options.record)):
+    if not compared(name, "recorded answers", folder, environment(folder, options)):
         return False
-    path = compared_program(options)
-    if not path or not os.path.isdir(os.path.join(folder, "answers")):
+    asked = compared_programs(options)
+    if not asked or not os.path.isdir(os.path.join(folder, "answers")):
         return True
-    return compared(name, path, folder, dict(os.environ, FELIX_REPLAY=os.path.abspath(path)))
+    return compared(name, ", ".join(asked.values()), folder, environment(folder, options, asked))
 
 
-def environment(folder, recording):
-    set_here = dict(os.environ, FELIX_REPLAY=RECORDED, RECORDED_ANSWERS=os.path.join(folder, "answers"))
-    set_here.pop("RECORD_WITH", None)
-    if recording:
-        set_here["RECORD_WITH"] = os.path.abspath(recording)
+def environment(folder, options, asked=()):
+    """Where a case finds its programs: recorded answers, but for the programs that are asked themselves."""
+    set_here = dict(os.environ, RECORDED_ANSWERS=os.path.join(folder, "answers"))
+    for one in ASKED:
+        set_here[one.variable] = asked[one] if one in asked else "%s-%s" % (RECORDED, one.name[len("felix-"):])
+        set_here.pop("RECORD_WITH_" + one.variable, None)
+        if recorded_by(one, options):
+            set_here["RECORD_WITH_" + one.variable] = os.path.abspath(recorded_by(one, options))
     return set_here
+
+
+def recorded_by(one, options):
+    """The program whose answers are kept: the one that is given, or of the others the one that lies beside it."""
+    beside = os.path.join(os.path.dirname(options.record), one.name) if options.record else None
+    return options.record if one == program.REPLAY else beside if beside and os.path.exists(beside) else None
 
 
 def compared(name, what, folder, environ):
@@ -86,16 +103,24 @@ def compared(name, what, folder, environ):
     done = subprocess.run(run, cwd=DATA, env=dict(environ, COLUMNS="110"), stdin=subprocess.DEVNULL, stdout=subprocess.PIPE,
                           stderr=subprocess.PIPE)
     found = {"stdout": done.stdout.decode("utf-8"), "stderr": done.stderr.decode("utf-8"), "status": "%d\n" % done.returncode}
-    wrong = [file for file in ("stdout", "stderr", "status") if found[file] != stored(folder, file)]
+    found["verdicts"] = verdicts_in(found["stdout"]) if os.path.exists(os.path.join(folder, "verdicts")) else ""
+    wrong = [file for file in found if found[file] != stored(folder, file, is_commented=file == "verdicts")]
     for file in wrong:
-        changes = difflib.unified_diff(stored(folder, file).split("\n"), found[file].split("\n"), "stored", "found", lineterm="", n=1)
+        kept = stored(folder, file, is_commented=file == "verdicts")
+        changes = difflib.unified_diff(kept.split("\n"), found[file].split("\n"), "stored", "found", lineterm="", n=1)
         print("%s, with %s: %s differs\n%s" % (name, what, file, "\n".join(changes)))
     return not wrong
 
 
-def stored(folder, file):
+def verdicts_in(answer):
+    """The verdict of each question, one a line."""
+    return "".join("%s\n" % verdict.lower() for verdict in re.findall(r"^\S.*: (ALLOWED|DENIED|UNKNOWN)$", answer, re.MULTILINE))
+
+
+def stored(folder, file, is_commented=False):
     path = os.path.join(folder, file)
     if not os.path.exists(path):
         return "0\n" if file == "status" else ""
     with open(path, encoding="utf-8", newline="") as opened:
-        return opened.read()
+        text = opened.read()
+    return re.sub(r" *#.*", "", text) if is_commented else text

@@ -8,8 +8,9 @@ from felix_tools.answers import Answers
 from felix_tools.asking import Asking
 from felix_tools.cluster import Cluster, Outside, UnknownEnd
 from felix_tools.conversion import convert
-from felix_tools.questions import QuestionError, Wish, port_traffic, resolve, traffic_of
+from felix_tools.questions import QuestionError, Wish, port_traffic, traffic_of
 from felix_tools.reading import Change
+from felix_tools.resolving import resolve
 from felix_tools.rule_words import rule_words, target
 from felix_tools.rules import Place, place_of, place_words
 from felix_tools.yaml_text import yaml_lines
@@ -153,12 +154,12 @@ class Ends(unittest.TestCase):
         ]
         for sender, receiver, wanted in rows:
             question, = resolve(Wish(sender, receiver, traffic, None, None), self.CLUSTER)
-            found = [(node, packet["in"], packet["out"]) for node, packet in asking.packets_of(question)]
+            found = [(run.node, packet["in"], packet["out"]) for run, packet in asking.packets_of(question)]
             self.assertEqual(found, wanted, (sender, receiver))
 
     def test_pairs_that_nothing_is_asked_of(self):
         traffic = port_traffic("TCP", 80)
-        self.assertEqual(resolve(Wish("a/web", "a/web", traffic, None, None), self.CLUSTER), [])
+        self.assertEqual(len(resolve(Wish("a/*b", "a/*b", traffic, None, None), self.CLUSTER)), 2)
         self.assertEqual(resolve(Wish("192.0.2.1", "192.0.2.2", traffic, None, None), self.CLUSTER), [])
         with self.assertRaisesRegex(QuestionError, "no IPv4 address"):
             resolve(Wish("a/six", "a/db", traffic, None, None), self.CLUSTER)
