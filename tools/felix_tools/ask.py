@@ -1,14 +1,16 @@
 """tools/ask: a question about a packet, answered in words."""
 import sys
 
+from felix_tools import json_out, policies, unproved
 from felix_tools.asking import run_of
 from felix_tools.inquiry import Inquiry
 from felix_tools.matrix import matrix_lines
-from felix_tools.options import add_program, add_questions, check_questions, tool_parser, wishes
-from felix_tools.questions import QuestionError, is_outside, name_of
+from felix_tools.options import add_program, add_questions, check_questions, listed, plain_wishes, tool_parser, wishes
+from felix_tools.questions import QuestionError, is_outside
 from felix_tools.reading import read_changes
-from felix_tools.start import REFUSED, answered
-from felix_tools.verdicts import ALLOWED, UNKNOWN
+from felix_tools.replicas import label_of
+from felix_tools.start import REFUSED, answered, remark
+from felix_tools.verdicts import ALLOWED, UNKNOWN, verdict_of, whole, word_of
 from felix_tools.words import answer_lines, input_blocks
 
 DESCRIPTION = """\
@@ -17,8 +19,10 @@ Asks the proved program whether a packet may go from one end to another, and say
   tools/ask cluster.json --from shop/web --to shop/db --tcp 5432
   tools/ask cluster.json --from 192.0.2.7 --to shop/web --tcp 443 --path
   tools/ask cluster.json --matrix --from 'shop/*' --to 'shop/*' --tcp 5432 --udp 53
+  tools/ask cluster.json --policies shop/web
 
-Files are those of tools/lines, or what it wrote. Where two pods run on two nodes, the sender's node is asked
+Files are those of tools/lines, or what it wrote. shop/web is a pod or all pods of a Deployment, StatefulSet, DaemonSet
+or Job; pods whose answers are equal are one row. Where two pods run on two nodes, the sender's node is asked
 whether the packet leaves, and the receiver's whether it enters. The packet opens a connection.
 
 Status: 0 allowed, 1 denied (of several questions: some is), 2 the question or a file can't be read,
@@ -37,6 +41,10 @@ def parser():
     shown = made.add_argument_group("answers")
     shown.add_argument("--path", action="store_true", help="the way through the chains, too")
     shown.add_argument("--matrix", action="store_true", help="a table of all pairs; without --from and --to of all pods")
+    shown.add_argument("--json", action="store_true", help="the answers as JSON (docs/answers.schema.json)")
+    shown.add_argument("--policies", action="append", metavar="END",
+                       help="asks no packet, but which policies select these pods (may be given again), and which policies "
+                            "of the input select no pod")
     shown.add_argument("--raw", choices=("sender", "receiver"),
                        help="what the program wrote for this side's node, with its tables: for tools/picture")
     add_program(made)
@@ -44,47 +52,78 @@ def parser():
 
 
 def answer(options):
+    if options.policies:
+        return policies.answer(options)
     check_questions(options)
     inquiry = Inquiry(read_changes(options.files), options, with_each_side=not options.matrix and not options.raw)
-    questions = inquiry.questions(wishes(options, all_pods=options.matrix))
-    if not questions:
+    if options.matrix and not options.json:
+        answers = asked(inquiry, inquiry.ask(wishes(options, all_pods=True), verdict_of))
+        return show(options, inquiry, matrices(answers, inquiry.cluster), status(answers))
+    plain, lists = plain_wishes(options, options.matrix), listed(options)
+    expected = [None] * len(plain) + [it.expected for it in lists]
+    each = inquiry.ask_each(plain + [it.wish for it in lists], whole)
+    answers = asked(inquiry, [answer for several in each for answer in several])
+    if options.raw:
+        return show_raw(options, inquiry, answers)
+    rows = [(answer, wanted) for several, wanted in zip(each, expected) for answer in several]
+    ended = status_of_rows(rows)
+    if options.json:
+        return show_json(options, inquiry, rows, ended)
+    return show(options, inquiry, [row_lines(answer, wanted, options.path) for answer, wanted in rows], ended)
+
+
+def asked(inquiry, answers):
+    """The answers, of which there has to be one at least."""
+    if not answers:
         raise QuestionError(inquiry.cluster.why_empty() or
                             "nothing is asked: --from and --to name two ends, and one of them at least is a pod or a node")
-    if options.raw and len(questions) > 1:
+    return answers
+
+
+def show(options, inquiry, blocks, ended):
+    head = [[unproved.SAID]] if options.unproved else []
+    print("\n\n".join("\n".join(block) for block in head + input_blocks(inquiry) + blocks if block))
+    return ended
+
+
+def show_json(options, inquiry, rows, ended):
+    answers = [json_out.row_value(*row) for row in rows]
+    print(json_out.written("ask", json_out.input_value(inquiry, options), answers=answers, status=ended))
+    return ended
+
+
+def show_raw(options, inquiry, answers):
+    if len(answers) > 1:
         raise QuestionError("--raw is for one question")
-    answers = inquiry.answers(questions)
-    if options.raw:
-        sys.stdout.write(raw_output(inquiry.asking, answers[0], options.raw))
-    else:
-        show(options, inquiry, answers)
+    if options.unproved:
+        remark("ask", unproved.SAID)
+    sys.stdout.write(raw_output(inquiry.asking, answers[0], options.raw))
     return status(answers)
 
 
-def show(options, inquiry, answers):
-    blocks = input_blocks(inquiry)
-    if options.matrix:
-        blocks += matrices(answers)
-    else:
-        blocks += [answer_lines(answer, options.path) for answer in answers]
-    print("\n\n".join("\n".join(block) for block in blocks if block))
+def row_lines(answer, wanted, with_path):
+    """An answer, and where a verdict is expected whether it is that one."""
+    lines = answer_lines(answer, with_path)
+    if wanted is None:
+        return lines
+    is_wanted = answer.verdict == word_of(wanted)
+    return lines + ["  as expected" if is_wanted else "  NOT AS EXPECTED: %s" % word_of(wanted)]
 
 
-def matrices(answers):
+def matrices(answers, cluster):
     """A table for each traffic, with the ends in the order in which they were asked about."""
     by_traffic = {}
     for answer in answers:
         by_traffic.setdefault(answer.question.traffic.words, []).append(answer)
-    return [matrix_of(group) for group in by_traffic.values()]
+    return [matrix_of(group, cluster) for group in by_traffic.values()]
 
 
-def matrix_of(answers):
-    senders, receivers, table = [], [], {}
+def matrix_of(answers, cluster):
+    table = {}
     for answer in answers:
-        question = answer.question
-        senders += [question.sender] * (question.sender not in senders)
-        receivers += [question.receiver] * (question.receiver not in receivers)
-        table[name_of(question.sender), name_of(question.receiver)] = answer
-    if set(map(name_of, senders)) == set(map(name_of, receivers)):
+        table[label_of(answer.question.senders, cluster), label_of(answer.question.receivers, cluster)] = answer
+    senders, receivers = [list(dict.fromkeys(names)) for names in zip(*table)]
+    if set(senders) == set(receivers):
         receivers = senders
     return matrix_lines(answers[0].question.traffic, senders, receivers, table)
 
@@ -96,6 +135,13 @@ def raw_output(asking, answer, wanted_side):
     if run_of(end) not in asking.outputs:
         raise QuestionError("no program was asked: %s" % answer.cause if answer.cause else "no program was asked")
     return asking.outputs[run_of(end)]
+
+
+def status_of_rows(rows):
+    """The status: of an answer with an expected verdict, whether it is that one."""
+    if any(answer.verdict == UNKNOWN for answer, _ in rows):
+        return REFUSED
+    return 0 if all(answer.verdict == word_of(wanted is not False) for answer, wanted in rows) else 1
 
 
 def status(answers):

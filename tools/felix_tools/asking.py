@@ -7,6 +7,7 @@ from felix_tools import program
 from felix_tools.answers import Answers, HostAnswers
 from felix_tools.conversion import input_of
 from felix_tools.host import host_input_of
+from felix_tools.progress import Progress
 from felix_tools.questions import host_packet, is_node, node_of, packet
 
 # One end's side of an answer. `reason` holds the program's words, or is None where the packet's way ended before;
@@ -37,11 +38,21 @@ class Asking:
 
     def ask(self, questions):
         """The answers to the questions."""
+        self.take(questions)
+        self.run_all()
+        return [self.result(question) for question in questions]
+
+    def take(self, questions):
+        """Notes the packets that are asked about, without asking yet."""
         for question in questions:
             for run, asked in self.packets_of(question):
                 self.packets.setdefault(run, collections.OrderedDict()).setdefault(text_of(asked), asked)
+
+    def serve(self, ends):
+        """Has these pods' nodes asked, whatever is asked of them."""
+        for end in ends:
+            self.packets.setdefault(run_of(end), collections.OrderedDict())
         self.run_all()
-        return [self.result(question) for question in questions]
 
     def packets_of(self, question):
         """(run, packet) of each packet that the question is."""
@@ -68,11 +79,13 @@ class Asking:
     def run_all(self):
         """Runs the program for each node: once alone, since the first run may build it, and then several side by side."""
         runs = list(self.packets)
+        self.paths.ahead(self.all_given())
         firsts = [next(run for run in runs if run.is_host == is_host) for is_host in {run.is_host for run in runs}]
-        outputs = {run: self.run(run) for run in firsts}
-        with concurrent.futures.ThreadPoolExecutor(max_workers=4) as pool:
+        pool = concurrent.futures.ThreadPoolExecutor(max_workers=4)
+        with Progress(len(runs), "nodes asked") as progress, pool:
+            outputs = {run: self.run(run, progress) for run in firsts}
             others = [run for run in runs if run not in outputs]
-            outputs.update(zip(others, pool.map(self.run, others)))
+            outputs.update(zip(others, pool.map(lambda run: self.run(run, progress), others)))
         for run in runs:
             self.outputs[run] = outputs[run]
             self.answers[run] = (HostAnswers if run.is_host else Answers)(outputs[run])
@@ -85,12 +98,21 @@ class Asking:
             raise program.ProgramError("the program refused a packet of node %s: %s" % (run.node, ", ".join(faults)))
         self.answered[run] = dict(zip(asked, answered))
 
-    def run(self, run):
+    def run(self, run, progress):
+        output = self.paths.run(*self.given(run))
+        progress.step()
+        return output
+
+    def all_given(self):
+        return [self.given(run) for run in self.packets]
+
+    def given(self, run):
+        """(program, node, input) of a run."""
         asked = self.packets[run].values()
         if run.is_host:
             given = host_input_of(self.host_lines(run), asked, lambda asked: self.host.failsafe_line(run.node, asked))
-            return program.run(self.paths.of(program.HOST), run.node, given)
-        return program.run(self.paths.of(self.forwarding), run.node, input_of(self.lines_of(run), asked, self.with_tables))
+            return program.HOST, run.node, given
+        return self.forwarding, run.node, input_of(self.lines_of(run), asked, self.with_tables)
 
     def host_lines(self, run):
         return self.host.lines_of(run.node) + self.lines

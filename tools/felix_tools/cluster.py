@@ -3,15 +3,20 @@ import collections
 import difflib
 import fnmatch
 import ipaddress
+import json
 
 from felix_tools.conversion import key_of, stands_as, text_of
 from felix_tools.kinds import CALICO
 from felix_tools.pods import ON_HOST, host_addresses
 from felix_tools.reading import is_address, members, objects, part
+from felix_tools.workloads import (
+    has_labels, is_selection, name_of_workload, named_workload, selection, workload_of,
+)
 
-# A workload endpoint: its pod's name behind the namespace (or its own), its id in answers, what a packet needs of it, the addresses
-# of the node that it is on, as far as the input tells them, and its own labels and the ports that have names.
-Endpoint = collections.namedtuple("Endpoint", "name id node interface addresses hosts labels ports")
+# A workload endpoint: its pod's name behind the namespace (or its own), its id in answers, what a packet needs of it, the
+# addresses of the node that it is on, as far as the input tells them, its own labels, the ports that have names, what it
+# belongs to, and what policies see of it beside its addresses.
+Endpoint = collections.namedtuple("Endpoint", "name id node interface addresses hosts labels ports workload traits")
 # An end of a connection that is no workload endpoint.
 Outside = collections.namedtuple("Outside", "address")
 # The processes of a node itself, which no interface of a workload leads to.
@@ -43,6 +48,9 @@ class Cluster:
         self.endpoints = [endpoint_of(resource, self.written[key]) for key, resource in made.items()
                           if key[:2] == (CALICO, "WorkloadEndpoint")]
         self.nodes = self.node_addresses()
+        self.workloads = collections.defaultdict(list)
+        for endpoint in self.endpoints:
+            self.workloads[endpoint.workload].append(endpoint)
 
     def node_addresses(self):
         """The addresses of each node, by the node itself and by what its pods say of it."""
@@ -64,15 +72,17 @@ class Cluster:
         return self.written.get(stands_as((version, kind, namespace, name)))
 
     def ends(self, text):
-        """The ends that a name, a pattern of names or an address stands for."""
+        """The ends that a name of a pod or of several, a pattern of names or an address stands for."""
         if is_address(text):
             return [self.end_at(text)]
         refuse_other_addresses(text)
         if text.startswith(NODE_FRONT):
             return [self.node_end(text[len(NODE_FRONT):])]
+        if is_selection(text):
+            return self.selected(text)
         if any(letter in text for letter in PATTERN_LETTERS):
             return self.named_like(text)
-        return [self.named(text)]
+        return self.named(text)
 
     def end_at(self, address):
         found = [endpoint for endpoint in self.endpoints if address in endpoint.addresses]
@@ -95,13 +105,53 @@ class Cluster:
             raise UnknownEnd(self.why_empty() or "no pod has a name like %s" % pattern)
         return found
 
+    def selected(self, text):
+        """The pods of a namespace that have some labels."""
+        wanted = selection(text)
+        if not wanted:
+            raise UnknownEnd("%s isn't NAMESPACE/LABEL=VALUE" % text)
+        inside = [it for it in self.endpoints if fnmatch.fnmatchcase(it.name.partition("/")[0], wanted[0])]
+        found = [endpoint for endpoint in inside if has_labels(endpoint.labels, wanted[1])]
+        if not found:
+            raise UnknownEnd(self.why_empty() or "no pod in %s has the labels %s" % (wanted[0], text.partition("/")[2]))
+        return found
+
     def named(self, name):
+        """The pod of this name, or all pods of the workload of this name."""
         found = [endpoint for endpoint in self.endpoints if name in (endpoint.name, endpoint.id)]
         if len(found) > 1:
             raise UnknownEnd("%s has several endpoints: %s; name one of these" % (name, ", ".join(e.id for e in found)))
+        if not found and self.is_on_host(name):
+            return [self.node_end(self.pods_left_out[name].node)]
+        found = found or self.of_workload(name)
         if not found:
             raise UnknownEnd(self.why_unknown(name))
-        return found[0]
+        return found
+
+    def of_workload(self, name):
+        """The pods of the one workload that a name is of."""
+        kind, namespace, own = named_workload(name) or (None, None, None)
+        found = [workload for workload in self.workloads
+                 if workload.name == own and namespace in (None, workload.namespace) and kind in (None, workload.kind)]
+        if len(found) > 1:
+            told = ", ".join("%s/%s/%s" % (it.namespace, it.kind, it.name) for it in found)
+            raise UnknownEnd("%s is the name of several: %s" % (name, told))
+        return self.workloads[found[0]] if found else []
+
+    def pods_of(self, workload):
+        return self.workloads.get(workload, [])
+
+    def name_of_workload(self, workload):
+        """The workload's name; with its kind where several have that name."""
+        alike = [it for it in self.workloads if it[1:] == workload[1:]]
+        if len(alike) < 2:
+            return name_of_workload(workload)
+        return "%s/%s/%s" % (workload.namespace, workload.kind, workload.name)
+
+    def is_on_host(self, name):
+        """Whether a name is that of a pod on the host's network, which is as its node is."""
+        pod = self.pods_left_out.get(name)
+        return pod is not None and pod.why == ON_HOST and pod.node in self.nodes
 
     def why_empty(self):
         """That there is no pod to be asked about, where that is so."""
@@ -122,7 +172,12 @@ class Cluster:
         begin = [endpoint.name for endpoint in self.endpoints if endpoint.name.startswith(name)]
         if begin:
             return "no running pod %s in the input; there %s %s" % (name, "is" if len(begin) == 1 else "are", shown_names(begin))
-        return "no running pod %s in the input%s" % (name, near_words(name, [endpoint.name for endpoint in self.endpoints]))
+        return "no running pod %s in the input%s" % (name, near_words(name, self.names()))
+
+    def names(self):
+        """The names of workloads and pods."""
+        names = [name_of_workload(it) for it in self.workloads] + [endpoint.name for endpoint in self.endpoints]
+        return list(dict.fromkeys(names))
 
     def why_left_out(self, name):
         left_out = self.pods_left_out[name]
@@ -175,4 +230,14 @@ def endpoint_of(resource, written):
         hosts=host_addresses(written),
         labels=members(part(resource, "metadata", "labels")),
         ports=objects(part(resource, "spec", "ports")),
+        workload=workload_of(written, namespace, pod or own),
+        traits=traits_of(resource),
     )
+
+
+def traits_of(resource):
+    """What policies see of an endpoint, beside its addresses and its namespace."""
+    spec = part(resource, "spec") or {}
+    ports = sorted(json.dumps(port, sort_keys=True) for port in objects(spec.get("ports")))
+    told = [part(resource, "metadata", "labels"), ports] + [spec.get(name) for name in ("orchestrator", "serviceAccountName", "profiles")]
+    return json.dumps(told, sort_keys=True)

@@ -1,13 +1,15 @@
 """tools/diff: which verdicts a change of resources changes, and by which rule."""
+import dataclasses
 
-from felix_tools import program
+from felix_tools import json_out, unproved
 from felix_tools.cluster import UnknownEnd
 from felix_tools.inquiry import Inquiry
-from felix_tools.options import add_program, add_questions, check_questions, tool_parser, wishes
-from felix_tools.questions import QuestionError, short_title
+from felix_tools.options import add_program, add_questions, check_questions, paths_of, tool_parser, wishes
+from felix_tools.questions import Question, QuestionError, short_title
 from felix_tools.reading import InputError, read_changes
+from felix_tools.replicas import Replicas, ends_of, merged, pairs_of, tell_number
 from felix_tools.start import REFUSED, answered
-from felix_tools.verdicts import UNKNOWN
+from felix_tools.verdicts import UNKNOWN, whole
 from felix_tools.words import INDENT, doubt_lines, input_blocks, reason_lines
 
 DESCRIPTION = """\
@@ -36,6 +38,7 @@ def parser():
     made = tool_parser("diff", DESCRIPTION)
     made.add_argument("--before", nargs="+", required=True, metavar="FILE", help="the resources as they are")
     made.add_argument("--after", nargs="+", required=True, metavar="FILE", help="the resources as they would be")
+    made.add_argument("--json", action="store_true", help="the changes as JSON (docs/answers.schema.json)")
     made.add_argument("--reasons", action="store_true", help="tell also where the verdict stays and another rule decides")
     add_questions(made)
     add_program(made)
@@ -51,41 +54,147 @@ class Version:
         self.answers = {}
         self.missing = []
 
-    def ask(self, wishes):
+    def questions(self, wishes, replicas):
+        """The questions that can be asked of these resources."""
+        self.missing = []
         questions = []
         for wish in wishes:
             try:
-                questions += self.inquiry.questions([wish])
+                questions += self.inquiry.questions([wish], replicas)
             except (UnknownEnd, QuestionError) as fault:
                 self.missing.append(str(fault))
-        for answer in self.inquiry.answers(questions):
-            self.answers[answer.key] = answer
+        return questions
+
+    def ask(self, questions):
+        self.answers = {key_of(answer.question): answer for answer in self.inquiry.answers(questions)}
 
     def notes(self):
         lines = [line for block in input_blocks(self.inquiry) for line in block]
         lines += [text + "." for text in dict.fromkeys(self.missing)]
         return ["In what is %s:" % self.name] + [INDENT + line for line in lines] if lines else []
 
+    def input_value(self):
+        told = json_out.input_value(self.inquiry, self.inquiry.options)["input"]
+        missing = [{"head": "Not there:", "texts": list(dict.fromkeys(self.missing))}] if self.missing else []
+        return told + missing
+
     def forget_repeated(self):
         """In what is after a later file is what is applied to an earlier one."""
         self.inquiry.conversion.repeated.clear()
 
 
+@dataclasses.dataclass
+class Change:
+    """A question with both answers to it; none where an end isn't there."""
+    question: Question
+    old: object
+    new: object
+
+    def of(self, asked, names):
+        return Change(asked, *(it.of(asked, names) if it else None for it in (self.old, self.new)))
+
+    @property
+    def verdicts(self):
+        return [it.verdict if it else "not there" for it in (self.old, self.new)]
+
+    @property
+    def causes(self):
+        return [it.causes if it else None for it in (self.old, self.new)]
+
+    @property
+    def is_changed(self):
+        return self.verdicts[0] != self.verdicts[1]
+
+    @property
+    def may_change(self):
+        """Whether neither verdict is known, and as far as all is read they differ."""
+        return self.verdicts == [UNKNOWN, UNKNOWN] and self.old.without != self.new.without
+
+    @property
+    def has_other_reason(self):
+        return self.causes[0] != self.causes[1]
+
+    @property
+    def words(self):
+        old, new = self.verdicts
+        if self.is_changed:
+            return "%s before, %s after" % (old, new)
+        if self.may_change:
+            return "unknown; as far as all is read %s before, %s after" % (self.old.without, self.new.without)
+        return "%s by another rule" % old
+
+
 def compare(options):
     check_questions(options)
-    paths = program.Paths(options.program)
+    paths = paths_of(options)
     before = Version("before", options.before, options, paths)
     after = Version("after", options.after, options, paths)
     after.forget_repeated()
     check_change(before.inquiry, after.inquiry)
-    for version in (before, after):
-        version.ask(wishes(options, all_pods=True))
-    if not before.answers and not after.answers:
+    changes = asked_of_both(before, after, wishes(options, all_pods=True))
+    if not changes:
         raise QuestionError("; ".join(before.missing + after.missing) or "nothing is asked: --from and --to name two ends")
-    changed = tell(before, after, options.reasons)
-    if any(answer.verdict == UNKNOWN for version in (before, after) for answer in version.answers.values()):
+    ended = status(changes)
+    if options.json:
+        tell_json(options, before, after, changes, ended)
+    else:
+        tell(options, before, after, changes)
+    return ended
+
+
+def asked_of_both(before, after, asked):
+    """The changes of all answers; pods of one workload for which they are equal are one."""
+    versions = before, after
+    replicas = None if before.inquiry.options.each_pod else Replicas(*(version.inquiry.cluster for version in versions))
+    ask_both(versions, asked, replicas)
+    if replicas and any(version.inquiry.has_refused_pods() for version in versions):
+        ask_both(versions, asked, None)
+    keys = dict.fromkeys(list(before.answers) + list(after.answers))
+    both = [(before.answers.get(key), after.answers.get(key)) for key in keys]
+    changes = [Change((new or old).question, old, new) for old, new in both]
+    return merged(changes, Both(before, after), whole_change) if replicas else changes
+
+
+def ask_both(versions, asked, replicas):
+    """Asks both, so that all runs of the program are known before the first."""
+    questions = [version.questions(asked, replicas) for version in versions]
+    tell_number(max(questions, key=len))
+    for version, of_it in zip(versions, questions):
+        version.inquiry.prepare(of_it)
+    versions[0].inquiry.asking.paths.ahead([run for version in versions for run in version.inquiry.asking.all_given()])
+    for version, of_it in zip(versions, questions):
+        version.ask(of_it)
+
+
+class Both:
+    """The workloads of both sets of resources: as they are after, and of those that aren't there then as they were."""
+
+    def __init__(self, before, after):
+        self.clusters = [after.inquiry.cluster, before.inquiry.cluster]
+
+    def cluster_of(self, workload):
+        return next((cluster for cluster in self.clusters if cluster.pods_of(workload)), self.clusters[0])
+
+    def pods_of(self, workload):
+        return self.cluster_of(workload).pods_of(workload)
+
+    def name_of_workload(self, workload):
+        return self.cluster_of(workload).name_of_workload(workload)
+
+
+def key_of(asked):
+    """What is asked, whatever the answer: for comparing two answers."""
+    return ends_of(asked.senders), ends_of(asked.receivers), asked.traffic.words, asked.service
+
+
+def whole_change(change):
+    return [whole(it) if it else None for it in (change.old, change.new)]
+
+
+def status(changes):
+    if any(UNKNOWN in change.verdicts for change in changes):
         return REFUSED
-    return 1 if changed else 0
+    return 1 if any(change.is_changed for change in changes) else 0
 
 
 def check_change(before, after):
@@ -97,58 +206,51 @@ def check_change(before, after):
         raise InputError("what is after has no pods: give the cluster's own files too, and what is applied to them behind")
 
 
-def tell(before, after, with_reasons):
-    """Prints what changes; answers how many verdicts do."""
-    blocks = [version.notes() for version in (before, after)]
-    keys = list(before.answers) + [key for key in after.answers if key not in before.answers]
-    changed = 0
-    for key in keys:
-        old, new = before.answers.get(key), after.answers.get(key)
-        is_changed = verdict_of(old) != verdict_of(new)
-        changed += is_changed
-        if is_changed or may_change(old, new) or with_reasons and causes_of(old) != causes_of(new):
-            blocks.append(change_lines(old, new))
-    blocks.append(["%d of %d verdicts change.%s" % (changed, len(keys), unknown_words(before, after))])
+def shown(options, changes):
+    return [it for it in changes if it.is_changed or it.may_change or options.reasons and it.has_other_reason]
+
+
+def tell(options, before, after, changes):
+    """Prints what changes, and how many verdicts do."""
+    blocks = [[unproved.SAID]] if options.unproved else []
+    blocks += [version.notes() for version in (before, after)]
+    blocks += [change_lines(change) for change in shown(options, changes)]
+    changed = number_of(change for change in changes if change.is_changed)
+    blocks.append(["%d of %d verdicts change.%s" % (changed, number_of(changes), unknown_words(changes))])
     print("\n\n".join("\n".join(block) for block in blocks if block))
-    return changed
 
 
-def unknown_words(before, after):
-    counts = [(version.name, sum(answer.verdict == UNKNOWN for answer in version.answers.values())) for version in (before, after)]
+def tell_json(options, before, after, changes, ended):
+    head = {"unproved": options.unproved, "input": {version.name: version.input_value() for version in (before, after)}}
+    rows = [change_value(change) for change in shown(options, changes)]
+    changed = number_of(change for change in changes if change.is_changed)
+    print(json_out.written("diff", head, changes=rows, verdicts=number_of(changes), changed=changed, status=ended))
+
+
+def change_value(change):
+    value = json_out.question_value(change.question)
+    return dict(value, before=json_out.verdict_value(change.old), after=json_out.verdict_value(change.new))
+
+
+def number_of(changes):
+    """How many pairs of ends some changes are about."""
+    return sum(pairs_of(change.question) for change in changes)
+
+
+def unknown_words(changes):
+    counts = [(name, number_of(it for it in changes if it.verdicts[place] == UNKNOWN))
+              for place, name in enumerate(("before", "after"))]
     told = " and ".join("%d %s" % (count, name) for name, count in counts if count)
     return " Not known: %s." % told if told else ""
 
 
-def verdict_of(answer):
-    return answer.verdict if answer else "not there"
-
-
-def may_change(old, new):
-    """Whether neither verdict is known, and as far as all is read they differ."""
-    return bool(old and new) and old.verdict == new.verdict == UNKNOWN and old.without != new.without
-
-
-def causes_of(answer):
-    return answer.causes if answer else None
-
-
-def change_lines(old, new):
-    change = change_words(old, new)
-    lines = ["%s: %s" % (short_title((new or old).question), change)]
-    for name, answer, other in (("before", old, new), ("after", new, old)):
+def change_lines(change):
+    lines = ["%s: %s" % (short_title(change.question), change.words)]
+    for name, answer, other in (("before", change.old, change.new), ("after", change.new, change.old)):
         if answer:
             lines += ["  " + name] + [INDENT + line[2:] for line in doubt_lines(answer)]
             lines += [INDENT + line[2:] for reason in reasons_that_differ(answer, other) for line in reason_lines(reason)]
     return lines
-
-
-def change_words(old, new):
-    verdicts = verdict_of(old), verdict_of(new)
-    if verdicts[0] != verdicts[1]:
-        return "%s before, %s after" % verdicts
-    if may_change(old, new):
-        return "unknown; as far as all is read %s before, %s after" % (old.without, new.without)
-    return "%s by another rule" % verdicts[0]
 
 
 def reasons_that_differ(answer, other):

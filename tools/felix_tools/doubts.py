@@ -4,7 +4,6 @@ Whether a policy that was refused would apply to an end the program says: it is 
 selectors and types and without the rules that it doesn't read."""
 import concurrent.futures
 
-from felix_tools import program
 from felix_tools.answers import Answers
 from felix_tools.conversion import Line, Unread, display_name, input_of, is_for_hosts, key_of, kind_of
 from felix_tools.kinds import CALICO, KUBERNETES, is_of_one_namespace
@@ -37,12 +36,12 @@ class Doubts:
         self.stand_ins = {id(line): stand_in(line) for line, _ in self.refused[False] if kind_of(line.resource) in SORTS}
         self.applying = {}
 
-    def prepare(self, questions):
-        """Asks for the nodes of these questions, several side by side, where a refused policy may apply to their pods."""
-        ends = [end for question in questions for end in (question.sender, question.receiver)]
+    def prepare(self, ends):
+        """Asks for the nodes of these ends, several side by side, where a refused policy may apply to their pods."""
         policies = [made.resource for made in self.stand_ins.values()]
         nodes = list(dict.fromkeys(end.node for end in ends if not is_outside(end) and not is_node(end)
                                    and any(may_be_of(policy, end) for policy in policies)))
+        self.asking.paths.ahead([self.given(node) for node in nodes])
         with concurrent.futures.ThreadPoolExecutor(max_workers=4) as pool:
             self.applying.update(zip(nodes, pool.map(self.run, nodes)))
 
@@ -92,12 +91,14 @@ class Doubts:
 
     def run(self, node):
         """What the program answers for a node with the policies that stand in, and which of these it refused, too."""
-        lines = self.asking.forwarded_lines
-        first = len(lines)
-        path = self.asking.paths.of(self.asking.forwarding)
-        answers = Answers(program.run(path, node, input_of(lines + list(self.stand_ins.values()))))
+        first = len(self.asking.forwarded_lines)
+        answers = Answers(self.asking.paths.run(*self.given(node)))
         numbers = {refusal.line - first - 1 for refusal in answers.refusals if refusal.line > first}
         return answers, {key for place, key in enumerate(self.stand_ins) if place in numbers}
+
+    def given(self, node):
+        """(program, node, input) of the run that says where they would apply."""
+        return self.asking.forwarding, node, input_of(self.asking.forwarded_lines + list(self.stand_ins.values()))
 
     def tiers(self, direction, end):
         served = self.asking.served(end)

@@ -1,4 +1,6 @@
 """An inquiry: resources, the questions that are asked of them, and the answers as values (verdicts.py)."""
+import itertools
+
 from felix_tools import program
 from felix_tools.asking import Asking
 from felix_tools.cluster import Cluster, standing_lines
@@ -6,9 +8,11 @@ from felix_tools.conversion import convert, kind_of, services_lines
 from felix_tools.doubts import NAMESPACED, Doubts, host_policies, host_policy_text, without_host_policies
 from felix_tools.host import HostResources, peer_lines
 from felix_tools.nearby import near_notes, settled
+from felix_tools.options import paths_of
 from felix_tools.questions import is_node, is_outside
 from felix_tools.reading import part
-from felix_tools.resolving import resolve
+from felix_tools.replicas import ENDPOINT, Replicas, merged, tell_number
+from felix_tools.resolving import check_number, resolve
 from felix_tools.verdicts import UNKNOWN, answer_of
 
 
@@ -21,7 +25,7 @@ class Inquiry:
         self.options = options
         self.cluster = self.cluster_of(self.conversion.lines)
         self.host_policies = host_policies(self.conversion.lines)
-        self.asking = Asking(paths or program.Paths(options.program), self.lines(), options.uplink,
+        self.asking = Asking(paths or paths_of(options), self.lines(), options.uplink,
                              with_tables=getattr(options, "path", False) or bool(getattr(options, "raw", None)),
                              with_each_side=with_each_side, host=self.host_resources(), peers=self.peers,
                              forwarding=program.SERVICES if self.slices is not None else program.REPLAY)
@@ -41,8 +45,50 @@ class Inquiry:
         self.misread = self.conversion.unknown_fields + without_slices
         return lines
 
-    def questions(self, wishes):
-        return [question for wish in wishes for question in resolve(wish, self.cluster)]
+    def replicas(self):
+        """Which pods are asked about together; None where each is by itself."""
+        is_each = self.options.each_pod or getattr(self.options, "path", False) or getattr(self.options, "raw", None)
+        return None if is_each else Replicas(self.cluster)
+
+    def questions(self, wishes, replicas=None):
+        """The questions of the wishes, those of pods that are alike in `replicas` as one."""
+        questions = []
+        for wish in wishes:
+            questions += resolve(wish, self.cluster, replicas, self.options.most)
+            check_number(len(questions), self.options.most)
+        return questions
+
+    def ask(self, wishes, value_of):
+        """The answers to all wishes; pods of one workload stand in one, where `value_of` it is equal for them."""
+        answers = [answer for several in self.ask_each(wishes) for answer in several]
+        return merged(answers, self.cluster, value_of) if self.replicas() else answers
+
+    def ask_each(self, wishes, value_of=None):
+        """The answers to each wish; with `value_of` those of each wish are merged by themselves."""
+        replicas = self.replicas()
+        asked = self.questions_of_each(wishes, replicas)
+        answers = self.answers_of_each(asked)
+        if replicas and self.has_refused_pods():
+            answers = self.answers_of_each(self.questions_of_each(wishes, None))
+        return [merged(several, self.cluster, value_of) if replicas and value_of else several for several in answers]
+
+    def questions_of_each(self, wishes, replicas):
+        asked = [self.questions([wish], replicas) for wish in wishes]
+        check_number(sum(map(len, asked)), self.options.most)
+        tell_number([question for questions in asked for question in questions])
+        return asked
+
+    def answers_of_each(self, asked):
+        answers = iter(self.answers([question for questions in asked for question in questions]))
+        return [list(itertools.islice(answers, len(questions))) for questions in asked]
+
+    def has_refused_pods(self):
+        """Whether the program refused an endpoint: pods that are alike may then have unlike answers."""
+        return any(kind_of(line.resource)[1] == ENDPOINT for line, _ in self.refusals())
+
+    def prepare(self, questions):
+        """Notes what the program will be asked for these questions, without asking yet."""
+        self.asking.take([question for question in questions if settled(question, self.cluster) is None])
 
     def answers(self, questions):
         """An answer for each question, in their order."""
@@ -50,13 +96,16 @@ class Inquiry:
         asked = [question for place, question in enumerate(questions) if known[place] is None]
         results = iter(self.asking.ask(asked))
         standing = {is_host: self.standing(self.asking.refusals(is_host)) for is_host in (False, True)}
-        doubts = Doubts(self.asking, self.conversion.unread, self.misread, self.host_policies)
-        doubts.prepare(asked)
+        doubts = self.doubts()
+        doubts.prepare([end for question in asked for end in (question.sender, question.receiver)])
         return [known[place] or self.answer(next(results), standing, doubts) for place in range(len(questions))]
 
     def standing(self, refusals):
         """What stands without the lines that were refused."""
         return self.cluster_of(standing_lines(self.asking.lines, refusals)) if refusals else self.cluster
+
+    def doubts(self):
+        return Doubts(self.asking, self.conversion.unread, self.misread, self.host_policies)
 
     def answer(self, result, standing, doubts):
         made = answer_of(result, standing)

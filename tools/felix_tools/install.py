@@ -15,14 +15,17 @@ Copies the built programs, the tools and a man page under a folder, and tells ea
   tools/install /usr/local
   tools/install package/usr
 
-Programs go to PREFIX/bin under their names, and the tools as felix-ask, felix-lines and so on; what they are made of
-goes to PREFIX/lib/felix, and the man page felix-replay(1) to PREFIX/share/man. No file names the folder, so it may be
-moved. Nothing is copied unless each program is built from the sources that stand here. `felix-ask --version` says which
-they are.
+Programs go to PREFIX/bin under their names, the tools as felix-ask, felix-lines and so on, and the plugin of kubectl as
+kubectl-felix, which `kubectl felix` finds where PREFIX/bin is on the PATH. What they are made of goes to
+PREFIX/lib/felix, and the man page felix-replay(1) to PREFIX/share/man. No file names the folder, so it may be moved.
+Nothing is copied unless each program is built from the sources that stand here. `felix-ask --version` says which they
+are.
 
 Status: 0 done, 2 a file can't be written, 4 some program isn't built, 5 the output can't be written."""
 
-TOOLS = ("apply", "ask", "cluster", "diff", "found", "growth", "hostile", "limits", "lines", "picture", "refuse-memory")
+TOOLS = ("apply", "ask", "check", "cluster", "diff", "found", "growth", "hostile", "limits", "lines", "picture",
+         "refuse-memory")
+PLUGIN = "kubectl-felix"
 MODULES = os.path.dirname(os.path.abspath(__file__))
 SCRIPTS = os.path.dirname(MODULES)
 
@@ -78,6 +81,8 @@ def install_tools(prefix, version):
     for name in TOOLS:
         copy(os.path.join(SCRIPTS, name), os.path.join(folder, name), 0o755)
         link(os.path.join("..", "lib", "felix", name), os.path.join(prefix, "bin", "felix-" + name))
+    copy(os.path.join(SCRIPTS, PLUGIN), os.path.join(folder, PLUGIN), 0o755)
+    link(os.path.join("..", "lib", "felix", PLUGIN), os.path.join(prefix, "bin", PLUGIN))
 
 
 # ---- files, each of which is whole at every moment, also where another stood

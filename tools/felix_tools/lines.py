@@ -14,8 +14,8 @@ Writes what kubectl and calicoctl print as lines for felix-replay, with `inSync`
   calicoctl get globalnetworkpolicies -o json > global.json
   tools/lines cluster.json global.json > lines.jsonl
 
-A file holds JSON: lists, single resources, several of them, or lines that were made before. YAML isn't read.
-Pods become workload endpoints, as Calico makes them, and orders whole numbers that compare alike. Told on
+A file holds JSON or, where PyYAML is installed, YAML: lists, single resources, several of them, or lines that were made
+before. Pods become workload endpoints, as Calico makes them, and orders whole numbers that compare alike. Told on
 standard error is what is left out, kind by kind, what stands in two files, and what kubectl would refuse.
 Whether a resource is accepted the program says, and not this tool.
 

@@ -1,15 +1,12 @@
 """A table of verdicts: who may reach whom."""
 from felix_tools import verdicts
-from felix_tools.questions import name_of
 
 MARKS = {verdicts.ALLOWED: "+", verdicts.DENIED: "-", verdicts.UNKNOWN: "?"}
 ITSELF = "."
 
 
-def matrix_lines(traffic, senders, receivers, answers):
+def matrix_lines(traffic, sender_names, receiver_names, answers):
     """The table of one traffic; `answers` has the answers by (name of the sender, name of the receiver)."""
-    sender_names = [name_of(end) for end in senders]
-    receiver_names = [name_of(end) for end in receivers]
     wide = max(len(name) for name in sender_names)
     if receiver_names == sender_names:
         heads = [str(number) for number in range(1, len(receiver_names) + 1)]

@@ -40,7 +40,7 @@ def find(path=None, program=REPLAY):
 
 
 class Paths:
-    """The paths of the programs that are asked, each looked for once it is needed."""
+    """The programs that are asked, each looked for once it is needed."""
 
     def __init__(self, given=None):
         self.found = {}
@@ -50,6 +50,12 @@ class Paths:
         if program not in self.found:
             self.found[program] = find(self.given if program == REPLAY else None, program)
         return self.found[program]
+
+    def ahead(self, runs):
+        """Says which runs will be asked for, (program, node, input) each."""
+
+    def run(self, program, node, text):
+        return run(self.of(program), node, text)
 
 
 def find_built(path=None, program=REPLAY):

@@ -1,20 +1,25 @@
 """Questions: may a packet go from one end to another?"""
 import collections
+import re
 
 from felix_tools.cluster import NodeEnd, Outside
 
 SOURCE_PORT = 40000
 ECHO_REQUEST = (8, 0)
 PORT_PROTOCOLS = ("TCP", "UDP", "SCTP")
+PORT_NAME = re.compile(r"[A-Za-z0-9][A-Za-z0-9_.-]{0,127}\Z")
 
 # What a packet is beside its ends: the words that name it, and the members of a packet's line.
 Traffic = collections.namedtuple("Traffic", "words members")
 # What was asked, as it was asked: names, patterns or addresses of ends, the addresses that the packet has in place of theirs, and in
 # a list its file and line.
 Wish = collections.namedtuple("Wish", "sender receiver traffic source destination place", defaults=("",))
-# Two ends of the cluster with the addresses that the packet has, and the traffic. `service` names the Service through which the
-# receiver was found, as it is said in a title; `notes` are what is to be said of the packet's way there.
-Question = collections.namedtuple("Question", "sender receiver source destination traffic service notes")
+# Two ends of the cluster with the addresses that the packet has, and the traffic. `service` names the Service through
+# which the receiver was found, as it is said in a title; `notes` are what is to be said of the packet's way there. Where
+# it is asked for several pods at once, `senders` and `receivers` are these, and `names` is how titles name both.
+Question = collections.namedtuple(
+    "Question", "sender receiver source destination traffic service notes senders receivers names",
+    defaults=((), (), None))
 
 
 class QuestionError(Exception):
@@ -22,7 +27,8 @@ class QuestionError(Exception):
 
 
 def port_traffic(protocol, port, source_port=SOURCE_PORT):
-    return Traffic("%s %d" % (protocol, port), {"proto": protocol, "sport": source_port, "dport": port})
+    """Traffic to a port by its number, or by its name, which is the receiver's."""
+    return Traffic("%s %s" % (protocol, port), {"proto": protocol, "sport": source_port, "dport": port})
 
 
 def icmp_traffic(kind=ECHO_REQUEST[0], code=ECHO_REQUEST[1]):
@@ -45,7 +51,31 @@ def is_node(end):
 def question(sender, receiver, wish, service="", notes=()):
     source = wish.source or address_of(sender)
     destination = wish.destination or address_of(receiver)
-    return Question(sender, receiver, source, destination, wish.traffic, service, tuple(notes))
+    traffic = with_number(wish.traffic, receiver)
+    return Question(sender, receiver, source, destination, traffic, service, tuple(notes), (sender,), (receiver,))
+
+
+def with_number(traffic, receiver):
+    """The traffic, with the receiver's number of a port that is named."""
+    name, protocol = traffic.members.get("dport"), traffic.members["proto"]
+    if not isinstance(name, str):
+        return traffic
+    named = named_ports(receiver, protocol)
+    if name not in named:
+        told = ", ".join("%s (%s)" % pair for pair in named.items())
+        raise QuestionError("%s has no %s port named %s%s" % (
+            name_of(receiver), protocol, name, "; it has " + told if told else ""))
+    return Traffic("%s %s (%s)" % (protocol, named[name], name), dict(traffic.members, dport=named[name]))
+
+
+def has_port(end, traffic):
+    """Whether an end names the port that the traffic is to."""
+    return traffic.members["dport"] in named_ports(end, traffic.members["proto"])
+
+
+def named_ports(end, protocol):
+    ports = [] if is_outside(end) or is_node(end) else end.ports
+    return {port.get("name"): port.get("port") for port in ports if (port.get("protocol") or "TCP") == protocol}
 
 
 def address_of(end):
@@ -69,20 +99,21 @@ def node_of(end):
 
 
 def title(asked):
-    ends = end_words(asked.sender, asked.source, asked.receiver), receiver_words(asked)
-    return "%s to %s, %s" % (ends + (asked.traffic.words,))
-
-
-def receiver_words(asked):
-    words = end_words(asked.receiver, asked.destination, asked.sender)
-    return "%s, there %s" % (asked.service, words) if asked.service else words
+    """The question with addresses and nodes; of several pods with their workload's name alone."""
+    sender = end_words(asked.sender, asked.source, asked.receiver)
+    receiver = end_words(asked.receiver, asked.destination, asked.sender)
+    return title_of(asked, asked.names[0] if len(asked.senders) > 1 else sender,
+                    asked.names[1] if len(asked.receivers) > 1 else receiver)
 
 
 def short_title(asked):
-    receiver = name_of(asked.receiver)
+    return title_of(asked, *(asked.names or (name_of(asked.sender), name_of(asked.receiver))))
+
+
+def title_of(asked, sender, receiver):
     if asked.service:
         receiver = "%s, there %s" % (asked.service, receiver)
-    return "%s to %s, %s" % (name_of(asked.sender), receiver, asked.traffic.words)
+    return "%s to %s, %s" % (sender, receiver, asked.traffic.words)
 
 
 def end_words(end, address, other):
@@ -109,32 +140,27 @@ def host_packet(asked, direction, interface):
     return members
 
 
-# ---- a list, one wish a line: FROM TO PROTOCOL and a port
-
-def read_list(text, origin):
-    wishes = []
-    for number, line in enumerate(text.split("\n"), 1):
-        words = line.split("#")[0].split()
-        if words:
-            wishes.append(listed(words, "%s, line %d" % (origin, number)))
-    return wishes
-
-
-def listed(words, place):
-    if len(words) not in (3, 4):
-        raise QuestionError("%s: a line has FROM, TO, a protocol and a port" % place)
-    return Wish(words[0], words[1], traffic_of(words[2:], place), None, None, place)
-
+# ---- traffic in words
 
 def traffic_of(words, place):
     protocol = words[0].upper()
-    if protocol in PORT_PROTOCOLS and len(words) == 2 and is_number(words[1], 65535):
-        return port_traffic(protocol, int(words[1]))
+    if protocol in PORT_PROTOCOLS and len(words) == 2 and is_port(words[1]):
+        return port_traffic(protocol, port_of(words[1]))
     if protocol == "ICMP" and len(words) == 1:
         return icmp_traffic()
     if is_number(protocol, 255) and int(protocol) > 0 and len(words) == 1:
         return other_traffic(int(protocol))
-    raise QuestionError("%s: `%s` is no protocol with its port, such as `tcp 5432`, `icmp` or `47`" % (place, " ".join(words)))
+    raise QuestionError("%s: `%s` is no protocol with its port, such as `tcp 5432`, `tcp http`, `icmp` or `47`" % (
+        place, " ".join(words)))
+
+
+def is_port(text):
+    """Whether a text is a port's number, or may be its name."""
+    return is_number(text, 65535) or bool(PORT_NAME.match(text)) and not text.isdigit()
+
+
+def port_of(text):
+    return int(text) if text.isdigit() else text
 
 
 def is_number(text, most):

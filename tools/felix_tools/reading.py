@@ -1,10 +1,16 @@
-"""Reads what `kubectl get -o json` and `calicoctl get -o json` print, and lines that were made of it."""
+"""Reads what `kubectl get` and `calicoctl get` print as JSON or YAML, and lines that were made of it."""
 import collections
 import ipaddress
 import json
+import re
 import sys
 
+from felix_tools import yaml_in
+
 STANDARD_INPUT = "-"
+# How lines begin that kubectl writes for its reader, and that end in a file by `2>&1`.
+SAID = re.compile(r"Warning: |[IWEF][0-9]{4} |[Ee]rror|The connection to the server|Unable to connect|Flag --"
+                  r"|No resources found")
 LINE_MEMBERS = ("put", "delete", "batch", "inSync", "flush", "tables", "packet")
 
 # A resource to put or to delete, and the file that it stands in.
@@ -47,7 +53,21 @@ def read_bytes(path):
 
 
 def documents(text, origin):
-    """The JSON values of a text, which stand one behind the other."""
+    """The values of a text: of JSON those that stand one behind the other, of YAML its documents."""
+    begun = text.lstrip()
+    if not begun or begun.startswith(("{", "[")):
+        return json_documents(text, origin)
+    if SAID.match(begun):
+        raise InputError(
+            "%s: begins with what kubectl says on standard error, and not with a resource: `%s`; give what it writes "
+            "on standard output alone (`> FILE`, without `2>&1`)" % (origin, begun.split("\n")[0].rstrip()))
+    try:
+        return yaml_in.documents(text)
+    except yaml_in.YamlError as fault:
+        raise InputError("%s: %s" % (origin, fault))
+
+
+def json_documents(text, origin):
     decoder = json.JSONDecoder()
     place = behind_blanks(text, 0)
     while place < len(text):
@@ -68,7 +88,7 @@ def why_no_json(text, place, fault):
         return "the JSON that begins in line %d breaks off at the file's end, in line %d: is the file whole?" % (
             begin, line_at(text, len(text.rstrip())))
     if at == place:
-        return "what begins in line %d isn't JSON; YAML isn't read, so ask for `-o json`" % begin
+        return "what begins in line %d isn't JSON" % begin
     column = at - (text.rfind("\n", 0, at) + 1) + 1
     return "line %d, column %d: this isn't JSON (%s)" % (line_at(text, at), column, fault.msg)
 

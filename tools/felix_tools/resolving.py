@@ -1,34 +1,58 @@
 """From a question as it was asked to those of pods: names and patterns, addresses, Services, nodes and their ports."""
 from felix_tools import services
 from felix_tools.cluster import NODE_FRONT, UnknownEnd
-from felix_tools.questions import QuestionError, is_node, is_outside, question
+from felix_tools.questions import QuestionError, has_port, is_node, is_outside, question
 from felix_tools.reading import is_address, part
+from felix_tools.replicas import pair_of
 
 MASQUERADE = ("the Service's traffic policy is Cluster, so a node that forwards to another node's pod puts its own "
               "address in the client's place: ask with --from-address NODE'S-ADDRESS too")
+ON_HOST = "%s is on the host's network, so its node is asked about"
 NODE_PORT = ("a node port is translated before the node's INPUT, and the packet is forwarded: the Service's pods are "
              "asked, and no host endpoint's policy, of which those with preDNAT or applyOnForward would meet it")
 
 
-def resolve(wish, cluster):
-    """The questions of a wish in a cluster, one for each pair of its ends of which one is a pod or a node."""
+def resolve(wish, cluster, replicas=None, most=None):
+    """The questions of a wish in a cluster, one for each pair of its ends of which one is a pod or a node; of pods that are alike in
+    `replicas` one for all."""
     try:
-        return resolved(wish, cluster)
+        return resolved(wish, cluster, replicas, most)
     except (UnknownEnd, QuestionError) as fault:
         if not wish.place:
             raise
         raise type(fault)("%s: %s" % (wish.place, fault))
 
 
-def resolved(wish, cluster):
+def resolved(wish, cluster, replicas, most):
     senders = senders_of(wish, cluster)
     through = service_questions(wish, cluster, senders)
     if through is not None:
         return through
-    receivers = cluster.ends(wish.receiver)
+    receivers = with_port(cluster.ends(wish.receiver), wish.traffic)
     is_one = len(senders) == len(receivers) == 1
-    pairs = [(a, b) for a in senders for b in receivers if not (is_outside(a) and is_outside(b))]
-    return [question(a, b, wish) for a, b in pairs if a != b or is_one]
+    if replicas:
+        senders, receivers = replicas.together(senders, receivers)
+    else:
+        senders, receivers = [(end,) for end in senders], [(end,) for end in receivers]
+    check_number(len(senders) * len(receivers), most)
+    notes = [ON_HOST % text for text in (wish.sender, wish.receiver) if cluster.is_on_host(text)]
+    asked = [(*pair_of(several, others), several, others) for several in senders for others in receivers]
+    return [question(a, b, wish, notes=notes)._replace(senders=several, receivers=others)
+            for a, b, several, others in asked if (a != b or is_one) and not (is_outside(a) and is_outside(b))]
+
+
+def with_port(receivers, traffic):
+    """The receivers: of a port that is named those that name it, if some do."""
+    if not isinstance(traffic.members.get("dport"), str):
+        return receivers
+    return [end for end in receivers if has_port(end, traffic)] or receivers[:1]
+
+
+def check_number(number, most):
+    """That no more questions are asked than may be."""
+    if most is not None and number > most:
+        raise QuestionError("these are {:,} questions, and --most says {:,} at most: name fewer ends, or give --most "
+                            "another number".format(number, most))
 
 
 def senders_of(wish, cluster):

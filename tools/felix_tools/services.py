@@ -67,7 +67,8 @@ def port_of(found, traffic):
     """The Service's port that this traffic is for."""
     entries = objects(part(found.resource, "spec", "ports"))
     for entry in entries:
-        if entry.get("port") == traffic.members.get("dport") and protocol_of(entry) == traffic.members["proto"]:
+        port = traffic.members.get("dport")
+        if port in (entry.get("port"), entry.get("name")) and protocol_of(entry) == traffic.members["proto"]:
             return entry
     told = ", ".join("%s %s" % (protocol_of(entry), entry.get("port")) for entry in entries) or "no port"
     raise QuestionError("%s, which answers %s and not %s" % (told_as(found), told, traffic.words))

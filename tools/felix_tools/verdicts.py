@@ -58,6 +58,15 @@ class Answer:
     doubts: list = dataclasses.field(default_factory=list)
     without: str = ""
 
+    def of(self, asked, names):
+        """The same answer to a question of more pods, with the names of both ends."""
+        ends = {"egress": (asked.senders, names[0]), "ingress": (asked.receivers, names[1])}
+        reasons = []
+        for reason in self.reasons:
+            pods, name = ends[reason.direction]
+            reasons.append(dataclasses.replace(reason, end=name, node=reason.node if len(pods) == 1 else ""))
+        return dataclasses.replace(self, question=asked, reasons=reasons)
+
     @property
     def is_allowed(self):
         return self.verdict == ALLOWED
@@ -72,6 +81,16 @@ class Answer:
     def causes(self):
         """What decided on each side: equal where two answers have one reason."""
         return [(it.direction, it.sort, it.policy, it.profile, it.tier, it.place, it.verdict) for it in self.reasons]
+
+
+def verdict_of(answer):
+    return answer.verdict
+
+
+def whole(answer):
+    """All that an answer says, but for its ends."""
+    doubts = [(it.resource, it.origin, it.why) for it in answer.doubts]
+    return answer.verdict, answer.causes, answer.notes, answer.cause, doubts, answer.without
 
 
 def word_of(is_allowed):

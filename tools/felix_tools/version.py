@@ -19,7 +19,9 @@ def version_text():
 
 
 def tool_name(tool):
-    """In the repository tools/ask, and where it is installed felix-ask."""
+    """In the repository tools/ask, and where it is installed felix-ask; the plugin of kubectl is then called by it."""
+    if tool == "kubectl-felix" and is_installed():
+        return "kubectl felix"
     return ("felix-%s" if is_installed() else "tools/%s") % tool
 
 

@@ -2,6 +2,7 @@
 import argparse
 import concurrent.futures
 import difflib
+import importlib.util
 import os
 import re
 import shlex
@@ -39,7 +40,7 @@ def main(words, help_text):
     if options.kernel:
         return kernel.main(options)
     begun = time.time()
-    names = sorted(os.listdir(CASES))
+    names = [name for name in sorted(os.listdir(CASES)) if has_needs(name)]
     with concurrent.futures.ThreadPoolExecutor(max_workers=4) as pool:
         failed = [name for name, passes in zip(names, pool.map(lambda name: run_case(name, options), names)) if not passes]
     functions = run_functions()
@@ -110,6 +111,15 @@ def compared(name, what, folder, environ):
         changes = difflib.unified_diff(kept.split("\n"), found[file].split("\n"), "stored", "found", lineterm="", n=1)
         print("%s, with %s: %s differs\n%s" % (name, what, file, "\n".join(changes)))
     return not wrong
+
+
+def has_needs(name):
+    """Whether what a case needs is installed: a module of Python, which its file `needs` names."""
+    wanted = stored(os.path.join(CASES, name), "needs").strip()
+    if not wanted or importlib.util.find_spec(wanted):
+        return True
+    print("%s is left out: the module %s isn't installed" % (name, wanted))
+    return False
 
 
 def verdicts_in(answer):

@@ -25,6 +25,13 @@ class Documents(unittest.TestCase):
         shown = "".join("    %s\n" % line for line in answer_of("ask-denied").split("\n")[:-1])
         self.assertIn(shown, text_of("README.md"))
 
+    def test_the_readmes_questions_are_of_files_that_are_there(self):
+        asked = [line.replace("$ ", "") for line in text_of("README.md").split("\n") if re.match(r"    (\$ )?tools/ask docs/", line)]
+        self.assertEqual([line.replace(" --unproved", "") for line in asked], asked[:1] * 2)
+        files = re.findall(r"\S+\.json", asked[0])
+        self.assertEqual(asked[0].split(), ("tools/" + text_of("tools", "tests", "cases", "ask-denied", "command").replace("shop/c", "docs/shop/c")).split())
+        self.assertEqual([os.path.exists(os.path.join(TOP, file)) for file in files], [True, True])
+
     def test_the_readmes_picture_is_of_the_stored_answer(self):
         chains = re.findall(r'^  "(cali-[^"]*)" \[label', answer_of("picture-way"), re.MULTILINE)
         drawn = re.findall(r"<title>(cali[^<:]*)</title>", text_of("docs", "way.svg"))

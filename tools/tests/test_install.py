@@ -76,6 +76,8 @@ class Install(unittest.TestCase):
         cluster = os.path.join(TESTS, "data", "shop", "cluster.json")
         asked = ["--from", "shop/web-0", "--to", "shop/db-0", "--tcp", "5432"]
         self.assertIn("DENIED", run_it(ask, cluster, *asked).stdout)
+        plugin = run_it(self.path("moved", "bin", "kubectl-felix"), "--version")
+        self.assertEqual((plugin.stdout, plugin.stderr), ("kubectl felix %s\n" % version, ""))
         self.assertIn("\n  felix-found --printed", run_it(self.path("moved", "bin", "felix-found"), "--help").stdout)
 
 

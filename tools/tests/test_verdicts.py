@@ -155,7 +155,7 @@ class Words(unittest.TestCase):
             ('{"kind":"A"}\n{"kind":\n"B', "the JSON that begins in line 2 breaks off at the file's end, in line 3"),
             ('{"kind":"A",\n', "the JSON that begins in line 1 breaks off at the file's end, in line 1"),
             ('{"kind":"A",}', "line 1, column 1[23]: this isn't JSON"),
-            ('{"a":1}\nkind: B\n', "what begins in line 2 isn't JSON; YAML isn't read"),
+            ('{"a":1}\nkind: B\n', "what begins in line 2 isn't JSON"),
             ("[" * 100000, "the JSON that begins in line 1"),
         ]
         for text, wanted in rows:
