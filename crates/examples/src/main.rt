@@ -49,7 +49,7 @@ const EXAMPLES: [(&str, Program, &str); 27] = [
 ];
 
 // The name of each file of rows, and what they are.
-const FILES: [(&str, Form); 16] = [
+const ROW_FILES: [(&str, Form); 16] = [
     ("runs", Form::Runs(Program::Replay, Rule::Plain)),
     ("endpoints", Form::Runs(Program::Replay, Rule::Plain)),
     ("flushes", Form::Runs(Program::Replay, Rule::Plain)),
@@ -114,7 +114,7 @@ fn judged(status: Status, is_stored: bool) -> &'static str {
 }
 
 fn tell_rows<R: Files + Print + AllocGlobal>(rt: &R) -> io::Result<()> {
-    for (name, form) in FILES {
+    for (name, form) in ROW_FILES {
         let rows = data_file(rt, name, ".rows")?;
         match str::from_utf8(rows.as_slice()) {
             Ok(rows) => tell_file(rt, name, form, rows)?,
