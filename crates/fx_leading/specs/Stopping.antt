@@ -9,7 +9,7 @@ use Rattle.fx_reconcile.specs.Operations.{operations}
 use Rattle.fx_leading.specs.Lines.{op_lines}
 
 -- The lines of the first operations were written, and of the next one's a part at most. The tables are those after these operations,
--- or after one more.
+-- and then nothing of the next one's line was written; or they are those after one more.
 pub record HasStopped (start goal now : Tables) (before after : Option (List ℕ)) : Type 0 where
   pub done : List Op
   pub left : List Op
@@ -17,4 +17,4 @@ pub record HasStopped (start goal now : Tables) (before after : Option (List ℕ
   pub middle : Option (List ℕ)
   pub lines : Appends before middle (op_lines goal done)
   pub part : AppendsPrefix middle after (op_lines goal (take 1 left))
-  pub tables : (now ≡ after_all done start goal) ⊎ (now ≡ after_all (done ++ take 1 left) start goal)
+  pub tables : ((now ≡ after_all done start goal) × (after ≡ middle)) ⊎ (now ≡ after_all (done ++ take 1 left) start goal)

@@ -27,7 +27,8 @@ pub fn lead<K: Sink>(
     ensures writes { Writes (K.state sink.old) (K.state sink.new)
         (op_lines goal.now (operations now.old goal.now)) result }
 
-    // At a fault the tables are those after as many operations as have whole lines, or after one more.
+    // At a fault the tables are those after as many operations as have whole lines, or after one more, of whose line no more than a part
+    // is written: an operation is done before its line is begun.
     ensures stopped { OnErr result (HasStopped now.old goal.now now.new (K.state sink.old).held (K.state sink.new).held) }
 {
     let ops = plan(alloc, now, goal)?;
@@ -48,7 +49,8 @@ fn do_next<K: Sink>(
     requires next { next_operation now.old goal.now ≡ Some op.now }
     ensures done { OnOk result (now.new ≡ applied op.now now.old goal.now) }
     ensures writes { Writes (K.state sink.old) (K.state sink.new) (op_line goal.now op.now) result }
-    ensures stopped { OnErr result ((now.new ≡ now.old) ⊎ (now.new ≡ applied op.now now.old goal.now)) }
+    ensures stopped { OnErr result (((now.new ≡ now.old) × ((K.state sink.new).held ≡ (K.state sink.old).held))
+        ⊎ (now.new ≡ applied op.now now.old goal.now)) }
 {
     let line = line_of(alloc, op, goal)?;
     apply_op(alloc, now, goal, op)?;

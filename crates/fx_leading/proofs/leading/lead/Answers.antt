@@ -82,7 +82,7 @@ returns-in_err-ops-clause-stopped g c =
       middle = (g.K.Sink.state c.args.sink.now).held;
       lines = Appends-none (g.K.Sink.state c.args.sink.now).held;
       part = AppendsPrefix-none (g.K.Sink.state c.args.sink.now).held _;
-      tables = inl refl;
+      tables = inl (refl, refl);
     })
 
 pub returns-in_err-do_next-clause-stopped : goal.returns-in_err-do_next-clause-stopped
@@ -104,7 +104,7 @@ returns-in_err-do_next-clause-stopped g c =
       part = subst (AppendsPrefix (g.K.Sink.state c.loop-op.sink).held (g.K.Sink.state c.do_next.new.sink).held)
           (sym (ap (op_lines end) next ∙ append-nil (op_line end op))) c.in_err-do_next.ensures.writes.prefix;
       tables = elim c.in_err-do_next.ensures.stopped [
-        | inl same ↦ inl (same ∙ c.loop-op.invariant.at)
+        | inl same ↦ inl (same.0 ∙ c.loop-op.invariant.at, same.1)
         | inr more ↦ inr (more ∙ ap (λ (t : Tables). applied op t end) c.loop-op.invariant.at ∙ after_more (take i items) op start end
             ∙ ap (λ (os : List Op). after_all (take i items ++ os) start end) (sym next))
       ];
