@@ -27,8 +27,8 @@ pub fn lead<K: Sink>(
     ensures writes { Writes (K.state sink.old) (K.state sink.new)
         (op_lines goal.now (operations now.old goal.now)) result }
 
-    // At a fault the tables are those after as many operations as have whole lines, or after one more, of whose line no more than a part
-    // is written: an operation is done before its line is begun.
+    // At a fault the tables are those after as many operations as have whole lines, or after one more: each is done
+    // before anything of its line is written.
     ensures stopped { OnErr result (HasStopped now.old goal.now now.new (K.state sink.old).held (K.state sink.new).held) }
 {
     let ops = plan(alloc, now, goal)?;
