@@ -138,9 +138,20 @@ fn net_set(alloc: Global, texts: &[&'static str]) -> Result<Item, Memory> {
 fn nets(alloc: Global, texts: &[&'static str]) -> Result<Seq<Net>, Memory> {
     let mut nets = Seq::new(alloc);
     for text in texts {
-        if let Ok(NetText::V4(net)) = Net::read(text.as_bytes()) {
+        if let Some(net) = net_of(text.as_bytes()) {
             nets.push(net)?;
         }
     }
     Ok(nets)
+}
+
+// A net's text, as `255.255.255.255/32`, has 18 bytes at most.
+fn net_of(text: &[u8]) -> Option<Net> {
+    if text.len() > 18 {
+        return None;
+    }
+    match Net::read(text) {
+        Ok(NetText::V4(net)) => Some(net),
+        _ => None,
+    }
 }
