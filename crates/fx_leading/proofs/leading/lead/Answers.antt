@@ -74,7 +74,7 @@ returns-in_err-do_next-clause-writes g c =
 
 pub returns-in_err-ops-clause-stopped : goal.returns-in_err-ops-clause-stopped
 returns-in_err-ops-clause-stopped g c =
-    let p = err_from_is_err_and c.from_residual-in_err-ops.result c.from_residual-in_err-ops.ensures.1 in
+    let p = err_from_is_err_and c.from_residual.result c.from_residual.ensures.1 in
     rw (p.1) (record {
       done = [];
       left = operations c.args.now.now c.args.goal.now;
