@@ -1,5 +1,5 @@
-#!/usr/bin/env python3
-"""Stands in the place of a proved program: answers an input as the program answered it when that was recorded.
+"""Stands in the place of a proved program, as `recorded-replay` does: answers an input as that program answered it when its
+answer was recorded.
 
 RECORDED_ANSWERS is the folder of the answers. Its name, as `recorded-host`, says which program it stands for: where the variable
 RECORD_WITH_FELIX_HOST names that program it is asked, and its answer is kept."""
@@ -53,6 +53,3 @@ def kept(path):
         with gzip.open(path + ".gz", "rb") as file:
             return file.read()
     return None
-
-
-sys.exit(main(sys.argv[1:]))
