@@ -3,4 +3,4 @@ use Rattle.fx_store.specs.Keeping.{KeepsClaims}
 use Rattle.fx_store_tests.proofs.tests.wrong_step.Given as goal
 
 abbrev pub invariant-loop-number : goal.invariant-loop-number
-invariant-loop-number g l = KeepsClaims plain_digest l.store
+invariant-loop-number l = KeepsClaims plain_digest l.store
