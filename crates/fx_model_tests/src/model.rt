@@ -232,8 +232,9 @@ fn leads(sent: &mut View, wanted: &View) -> Result<bool, Memory> {
     Ok(*sent == *wanted)
 }
 
-fn is_missing(view: &View, profile: &[u8]) -> bool {
-    match view.profiles.get(&NameKey::new(profile)) {
+// Whether the profile `q` is one that is missing.
+fn is_missing(view: &View) -> bool {
+    match view.profiles.get(&NameKey::new(b"q")) {
         Some(profile) => profile.missing,
         None => false,
     }
@@ -242,7 +243,7 @@ fn is_missing(view: &View, profile: &[u8]) -> bool {
 fn is_told(alloc: Global, wanted: &View) -> Result<bool, Memory> {
     let has_endpoint = wanted.endpoints.contains_key(&Text::new(alloc, b"cali1")?);
     let mut sent = View::new(alloc);
-    Ok(leads(&mut sent, wanted)? && has_endpoint && is_missing(wanted, b"q"))
+    Ok(leads(&mut sent, wanted)? && has_endpoint && is_missing(wanted))
 }
 
 fn are_keys(keys: &[NameKey], wanted: &[&str]) -> bool {
