@@ -13,6 +13,26 @@ const HERE: Ipv4 = Ipv4(0x0a000001);
 /// 192.0.2.1
 const THERE: Ipv4 = Ipv4(0xc0000201);
 
+/// The name of an interface, or how it begins.
+#[derive(Clone, Copy)]
+pub enum Interface {
+    Cali,
+    Cali1,
+    Cali9,
+    Eth0,
+}
+
+impl Interface {
+    pub fn text(self) -> &'static [u8] {
+        match self {
+            Interface::Cali => b"cali",
+            Interface::Cali1 => b"cali1",
+            Interface::Cali9 => b"cali9",
+            Interface::Eth0 => b"eth0",
+        }
+    }
+}
+
 /// What a match asks for.
 #[derive(Clone, Copy)]
 pub enum Asked {
@@ -25,7 +45,7 @@ pub enum Asked {
     /// A message of ICMP of this type, and with this code if there is one.
     Icmp(u8, Option<u8>),
     /// By its whole name, or by how it begins.
-    Iface(End, &'static str, bool),
+    Iface(End, Interface, bool),
     /// The value under the mask.
     Mark(u32, u32),
     /// Related or established, or else invalid.

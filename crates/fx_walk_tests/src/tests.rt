@@ -8,7 +8,7 @@ ghost use Rattle.fx_model.specs.Closed.{NamesThere};
 ghost use Rattle.fx_model.specs.Shapes.{fits_slots, is_of, slots};
 ghost use Rattle.fx_model.specs.Tables.{forward};
 
-use crate::asked::{ALL, Asked, BESIDE, INNER, LOW, WEB, member_of, packet, set_name};
+use crate::asked::{ALL, Asked, BESIDE, INNER, Interface, LOW, WEB, member_of, packet, set_name};
 use fx_base::{Counter, Memory, PortRange, Proto, Seq, SetKind, SetName, Text};
 use fx_model::{ChainRule, End, Icmp, Match, Member, Packet, State, Tag, Target, Verdict};
 use fx_tables::{Tables, first_chain_name};
@@ -43,22 +43,42 @@ const ROWS: [(Asked, bool, bool, bool); 35] = [
     (Asked::Set(End::Dest, SetKind::Ports), true, false, true),
     (Asked::Set(End::Source, SetKind::Ports), false, false, false),
     // these, marks and states have no `!`
-    (Asked::Iface(End::Source, "cali1", false), false, true, true),
     (
-        Asked::Iface(End::Source, "cali", false),
+        Asked::Iface(End::Source, Interface::Cali1, false),
+        false,
+        true,
+        true,
+    ),
+    (
+        Asked::Iface(End::Source, Interface::Cali, false),
         false,
         false,
         false,
     ),
     (
-        Asked::Iface(End::Source, "cali9", false),
+        Asked::Iface(End::Source, Interface::Cali9, false),
         false,
         false,
         false,
     ),
-    (Asked::Iface(End::Source, "cali", true), false, true, true),
-    (Asked::Iface(End::Dest, "cali", true), false, false, false),
-    (Asked::Iface(End::Dest, "eth0", false), false, true, true),
+    (
+        Asked::Iface(End::Source, Interface::Cali, true),
+        false,
+        true,
+        true,
+    ),
+    (
+        Asked::Iface(End::Dest, Interface::Cali, true),
+        false,
+        false,
+        false,
+    ),
+    (
+        Asked::Iface(End::Dest, Interface::Eth0, false),
+        false,
+        true,
+        true,
+    ),
     // the mark is 0x30000
     (Asked::Mark(0x10000, 0x10000), false, true, true),
     (Asked::Mark(0x20000, 0x30000), false, false, false),
@@ -166,7 +186,7 @@ fn write(alloc: Global, tables: &mut Tables, asked: Asked, not: bool) -> Result<
             write_first(alloc, tables, Match::Icmp { icmp, not })
         }
         Asked::Iface(end, name, wild) => {
-            let name = Text::new(alloc, name.as_bytes())?;
+            let name = Text::new(alloc, name.text())?;
             write_first(alloc, tables, Match::Iface { end, name, wild })
         }
         Asked::Mark(value, mask) => write_first(alloc, tables, Match::Mark { value, mask }),
