@@ -1,4 +1,4 @@
-//! The recording sinks, each call once.
+//! The recording sinks, each call once but those on endpoints, which the resolver's tests make.
 #![tactic(auto, using(fx_base::proofs::AtKey::reads))]
 
 ghost use Rattle.std.specs.Prelude.{◌≡◌};
@@ -11,7 +11,7 @@ ghost use Rattle.fx_model.specs.Sets.{IsUse};
 use fx_base::{Ipv4, Memory, NameKey, Net, Seq, SetKind, SetName, Text};
 use fx_model::{
     ActiveSink, ItemKey, MatchSink, Member, Policy, PolicyId, Profile, SetSink, SetUse, UseSink,
-    ViewEndpoint, ViewPolicy, ViewProfile, ViewSink,
+    ViewPolicy, ViewProfile, ViewSink,
 };
 use fx_record::{RecordActive, RecordMatches, RecordSets, RecordUses, RecordView};
 use fx_selector::{Labels, Selector};
@@ -116,35 +116,6 @@ fn listed_profiles_are_recorded(rt: HostRuntime) -> Result<(), Fail> {
     };
     let mut sink = RecordActive::new(a);
     list_and_end(&rt, &mut sink, &name, &profile)
-}
-
-fn put_and_end(
-    rt: &impl Abort,
-    sink: &mut RecordView,
-    iface: &Text,
-    endpoint: ViewEndpoint,
-) -> Result<(), Fail> {
-    sink.endpoint_put(iface, endpoint)?;
-    assert!(rt; sink.endpoints.contains_key(iface));
-    sink.endpoint_gone(iface)?;
-    assert!(rt; !sink.endpoints.contains_key(iface));
-    assert_eq!(rt; sink.puts, 1);
-    Ok(())
-}
-
-#[test]
-fn endpoints_of_a_view_are_recorded(rt: HostRuntime) -> Result<(), Fail> {
-    let a = rt.alloc();
-    let iface = Text::new(a, b"cali1")?;
-    let endpoint = ViewEndpoint {
-        ns: Text::new(a, b"shop")?,
-        name: Text::new(a, b"web")?,
-        ingress: Seq::new(a),
-        egress: Seq::new(a),
-        profiles: Seq::new(a),
-    };
-    let mut sink = RecordView::new(a);
-    put_and_end(&rt, &mut sink, &iface, endpoint)
 }
 
 fn put_and_take(
