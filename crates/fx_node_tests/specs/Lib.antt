@@ -1,0 +1,5 @@
+pub mod Standing
+pub mod ActiveBenches
+pub mod MembersBenches
+pub mod ResolverBenches
+pub mod ScannerBenches
