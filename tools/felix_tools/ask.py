@@ -84,6 +84,8 @@ def check_together(options):
         raise QuestionError("--policies asks no packet: words for questions, --matrix, --path and --raw have no place beside it")
     if options.matrix and options.path and not options.json:
         raise QuestionError("--matrix shows verdicts alone: --path is for single answers, or for --json")
+    if bool(options.senders or options.from_address) != bool(options.receivers or options.to_address) and not options.matrix:
+        raise QuestionError("a question has two ends: %s is missing" % ("--to" if options.senders or options.from_address else "--from"))
     if options.raw and (options.matrix or options.json):
         raise QuestionError("--raw is what the program wrote, for one question: --matrix and --json have nothing to show of it")
 

@@ -52,6 +52,7 @@ class Cluster:
                           if key[:2] == (CALICO, "WorkloadEndpoint")]
         self.nodes = self.node_addresses()
         self.workloads = by_workload(self.endpoints)
+        self.kinds_of_name = collections.Counter((it.namespace, it.name) for it in self.workloads)
         self.workloads_left_out = by_workload(self.pods_left_out.values())
 
     def node_addresses(self):
@@ -154,8 +155,7 @@ class Cluster:
 
     def name_of_workload(self, workload):
         """The workload's name; with its kind where several have that name."""
-        alike = [it for it in self.workloads if it[1:] == workload[1:]]
-        if len(alike) < 2:
+        if self.kinds_of_name[workload.namespace, workload.name] < 2:
             return name_of_workload(workload)
         return "%s/%s/%s" % (workload.namespace, workload.kind, workload.name)
 
