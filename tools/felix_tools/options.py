@@ -147,7 +147,9 @@ def icmp(text):
 
 
 def protocol_number(text):
-    return number_up_to(text, 255, "a protocol") or None
+    if not number_up_to(text, 255, "a protocol"):
+        raise argparse.ArgumentTypeError("0 isn't a protocol from 1 to 255")
+    return int(text)
 
 
 def questions_at_most(text):
