@@ -5,7 +5,10 @@ from felix_tools import json_out, policies, unproved
 from felix_tools.asking import run_of
 from felix_tools.inquiry import Inquiry
 from felix_tools.matrix import matrix_lines
-from felix_tools.options import add_program, add_questions, check_questions, listed, plain_wishes, tool_parser, wishes
+from felix_tools.nearby import why_nothing
+from felix_tools.options import (
+    add_program, add_questions, asks_packet, check_questions, listed, plain_wishes, tool_parser, wishes,
+)
 from felix_tools.questions import QuestionError, is_outside
 from felix_tools.reading import read_changes
 from felix_tools.replicas import label_of
@@ -52,17 +55,20 @@ def parser():
 
 
 def answer(options):
+    check_together(options)
     if options.policies:
         return policies.answer(options)
     check_questions(options)
     inquiry = Inquiry(read_changes(options.files), options, with_each_side=not options.matrix and not options.raw)
     if options.matrix and not options.json:
-        answers = asked(inquiry, inquiry.ask(wishes(options, all_pods=True), verdict_of))
+        asked_for = wishes(options, all_pods=True)
+        answers = asked(inquiry, asked_for, inquiry.ask(asked_for, verdict_of))
         return show(options, inquiry, matrices(answers, inquiry.cluster), status(answers))
     plain, lists = plain_wishes(options, options.matrix), listed(options)
     expected = [None] * len(plain) + [it.expected for it in lists]
-    each = inquiry.ask_each(plain + [it.wish for it in lists], whole)
-    answers = asked(inquiry, [answer for several in each for answer in several])
+    asked_for = plain + [it.wish for it in lists]
+    each = inquiry.ask_each(asked_for, whole)
+    answers = asked(inquiry, asked_for, [answer for several in each for answer in several])
     if options.raw:
         return show_raw(options, inquiry, answers)
     rows = [(answer, wanted) for several, wanted in zip(each, expected) for answer in several]
@@ -72,11 +78,23 @@ def answer(options):
     return show(options, inquiry, [row_lines(answer, wanted, options.path) for answer, wanted in rows], ended)
 
 
-def asked(inquiry, answers):
+def check_together(options):
+    """That no word is given that would say nothing beside another one."""
+    if options.policies and (options.path or options.matrix or options.raw or asks_packet(options)):
+        raise QuestionError("--policies asks no packet: words for questions, --matrix, --path and --raw have no place beside it")
+    if options.matrix and options.path and not options.json:
+        raise QuestionError("--matrix shows verdicts alone: --path is for single answers, or for --json")
+    if bool(options.senders or options.from_address) != bool(options.receivers or options.to_address) and not options.matrix:
+        raise QuestionError("a question has two ends: %s is missing" % ("--to" if options.senders or options.from_address else "--from"))
+    if options.raw and (options.matrix or options.json):
+        raise QuestionError("--raw is what the program wrote, for one question: --matrix and --json have nothing to show of it")
+
+
+def asked(inquiry, asked_for, answers):
     """The answers, of which there has to be one at least."""
     if not answers:
-        raise QuestionError(inquiry.cluster.why_empty() or
-                            "nothing is asked: --from and --to name two ends, and one of them at least is a pod or a node")
+        raise QuestionError(inquiry.cluster.why_empty() or "nothing is asked: --from and --to name the ends, and %s" %
+                            why_nothing(asked_for, inquiry.cluster))
     return answers
 
 
@@ -94,7 +112,7 @@ def show_json(options, inquiry, rows, ended):
 
 def show_raw(options, inquiry, answers):
     if len(answers) > 1:
-        raise QuestionError("--raw is for one question")
+        raise QuestionError("--raw is for one question, and these are %d: name one pod at each end" % len(answers))
     if options.unproved:
         remark("ask", unproved.SAID)
     sys.stdout.write(raw_output(inquiry.asking, answers[0], options.raw))

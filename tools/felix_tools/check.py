@@ -1,15 +1,17 @@
 """tools/check: whether what is expected of a cluster holds."""
 import collections
+import sys
 
 from felix_tools import json_out, unproved
 from felix_tools.assertions import read_assertions
 from felix_tools.cluster import UnknownEnd
 from felix_tools.inquiry import Inquiry
+from felix_tools.nearby import why_nothing
 from felix_tools.options import add_names, add_program, named_here, tool_parser
 from felix_tools.questions import QuestionError
-from felix_tools.reading import InputError, read_changes
+from felix_tools.reading import read_changes
 from felix_tools.reports import junit_text, tap_lines
-from felix_tools.start import REFUSED, USAGE, answered
+from felix_tools.start import REFUSED, USAGE, Unwritten, answered
 from felix_tools.verdicts import UNKNOWN, whole, word_of
 from felix_tools.words import INDENT, answer_lines, input_blocks
 
@@ -46,8 +48,9 @@ def parser():
     made.add_argument("files", nargs="+", metavar="FILE", help="resources, as for tools/ask")
     shown = made.add_argument_group("answers")
     shown.add_argument("--reasons", action="store_true", help="tells the rules also of what holds")
-    shown.add_argument("--tap", action="store_true", help="the answer as TAP, the Test Anything Protocol")
-    shown.add_argument("--json", action="store_true", help="the answer as JSON (docs/answers.schema.json)")
+    forms = shown.add_mutually_exclusive_group()
+    forms.add_argument("--tap", action="store_true", help="the answer as TAP, the Test Anything Protocol")
+    forms.add_argument("--json", action="store_true", help="the answer as JSON (docs/answers.schema.json)")
     shown.add_argument("--junit", metavar="REPORT", help="writes a report in JUnit's XML, too")
     add_names(made.add_argument_group("questions"))
     add_program(made)
@@ -60,9 +63,9 @@ def check(options):
     inquiry = Inquiry(read_changes(options.files), options, with_each_side=True)
     checks = checks_of(inquiry, assertions)
     rows = [Row(one, options.reasons) for one in checks]
+    tell(options, inquiry, rows)
     if options.junit:
         write_report(options.junit, junit_text(rows, options.assertions))
-    tell(options, inquiry, rows)
     return status(rows)
 
 
@@ -79,7 +82,7 @@ def fault_of(inquiry, assertion):
         asked = inquiry.questions([assertion.wish], inquiry.replicas())
     except (UnknownEnd, QuestionError) as fault:
         return str(fault)
-    return "" if asked else "%s: nothing is asked by it: one end at least is a pod or a node" % assertion.place
+    return "" if asked else "%s: nothing is asked by it: %s" % (assertion.place, why_nothing([assertion.wish], inquiry.cluster))
 
 
 class Row:
@@ -129,11 +132,13 @@ def summary(rows):
 
 
 def write_report(path, text):
+    """Writes the report, behind the answer: neither is lost where the other one can't be written."""
+    sys.stdout.flush()
     try:
         with open(path, "w", encoding="utf-8") as file:
             file.write(text)
     except OSError as fault:
-        raise InputError("%s: %s" % (path, fault.strerror))
+        raise Unwritten("the report can't be written: %s: %s" % (path, fault.strerror))
 
 
 def status(rows):

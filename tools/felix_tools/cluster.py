@@ -4,6 +4,7 @@ import difflib
 import fnmatch
 import ipaddress
 import json
+import re
 
 from felix_tools.conversion import key_of, stands_as, text_of
 from felix_tools.kinds import CALICO
@@ -23,6 +24,8 @@ Outside = collections.namedtuple("Outside", "address")
 NodeEnd = collections.namedtuple("NodeEnd", "name node addresses interface", defaults=(None,))
 
 PATTERN_LETTERS = "*?["
+# As a host is named in DNS: parts with dots between them, the last of letters.
+HOST_NAME = re.compile(r"[A-Za-z0-9-]+(\.[A-Za-z0-9-]+)*\.[A-Za-z]+\.?\Z")
 NODE_FRONT = "node:"
 SHOWN = 5
 
@@ -48,9 +51,9 @@ class Cluster:
         self.endpoints = [endpoint_of(resource, self.written[key]) for key, resource in made.items()
                           if key[:2] == (CALICO, "WorkloadEndpoint")]
         self.nodes = self.node_addresses()
-        self.workloads = collections.defaultdict(list)
-        for endpoint in self.endpoints:
-            self.workloads[endpoint.workload].append(endpoint)
+        self.workloads = by_workload(self.endpoints)
+        self.kinds_of_name = collections.Counter((it.namespace, it.name) for it in self.workloads)
+        self.workloads_left_out = by_workload(self.pods_left_out.values())
 
     def node_addresses(self):
         """The addresses of each node, by the node itself and by what its pods say of it."""
@@ -121,37 +124,45 @@ class Cluster:
         found = [endpoint for endpoint in self.endpoints if name in (endpoint.name, endpoint.id)]
         if len(found) > 1:
             raise UnknownEnd("%s has several endpoints: %s; name one of these" % (name, ", ".join(e.id for e in found)))
-        if not found and self.is_on_host(name):
-            return [self.node_end(self.pods_left_out[name].node)]
-        found = found or self.of_workload(name)
+        found = found or self.of_workload(name, self.workloads) or self.nodes_of(name)
         if not found:
             raise UnknownEnd(self.why_unknown(name))
         return found
 
-    def of_workload(self, name):
-        """The pods of the one workload that a name is of."""
+    def of_workload(self, name, workloads):
+        """What belongs to the one of these workloads that a name is of."""
         kind, namespace, own = named_workload(name) or (None, None, None)
-        found = [workload for workload in self.workloads
+        found = [workload for workload in workloads
                  if workload.name == own and namespace in (None, workload.namespace) and kind in (None, workload.kind)]
         if len(found) > 1:
             told = ", ".join("%s/%s/%s" % (it.namespace, it.kind, it.name) for it in found)
             raise UnknownEnd("%s is the name of several: %s" % (name, told))
-        return self.workloads[found[0]] if found else []
+        return workloads[found[0]] if found else []
+
+    def left_out(self, name):
+        """The pods without an endpoint that a pod's or a workload's name is of."""
+        if name in self.pods_left_out:
+            return [self.pods_left_out[name]]
+        return [] if self.of_workload(name, self.workloads) else self.of_workload(name, self.workloads_left_out)
+
+    def nodes_of(self, name):
+        """The nodes of pods on the host's network, which are as their nodes are."""
+        nodes = [pod.node for pod in self.left_out(name) if pod.why == ON_HOST and pod.node in self.nodes]
+        return [self.node_end(node) for node in dict.fromkeys(nodes)]
 
     def pods_of(self, workload):
         return self.workloads.get(workload, [])
 
     def name_of_workload(self, workload):
         """The workload's name; with its kind where several have that name."""
-        alike = [it for it in self.workloads if it[1:] == workload[1:]]
-        if len(alike) < 2:
+        if self.kinds_of_name[workload.namespace, workload.name] < 2:
             return name_of_workload(workload)
         return "%s/%s/%s" % (workload.namespace, workload.kind, workload.name)
 
     def is_on_host(self, name):
-        """Whether a name is that of a pod on the host's network, which is as its node is."""
-        pod = self.pods_left_out.get(name)
-        return pod is not None and pod.why == ON_HOST and pod.node in self.nodes
+        """Whether a name is that of pods on the host's network, in whose place nodes are asked about."""
+        is_named = any(name in (endpoint.name, endpoint.id) for endpoint in self.endpoints)
+        return not is_named and bool(self.nodes_of(name))
 
     def why_empty(self):
         """That there is no pod to be asked about, where that is so."""
@@ -164,15 +175,32 @@ class Cluster:
 
     def why_unknown(self, name):
         if "/" not in name:
-            return "%s is neither an address nor a name; a pod is named NAMESPACE/POD" % name
-        if name in self.pods_left_out:
+            return self.why_no_name(name)
+        if self.left_out(name):
             return self.why_left_out(name)
         if not self.endpoints:
             return self.why_empty()
+        if self.service(name):
+            return service_words(self.service(name), name)
         begin = [endpoint.name for endpoint in self.endpoints if endpoint.name.startswith(name)]
         if begin:
             return "no running pod %s in the input; there %s %s" % (name, "is" if len(begin) == 1 else "are", shown_names(begin))
         return "no running pod %s in the input%s" % (name, near_words(name, self.names()))
+
+    def why_no_name(self, text):
+        """Why a text without a namespace is no end."""
+        if HOST_NAME.match(text):
+            return "%s is no address, and names of hosts aren't looked up: give an address of it" % text
+        own = [name for name in self.names() if name.partition("/")[2] == text]
+        return "%s is neither an address nor a name; a pod is named NAMESPACE/POD%s" % (
+            text, "; there is " + shown_names(own) if own else "")
+
+    def service(self, name):
+        """The Service of this name, or None."""
+        for resource in self.of_kind("Service"):
+            if name == "%s/%s" % (part(resource, "metadata", "namespace"), part(resource, "metadata", "name")):
+                return resource
+        return None
 
     def names(self):
         """The names of workloads and pods."""
@@ -180,11 +208,28 @@ class Cluster:
         return list(dict.fromkeys(names))
 
     def why_left_out(self, name):
-        left_out = self.pods_left_out[name]
-        if left_out.why != ON_HOST:
-            return "the pod %s has no workload endpoint (%s)" % (name, left_out.why)
+        left_out = self.left_out(name)
+        first, whose = left_out[0], "the pod %s has" if name in self.pods_left_out else "the pods of %s have"
+        if first.why != ON_HOST:
+            return (whose + " no workload endpoint (%s)") % (name, ", ".join(sorted({pod.why for pod in left_out})))
         return ("the pod %s is on the host's network: it has its node's addresses and no workload endpoint, so ask about its node, "
-                "by --from-node or --to-node %s" % (name, left_out.node or "NODE"))
+                "by --from-node or --to-node %s" % (name, first.node or "NODE"))
+
+
+def by_workload(pods):
+    """Pods by what they belong to."""
+    found = collections.defaultdict(list)
+    for pod in pods:
+        found[pod.workload].append(pod)
+    return found
+
+
+def service_words(resource, name):
+    """By what to ask in the place of a Service's name."""
+    address = text_of(part(resource, "spec", "clusterIP"))
+    if not is_address(address):
+        return "%s is a Service without an address, and no pod: ask about the pods behind it" % name
+    return "%s is a Service, and no pod: ask by its cluster IP, %s, to a port of it" % (name, address)
 
 
 def near_words(name, names):

@@ -7,6 +7,7 @@ from felix_tools.kinds import BESIDE, CALICO, KUBERNETES, READ, has_say, why_not
 from felix_tools.orders import Orders
 from felix_tools.pods import endpoint_of, host_addresses, why_no_endpoint
 from felix_tools.reading import objects, part
+from felix_tools.workloads import workload_of
 
 NAME_LABEL = "projectcalico.org/name"
 COPY_PREFIX = "knp.default."
@@ -30,8 +31,8 @@ class LeftOut(collections.Counter):
                 for (kind, version, why, decides), count in sorted(self.items()) if decides == is_deciding]
 
 
-# Why a pod has no endpoint, and what is known of its node.
-PodLeftOut = collections.namedtuple("PodLeftOut", "why node hosts")
+# Why a pod has no endpoint, what is known of its node, and what it belongs to.
+PodLeftOut = collections.namedtuple("PodLeftOut", "why node hosts workload")
 # A resource that isn't read, or not as it is written, and may have a say. `is_selected` says whether that is so only where the
 # program says that it applies.
 Unread = collections.namedtuple("Unread", "resource origin why is_selected", defaults=(False,))
@@ -92,7 +93,7 @@ class Conversion:
         why = why_no_endpoint(pod)
         if why:
             self.left_out.note(pod, why)
-            self.pods_left_out[name] = PodLeftOut(why, text_of(part(pod, "spec", "nodeName")), host_addresses(pod))
+            self.pods_left_out[name] = pod_left_out(pod, why)
             return
         self.pods[name] = endpoint_of(pod)
         self.lines.append(Line(change.action, self.pods[name], pod, change.origin))
@@ -278,6 +279,11 @@ def slice_of(written):
 
 def convert(changes):
     return Conversion(changes)
+
+
+def pod_left_out(pod, why):
+    namespace, name = (text_of(part(pod, "metadata", member)) for member in ("namespace", "name"))
+    return PodLeftOut(why, text_of(part(pod, "spec", "nodeName")), host_addresses(pod), workload_of(pod, namespace, name))
 
 
 def line_text(line):

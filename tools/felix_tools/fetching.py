@@ -5,7 +5,9 @@ import os
 import shutil
 import subprocess
 
+from felix_tools.kinds import may_be_policies
 from felix_tools.reading import InputError
+from felix_tools.start import Unwritten
 
 # A kind as kubectl names it, whether it stands in namespaces, and whether it may have a say in verdicts.
 Kind = collections.namedtuple("Kind", "name is_namespaced has_say")
@@ -23,14 +25,6 @@ KUBERNETES_KINDS = [
     Kind("endpointslices.discovery.k8s.io", True, False),
     Kind("ingresses.networking.k8s.io", True, False),
     Kind("nodes", False, False),
-]
-# Kinds of others that may have a say, and that are read to be told.
-OTHER_KINDS = [
-    Kind("adminnetworkpolicies.policy.networking.k8s.io", False, True),
-    Kind("baselineadminnetworkpolicies.policy.networking.k8s.io", False, True),
-    Kind("clusternetworkpolicies.policy.networking.k8s.io", False, True),
-    Kind("ciliumnetworkpolicies.cilium.io", True, True),
-    Kind("ciliumclusterwidenetworkpolicies.cilium.io", False, True),
 ]
 CALICO_KINDS = [
     Kind("tiers", False, True),
@@ -58,19 +52,28 @@ class Cluster:
     def fetch(self):
         """What the cluster has of each kind, and of those that can't be read why."""
         served = self.served()
-        others = [kind for kind in OTHER_KINDS if kind.name in served]
-        asked = [(self.by_kubectl, kind) for kind in KUBERNETES_KINDS + others]
+        asked = [(self.by_kubectl, kind) for kind in KUBERNETES_KINDS + self.others(served)]
         asked += [way for kind in CALICO_KINDS for way in self.ways_to(kind, served)]
         with concurrent.futures.ThreadPoolExecutor(max_workers=AT_ONCE) as pool:
             return [found for several in pool.map(lambda way: way[0](way[1]), asked) for found in several]
 
     def served(self):
         """The names of the kinds that the API server serves; of a server that tells only some of them these."""
-        done = self.run(["kubectl"] + self.kubectl_words() + ["api-resources", "-o", "name"])
+        done = self.api_resources()
         names = set(done.stdout.split())
         if not names:
             raise InputError("kubectl doesn't reach the cluster: %s" % said(done))
         return names
+
+    def api_resources(self, *words):
+        return self.run(["kubectl"] + self.kubectl_words() + ["api-resources", "-o", "name"] + list(words))
+
+    def others(self, served):
+        """Kinds of others that may have a say by their names: they are read to be told."""
+        known = {kind.name for kind in KUBERNETES_KINDS}
+        names = sorted(name for name in served - known if may_be_policies(name))
+        of_cluster = self.api_resources("--namespaced=false").stdout.split() if names else []
+        return [Kind(name, name not in of_cluster, True) for name in names]
 
     def ways_to(self, kind, served):
         """How a kind of Calico is fetched: by its own API, else by calicoctl, else as it is stored."""
@@ -143,5 +146,5 @@ def keep(found, folder):
             with open(paths[-1], "w", encoding="utf-8") as file:
                 file.write("\n".join(parts))
     except OSError as fault:
-        raise InputError("%s: %s" % (fault.filename or folder, fault.strerror))
+        raise Unwritten("the dump can't be written: %s: %s" % (fault.filename or folder, fault.strerror))
     return paths

@@ -30,7 +30,10 @@ OTHER_POLICIES = {
     "MutatingAdmissionPolicyBinding", "PolicyReport", "ClusterPolicyReport", "CleanupPolicy", "ClusterCleanupPolicy",
     "PolicyException", "ImageValidatingPolicy",
 }
-OTHER_GROUPS = ("kyverno.io", "policies.kyverno.io", "wgpolicyk8s.io", "policy.open-cluster-management.io")
+OTHER_GROUPS = (
+    "kyverno.io", "policies.kyverno.io", "policies.kubewarden.io", "wgpolicyk8s.io", "policy.open-cluster-management.io",
+    "policy.cert-manager.io", "policy.sigstore.dev",
+)
 LIKE = 0.85
 
 
@@ -50,6 +53,16 @@ def has_say(version, kind):
     if kind in OTHER_POLICIES or group in OTHER_GROUPS:
         return False
     return "polic" in kind.lower() or "firewall" in kind.lower()
+
+
+def may_be_policies(name):
+    """Whether an API server's name of a kind, as `ciliumnetworkpolicies.cilium.io`, is that of policies of others which may
+    have a say."""
+    plural, _, group = name.partition(".")
+    singular = plural[:-3] + "y" if plural.endswith("ies") else plural[:-1]
+    if group in CALICO_GROUPS + OTHER_GROUPS or singular in {kind.lower() for kind in OTHER_POLICIES}:
+        return False
+    return "polic" in plural or "firewall" in plural
 
 
 def meant(kind):

@@ -105,6 +105,8 @@ def words_of(options, paths):
         return ["--before"] + paths + ["--after"] + paths + options.applied + words
     if options.applied:
         raise InputError("-f is of diff alone")
+    if options.tool == "check" and check.parser().parse_known_args(words + paths)[0].assertions in paths:
+        raise InputError("check needs a file of assertions: kubectl felix check FILE")
     return words + paths if options.tool == "check" else paths + words
 
 

@@ -54,5 +54,13 @@ def near_notes(question, cluster):
     return notes
 
 
+def why_nothing(wishes, cluster):
+    """Why wishes ask nothing; of an address that is a node's by what to ask."""
+    told = ["; %s is an address of the node %s, whose processes are asked about by --%s-node %s (in lists node:%s)" % (
+        text, node, way, node, node) for wish in wishes for way, text in (("from", wish.sender), ("to", wish.receiver))
+        for node in cluster.nodes_at(text)]
+    return "of a question's two ends one at least is a pod or a node" + "".join(dict.fromkeys(told))
+
+
 def is_of_node(end, cluster):
     return is_node(end) or is_outside(end) and bool(cluster.nodes_at(end.address))

@@ -47,7 +47,7 @@ def add_questions(parser):
 def add_names(group):
     group.add_argument("-n", "--namespace", metavar="NAMESPACE", help="the namespace of names that have none")
     group.add_argument("--each-pod", action="store_true", help="asks of each pod by itself, and tells each by itself")
-    group.add_argument("--most", type=int, metavar="N", default=MOST,
+    group.add_argument("--most", type=questions_at_most, metavar="N", default=MOST,
                        help="how many questions are asked at most (%(default)s)")
 
 
@@ -108,6 +108,12 @@ def check_questions(options):
         raise QuestionError("no traffic is named: --tcp, --udp or --sctp with a port, --icmp or --protocol")
 
 
+def asks_packet(options):
+    """Whether the words name an end, traffic or a list of questions."""
+    ends = [options.senders, options.receivers, options.from_address, options.to_address, options.lists]
+    return any(ends) or bool(traffics(options))
+
+
 def traffics(options):
     asked = [port_traffic(protocol, number, options.source_port) for protocol in PORT_PROTOCOLS for number in getattr(options, protocol)]
     if options.icmp:
@@ -141,7 +147,15 @@ def icmp(text):
 
 
 def protocol_number(text):
-    return number_up_to(text, 255, "a protocol") or None
+    if not number_up_to(text, 255, "a protocol"):
+        raise argparse.ArgumentTypeError("0 isn't a protocol from 1 to 255")
+    return int(text)
+
+
+def questions_at_most(text):
+    if not text.isdigit() or not int(text):
+        raise argparse.ArgumentTypeError("%s isn't a number from 1 on" % text)
+    return int(text)
 
 
 def address(text):

@@ -81,12 +81,12 @@ def named_ports(end, protocol):
 def address_of(end):
     if is_outside(end):
         return end.address
-    wanted = [("IPv4 address", end.addresses)]
+    wanted = [("IPv4 address in the input, and IPv6 isn't modelled", end.addresses)]
     if not is_node(end):
         wanted += [("node", end.node), ("interface", end.interface)]
     for what, value in wanted:
         if not value:
-            raise QuestionError("%s has no %s%s" % (end.name, what, " in the input" if is_node(end) else ""))
+            raise QuestionError("%s has no %s" % (end.name, what))
     return end.addresses[0]
 
 

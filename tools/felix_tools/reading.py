@@ -88,7 +88,9 @@ def why_no_json(text, place, fault):
         return "the JSON that begins in line %d breaks off at the file's end, in line %d: is the file whole?" % (
             begin, line_at(text, len(text.rstrip())))
     if at == place:
-        return "what begins in line %d isn't JSON" % begin
+        line = text[place:].split("\n")[0].rstrip()
+        told = "is what kubectl says on standard error, and no resource" if SAID.match(line) else "isn't JSON"
+        return "what begins in line %d %s: `%.80s`" % (begin, told, line)
     column = at - (text.rfind("\n", 0, at) + 1) + 1
     return "line %d, column %d: this isn't JSON (%s)" % (line_at(text, at), column, fault.msg)
 

@@ -52,7 +52,7 @@ def check_number(number, most):
     """That no more questions are asked than may be."""
     if most is not None and number > most:
         raise QuestionError("these are {:,} questions, and --most says {:,} at most: name fewer ends, or give --most "
-                            "another number".format(number, most))
+                            "a larger number".format(number, most))
 
 
 def senders_of(wish, cluster):

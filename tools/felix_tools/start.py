@@ -13,10 +13,11 @@ REFUSED = 3
 FAILED = 4
 UNWRITTEN = 5
 INTERRUPTED = 130
+NO_ANSWER = "the answer can't be written: %s"
 
 
 class Unwritten(Exception):
-    """The answer couldn't be written; the text says why."""
+    """Something couldn't be written; the text says what, and why."""
 
 
 class Output:
@@ -63,7 +64,7 @@ def tried(call, *words):
     try:
         return call(*words)
     except OSError as fault:
-        raise Unwritten(fault.strerror)
+        raise Unwritten(NO_ANSWER % fault.strerror)
 
 
 def start(main, tool):
@@ -79,7 +80,7 @@ def written(main, tool):
     """The tool's status, or that of a failed write."""
     try:
         if sys.stdout is None:
-            raise Unwritten("standard output is closed")
+            raise Unwritten(NO_ANSWER % "standard output is closed")
         sys.stdout.reconfigure(encoding="utf-8")
         sys.stdout = Output(sys.stdout)
         status = ended(main)
@@ -87,7 +88,7 @@ def written(main, tool):
         return status
     except Unwritten as fault:
         drop_output()
-        remark(tool, "the answer can't be written: %s" % fault)
+        remark(tool, fault)
         return UNWRITTEN
 
 

@@ -7,12 +7,14 @@ from felix_tools import program
 from felix_tools.answers import Answers
 from felix_tools.asking import Asking
 from felix_tools.cluster import Cluster, Outside, UnknownEnd
-from felix_tools.conversion import convert
+from felix_tools.conversion import PodLeftOut, convert
+from felix_tools.pods import ON_HOST
 from felix_tools.questions import QuestionError, Wish, port_traffic, traffic_of
 from felix_tools.reading import Change
 from felix_tools.resolving import resolve
 from felix_tools.rule_words import rule_words, target
 from felix_tools.rules import Place, place_of, place_words
+from felix_tools.workloads import Workload
 from felix_tools.yaml_text import yaml_lines
 
 OUTPUT = """\
@@ -117,6 +119,13 @@ def cluster(*endpoints):
     return Cluster(convert([Change("put", resource, "a file") for resource in endpoints]).lines)
 
 
+# Pods that have no endpoint: name, why, node and what they belong to.
+PODS_LEFT_OUT = [
+    ("agent-a", ON_HOST, "n1", "daemonset", "agent"), ("agent-b", ON_HOST, "n2", "daemonset", "agent"),
+    ("report-a", "ended", "n1", "job", "report"), ("report-b", "not on a node yet", "", "job", "report"),
+]
+
+
 class Ends(unittest.TestCase):
     CLUSTER = cluster(
         endpoint("n1-k8s-web-eth0", "n1", "cali1", "10.0.0.1/32", "fd00::1/128", pod="web"),
@@ -142,6 +151,27 @@ class Ends(unittest.TestCase):
         for name in ("a/two", "10.0.0.3", "a/wep", "web", "b/*", "300.1.1.1"):
             with self.assertRaises(UnknownEnd, msg=name):
                 self.CLUSTER.ends(name)
+
+    def test_why_a_name_is_none(self):
+        rows = [
+            ("web", "a pod is named NAMESPACE/POD; there is a/web"),
+            ("www.example.com", "names of hosts aren't looked up"),
+            ("300.1.1.1", "neither an address nor a name"),
+        ]
+        for name, wanted in rows:
+            with self.assertRaisesRegex(UnknownEnd, wanted):
+                self.CLUSTER.ends(name)
+
+    def test_pods_without_an_endpoint_by_what_they_belong_to(self):
+        found = Cluster([], {"x/%s" % name: PodLeftOut(why, node, ["192.0.2.%s" % node[1:]], Workload(kind, "x", own))
+                             for name, why, node, kind, own in PODS_LEFT_OUT})
+        self.assertEqual([end.node for end in found.ends("x/agent")], ["n1", "n2"])
+        self.assertEqual([end.node for end in found.ends("daemonset/agent")], ["n1", "n2"])
+        self.assertEqual([end.node for end in found.ends("x/agent-b")], ["n2"])
+        self.assertTrue(found.is_on_host("x/agent"))
+        self.assertFalse(found.is_on_host("x/report"))
+        with self.assertRaisesRegex(UnknownEnd, r"the pods of x/report have no workload endpoint \(ended, not on a node yet\)"):
+            found.ends("x/report")
 
     def test_what_is_asked_on_which_node(self):
         asking = Asking("no program", [], "eth0")

@@ -47,8 +47,9 @@ class Plugin(unittest.TestCase):
         for command in commands:
             shutil.copy(os.path.join(TESTS, "fake_kubectl"), self.path("bin", command))
 
-    def serves(self, group):
-        write(self.path("cluster", "served"), SERVED + " ".join("%s.%s" % (name, group) for name in STORED.split() if group))
+    def serves(self, group, *others):
+        names = ["%s.%s" % (name, group) for name in STORED.split() if group]
+        write(self.path("cluster", "served"), SERVED + " ".join(names + list(others)))
 
     def forbids(self, *kinds):
         write(self.path("cluster", "forbidden"), " ".join(kinds))
@@ -138,6 +139,30 @@ class Plugin(unittest.TestCase):
             self.assertEqual(len(json.load(file)["items"]), 17)
         self.assertIn("kept in %s; the same without the cluster: tools/ask %s" % (self.path("kept"), self.path("kept")), done.stderr)
         self.assertIn(" --from bakery/web --to bakery/db --tcp pg\n", done.stderr)
+
+    def test_policies_of_others_are_read_to_be_told(self):
+        self.serves("", "authorizationpolicies.security.istio.io", "adminnetworkpolicies.policy.networking.k8s.io",
+                    "podsecuritypolicies.policy", "clusterpolicies.kyverno.io", "poddisruptionbudgets.policy")
+        write(self.path("cluster", "wide"), "adminnetworkpolicies.policy.networking.k8s.io")
+        istio = {"apiVersion": "security.istio.io/v1", "kind": "AuthorizationPolicy", "metadata": {"name": "all", "namespace": "bakery"}}
+        write(self.path("cluster", "istio.json"), json.dumps({"items": [istio]}))
+        done = self.run_it(*ASKED)
+        self.assertEqual((done.stderr, done.returncode), ("", 3))
+        self.assertIn("1 AuthorizationPolicy of security.istio.io/v1: not read", done.stdout)
+        calls = self.calls()
+        self.assertIn("kubectl get authorizationpolicies.security.istio.io -A -o json", calls)
+        self.assertIn("kubectl get adminnetworkpolicies.policy.networking.k8s.io -o json", calls)
+        self.assertFalse([call for call in calls if "podsecurity" in call or "kyverno" in call or "disruption" in call])
+
+    def test_a_dump_that_cannot_be_kept(self):
+        write(self.path("file"), "")
+        done = self.run_it(*ASKED, "--save", self.path("file"))
+        self.assertEqual(done.returncode, 5)
+        self.assertIn("tools/kubectl-felix: the dump can't be written: %s" % self.path("file"), done.stderr)
+
+    def test_check_without_assertions(self):
+        done = self.run_it("check", "--tap")
+        self.assertEqual((done.stderr, done.returncode), ("tools/kubectl-felix: check needs a file of assertions: kubectl felix check FILE\n", 2))
 
     def test_other_tools(self):
         write(self.path("new.json"), '{"apiVersion":"v1","kind":"Namespace","metadata":{"name":"new"}}')

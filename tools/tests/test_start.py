@@ -56,6 +56,14 @@ class Writes(unittest.TestCase):
                               universal_newlines=True)
         self.told("lines", done)
 
+    @unittest.skipUnless(os.path.exists(FULL), "no /dev/full here")
+    def test_a_report_on_a_full_disk_leaves_the_answer(self):
+        words = ["bakery/assertions.txt", "bakery/cluster.json", "bakery/calico.json", "--junit", FULL]
+        done = run_to([os.path.join(TOOLS, "check")] + words, subprocess.PIPE)
+        self.assertEqual(done.returncode, UNWRITTEN)
+        self.assertEqual(done.stderr, "tools/check: the report can't be written: /dev/full: No space left on device\n")
+        self.assertRegex(done.stdout, r"\n[0-9]+ of [0-9]+ assertions hold\.\n\Z")
+
     def commands(self):
         """Of each tool what it always writes, and of some what they write of an input."""
         commands = [[path, "--help"] for path in tools()]

@@ -72,6 +72,16 @@ class Kinds(unittest.TestCase):
         for version, kind, wanted in rows:
             self.assertEqual(kinds.has_say(version, kind), wanted, (version, kind))
 
+    def test_names_of_kinds_that_may_have_a_say(self):
+        rows = [
+            ("ciliumnetworkpolicies.cilium.io", True), ("adminnetworkpolicies.policy.networking.k8s.io", True), ("egressfirewalls.k8s.ovn.org", True),
+            ("authorizationpolicies.security.istio.io", True), ("networkpolicies.crd.projectcalico.org", False), ("clusterpolicies.kyverno.io", False),
+            ("podsecuritypolicies.policy", False), ("poddisruptionbudgets.policy", False), ("clusterpolicyreports.wgpolicyk8s.io", False),
+            ("validatingadmissionpolicybindings.admissionregistration.k8s.io", False), ("pods", False), ("stagednetworkpolicies.projectcalico.org", False),
+        ]
+        for name, wanted in rows:
+            self.assertEqual(kinds.may_be_policies(name), wanted, name)
+
     def test_a_kind_that_is_almost_known_is_named(self):
         self.assertEqual(kinds.why_not_read(CALICO, "GlobalNetworkPolicys"), "no such kind is known; is GlobalNetworkPolicy meant?")
 
