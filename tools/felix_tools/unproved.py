@@ -10,7 +10,7 @@ from felix_tools.program import TOP, ProgramError
 from felix_tools.version import is_installed
 
 SAID = "Nothing is proved of this answer: the program was compiled from its sources without a proof (--unproved)."
-WAIT_WORD = "compiling %s without a proof, which takes a minute or more"
+WAIT_WORD = "compiling %s without a proof, which takes minutes"
 # How long a run may take, in seconds: it is compiled with checks, and slow.
 LONGEST = 3600
 ENDED = re.compile(r"^case=(\S+) run=(\S+)(?: status=(\d+))?", re.MULTILINE)

@@ -74,7 +74,7 @@ class Tried(unittest.TestCase):
         done = subprocess.run([sys.executable, os.path.join(TOOLS, "ask")] + words, env=self.environment, **how)
         self.assertEqual((done.stdout.split("\n")[0], done.returncode), (SAID, 1))
         self.assertIn("shop/web-0 (10.244.1.5, node worker-1) to shop/db-0 (10.244.2.7, node worker-2), TCP 5432: DENIED\n", done.stdout)
-        self.assertEqual(done.stderr, "compiling felix-replay without a proof, which takes a minute or more\n")
+        self.assertEqual(done.stderr, "compiling felix-replay without a proof, which takes minutes\n")
         self.assertEqual(len(self.calls()), 1)
 
     def test_both_sets_of_a_diff_are_one_run(self):
