@@ -68,6 +68,10 @@ impl<K: Beside> ViewSink for ViewPart<K> {
 
     ghost is_kept = { SameSentAndSets };
 
+    fn has_policy(&self, key: &NameKey, policy: &ViewPolicy) -> bool {
+        self.sequencer.has_policy(key, policy)
+    }
+
     fn policy_put(&mut self, key: NameKey, policy: ViewPolicy) -> Result<(), Memory> {
         self.sequencer.policy_put(key, policy)?;
         Ok(())
@@ -76,6 +80,10 @@ impl<K: Beside> ViewSink for ViewPart<K> {
     fn policy_gone(&mut self, key: NameKey) -> Result<(), Memory> {
         self.sequencer.policy_gone(key)?;
         Ok(())
+    }
+
+    fn has_profile(&self, key: &NameKey, profile: &ViewProfile) -> bool {
+        self.sequencer.has_profile(key, profile)
     }
 
     fn profile_put(&mut self, key: NameKey, profile: ViewProfile) -> Result<(), Memory> {

@@ -86,6 +86,10 @@ impl<K: ScanStart> ViewSink for ScanLog<K> {
 
     ghost is_kept = { λ a b. b.uses ≡ a.uses };
 
+    fn has_policy(&self, key: &NameKey, policy: &ViewPolicy) -> bool {
+        self.scanned.sequencer.has_policy(key, policy)
+    }
+
     fn policy_put(&mut self, key: NameKey, policy: ViewPolicy) -> Result<(), Memory> {
         self.scanned.sequencer.policy_put(key, policy)?;
         Ok(())
@@ -94,6 +98,10 @@ impl<K: ScanStart> ViewSink for ScanLog<K> {
     fn policy_gone(&mut self, key: NameKey) -> Result<(), Memory> {
         self.scanned.sequencer.policy_gone(key)?;
         Ok(())
+    }
+
+    fn has_profile(&self, key: &NameKey, profile: &ViewProfile) -> bool {
+        self.scanned.sequencer.has_profile(key, profile)
     }
 
     fn profile_put(&mut self, key: NameKey, profile: ViewProfile) -> Result<(), Memory> {

@@ -1,6 +1,6 @@
 //! What takes the matches of selectors, active rules, used sets, a view, and its sets. Each call changes its relation by its argument
 //! alone.
-ghost use Rattle.std.specs.Prelude.{◌≡◌, ◌≢◌, OnOk, IsSome, Option, Some, true, false};
+ghost use Rattle.std.specs.Prelude.{◌≡◌, ◌≢◌, ◌↔◌, OnOk, IsSome, IsTrue, Option, Some, true, false};
 ghost use Rattle.std.specs.Option.{option_copied};
 ghost use Rattle.std.specs.FinMap as map;
 ghost use Rattle.fx_base.specs.Set as set;
@@ -84,7 +84,8 @@ pub trait ActiveSink {
         ensures profiles { OnOk result (profiles self.new ≡ profiles self.old) };
 }
 
-/// What takes a view but for its sets: policies and profiles by their keys, and endpoints by their interfaces.
+/// What takes a view but for its sets: policies and profiles by their keys, and endpoints by their interfaces. It is told only what
+/// differs from what it has.
 pub trait ViewSink {
     ghost policies: { Self → PoliciesByKey };
 
@@ -95,8 +96,13 @@ pub trait ViewSink {
     /// What else the sink holds stays as it is.
     ghost is_kept: { Self → Self → Type 0 };
 
-    /// A policy that is there already is replaced.
+    /// Whether the sink has just this policy.
+    fn has_policy(&self, key: &NameKey, policy: &ViewPolicy) -> bool
+        ensures { IsTrue result ↔ (map.get (policies self.now) key.now ≡ Some policy.now) };
+
+    /// A policy that is there already is replaced by another one.
     fn policy_put(&mut self, key: NameKey, policy: ViewPolicy) -> Result<(), Memory>
+        requires { map.get (policies self.old) key ≢ Some policy }
         ensures policies { OnOk result (policies self.new ≡ map.insert (policies self.old) key policy) }
         ensures profiles { OnOk result (profiles self.new ≡ profiles self.old) }
         ensures endpoints { OnOk result (endpoints self.new ≡ endpoints self.old) }
@@ -109,8 +115,13 @@ pub trait ViewSink {
         ensures endpoints { OnOk result (endpoints self.new ≡ endpoints self.old) }
         ensures others { OnOk result (is_kept self.old self.new) };
 
-    /// A profile that is there already is replaced.
+    /// Whether the sink has just this profile.
+    fn has_profile(&self, key: &NameKey, profile: &ViewProfile) -> bool
+        ensures { IsTrue result ↔ (map.get (profiles self.now) key.now ≡ Some profile.now) };
+
+    /// A profile that is there already is replaced by another one.
     fn profile_put(&mut self, key: NameKey, profile: ViewProfile) -> Result<(), Memory>
+        requires { map.get (profiles self.old) key ≢ Some profile }
         ensures profiles { OnOk result (profiles self.new ≡ map.insert (profiles self.old) key profile) }
         ensures policies { OnOk result (policies self.new ≡ policies self.old) }
         ensures endpoints { OnOk result (endpoints self.new ≡ endpoints self.old) }

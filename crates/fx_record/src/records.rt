@@ -1,9 +1,10 @@
 //! Sinks that record what they are told, for tests: their fields are their relations.
-ghost use Rattle.std.specs.Prelude.{◌≡◌};
+ghost use Rattle.std.specs.Prelude.{◌≡◌, ◌↔◌, IsTrue, Some};
+ghost use Rattle.std.specs.Option.{option_copied};
 ghost use Rattle.std.specs.FinMap as map;
 ghost use Rattle.fx_base.specs.Set as set;
 
-use fx_base::{Memory, NameKey, NameMap, SetMap, SetName, Text, TextMap};
+use fx_base::{Exact, Memory, NameKey, NameMap, SetMap, SetName, Text, TextMap, same};
 use fx_model::{
     ActiveSink, ItemKey, MatchSink, Member, MemberSet, PairSet, Policy, PolicyId, PolicyMap,
     PolicyPairSet, Profile, SetSink, SetUse, UseSink, ViewEndpoint, ViewPolicy, ViewProfile,
@@ -105,6 +106,15 @@ impl ActiveSink for RecordActive {
     }
 }
 
+fn is_held<V: Exact>(held: Option<&V>, value: &V) -> bool
+    ensures { IsTrue result ↔ (option_copied held.entry ≡ Some value.now) }
+{
+    match held {
+        Some(held) => same(held, value),
+        None => false,
+    }
+}
+
 /// A view but for its sets, and how often an endpoint was put.
 #[derive(Drop)]
 pub struct RecordView {
@@ -138,6 +148,10 @@ impl ViewSink for RecordView {
 
     ghost is_kept = { λ a b. Unit {0} };
 
+    fn has_policy(&self, key: &NameKey, policy: &ViewPolicy) -> bool {
+        is_held(self.policies.get(key), policy)
+    }
+
     fn policy_put(&mut self, key: NameKey, policy: ViewPolicy) -> Result<(), Memory> {
         self.policies.insert(&key, policy)?;
         Ok(())
@@ -146,6 +160,10 @@ impl ViewSink for RecordView {
     fn policy_gone(&mut self, key: NameKey) -> Result<(), Memory> {
         self.policies.remove(&key);
         Ok(())
+    }
+
+    fn has_profile(&self, key: &NameKey, profile: &ViewProfile) -> bool {
+        is_held(self.profiles.get(key), profile)
     }
 
     fn profile_put(&mut self, key: NameKey, profile: ViewProfile) -> Result<(), Memory> {
@@ -202,6 +220,10 @@ impl ViewSink for RecordUses {
 
     ghost is_kept = { λ a b. b.uses ≡ a.uses };
 
+    fn has_policy(&self, key: &NameKey, policy: &ViewPolicy) -> bool {
+        self.view.has_policy(key, policy)
+    }
+
     fn policy_put(&mut self, key: NameKey, policy: ViewPolicy) -> Result<(), Memory> {
         self.view.policy_put(key, policy)?;
         Ok(())
@@ -210,6 +232,10 @@ impl ViewSink for RecordUses {
     fn policy_gone(&mut self, key: NameKey) -> Result<(), Memory> {
         self.view.policy_gone(key)?;
         Ok(())
+    }
+
+    fn has_profile(&self, key: &NameKey, profile: &ViewProfile) -> bool {
+        self.view.has_profile(key, profile)
     }
 
     fn profile_put(&mut self, key: NameKey, profile: ViewProfile) -> Result<(), Memory> {

@@ -11,4 +11,5 @@ mod inputs;
 mod laws;
 mod scanner;
 mod state;
+mod telling;
 mod used;

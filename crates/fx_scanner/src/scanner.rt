@@ -4,7 +4,7 @@
 //!   it is missing, as the active rules tell them.
 //! - **Tells** a `UseSink` the policies and profiles as they are rendered, by their keys, and the sets that their rules use, by their
 //!   names: a set at its first use, and its end at its last. A set that a policy's old rules use and its new ones as well is not
-//!   told again.
+//!   told again, nor is a policy or a profile that the sink has.
 //! - **Holds** its inputs, and beside them how often each set is used.
 //! - **Definition**: `IsScanned`. In Felix this node is the `RuleScanner`.
 ghost use Rattle.std.specs.Prelude.{◌≡◌, ℕ, List, OnOk};

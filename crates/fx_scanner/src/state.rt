@@ -9,6 +9,7 @@ ghost use Rattle.fx_scanner.specs.Scanned.{IsScanned};
 use crate::changes::{give_up, replace};
 use crate::counts::UseCounts;
 use crate::inputs::Inputs;
+use crate::telling::{tell_policy, tell_profile};
 use crate::used::{profile_of, uses_of_policy, uses_of_profile};
 use fx_base::{Memory, Text};
 use fx_model::{Policy, PolicyId, Profile, UseSink, policy_key, profile_key};
@@ -62,7 +63,7 @@ impl State {
         let after = uses_of_policy(alloc, Some(policy))?;
         replace(alloc, &mut self.counts, before, &after, namer, sink)?;
         let key = policy_key(alloc, id, namer)?;
-        sink.policy_put(key, view_policy(alloc, id, policy, namer)?)?;
+        tell_policy(key, view_policy(alloc, id, policy, namer)?, sink)?;
         self.inputs.policies.insert(id.clone()?, policy.clone()?)?;
         Ok(())
     }
@@ -122,7 +123,7 @@ impl State {
         let after = uses_of_profile(alloc, profile)?;
         replace(alloc, &mut self.counts, before, &after, namer, sink)?;
         let key = profile_key(name, namer);
-        sink.profile_put(key, view_profile(alloc, name, profile, namer)?)?;
+        tell_profile(key, view_profile(alloc, name, profile, namer)?, sink)?;
         let own = own_profile(profile)?;
         self.inputs.profiles.insert(name.clone()?, own)?;
         Ok(())

@@ -36,7 +36,7 @@ entry_there held k x at = has_entry (maps.get held k) (ap is_some at)
 module _ {X : Type 0} {eq : X → X → Bool} {held : Named (Entry X)} {to_put to_take : Keys} (was : ArePending eq held to_put to_take) {v : TwoSides (Named X)} (is : entry_maps held ≡ v) where
   -- ---- what is looked up
 
-  wanted_as : (k : List ℕ) → maps.get v.wanted k ≡ side_at wanted_of held k
+  pub wanted_as : (k : List ℕ) → maps.get v.wanted k ≡ side_at wanted_of held k
   wanted_as k = sym (ap (λ (u : TwoSides (Named X)). maps.get u.wanted k) is) ∙ get-projected wanted_of held bytes_exact k
 
   first_put_key : slice_get (set.items to_put) 0 ≡ option_map (λ e. e.0) (first_changed eq v.sent v.wanted)

@@ -1,9 +1,9 @@
 //! What is kept of a key: the value that was sent there, and the one that is wanted now.
-ghost use Rattle.std.specs.Prelude.{◌≡◌, is_some, Some};
+ghost use Rattle.std.specs.Prelude.{◌≡◌, ◌↔◌, IsTrue, is_some, Some};
 ghost use Rattle.std.specs.Option.{option_and_then, option_copied, option_eq};
 ghost use Rattle.fx_sequencer.specs.Entry.{entry_of, is_split, no_entry, sent_of, settled, wanted_of, withdrawn};
 
-use fx_base::Exact;
+use fx_base::{Exact, same};
 
 /// Both sides of a key. Where they are equal there is one value.
 #[derive(Drop)]
@@ -131,6 +131,16 @@ pub fn was_sent<V>(found: Option<&Entry<V>>) -> bool
 {
     match found {
         Some(entry) => entry.was_sent(),
+        None => false,
+    }
+}
+
+/// Whether what was found is this value.
+pub fn is_value<V: Exact>(found: Option<&V>, value: &V) -> bool
+    ensures { IsTrue result ↔ (option_copied found.entry ≡ Some value.now) }
+{
+    match found {
+        Some(found) => same(found, value),
         None => false,
     }
 }

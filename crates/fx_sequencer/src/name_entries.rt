@@ -1,5 +1,5 @@
 //! A map with fixed names by both sides, and the names at which the sides differ.
-ghost use Rattle.std.specs.Prelude.{◌≡◌, IfOk, OnOk, OnErr, IsSome, None, Some, is_some, option_map};
+ghost use Rattle.std.specs.Prelude.{◌≡◌, ◌↔◌, IfOk, OnOk, OnErr, IsSome, IsTrue, None, Some, is_some, option_map};
 ghost use Rattle.std.specs.Option.{option_copied};
 ghost use Rattle.std.specs.FinMap as map;
 ghost use Rattle.fx_model.specs.Messages.{first_absent, first_changed};
@@ -7,7 +7,7 @@ ghost use Rattle.fx_sequencer.specs.Entry.{entry_of, sent_of, settled, wanted_of
 ghost use Rattle.fx_sequencer.specs.Pending.{changes, taken_first};
 ghost use Rattle.fx_sequencer.specs.TwoSides.{side_at};
 
-use crate::entry::{Entry, wanted_at, was_sent};
+use crate::entry::{Entry, is_value, wanted_at, was_sent};
 use crate::names::{first_name, keep_if, take_first};
 use fx_base::{Exact, Memory, NameKey, NameMap};
 use std::alloc::Global;
@@ -50,6 +50,13 @@ impl<V: Exact> NameEntries<V> {
             to_put: NameMap::new(alloc),
             to_take: NameMap::new(alloc),
         }
+    }
+
+    /// Whether this value is the wanted one.
+    pub fn wants(&self, name: &NameKey, value: &V) -> bool
+        ensures { IsTrue result ↔ (map.get self.now.wanted name.now ≡ Some value.now) }
+    {
+        is_value(wanted_at(self.held.get(name)), value)
     }
 
     /// The first value that is wanted and was not sent.

@@ -80,6 +80,10 @@ impl ViewSink for Sequencer {
 
     ghost is_kept = { SameSentAndSets };
 
+    fn has_policy(&self, key: &NameKey, policy: &ViewPolicy) -> bool {
+        self.entries.policies.wants(key, policy)
+    }
+
     fn policy_put(&mut self, key: NameKey, policy: ViewPolicy) -> Result<(), Memory>
         ensures ok { OnOk result (self.new ≡ record self.old {
           wanted = record self.old.wanted { policies = map.insert self.old.wanted.policies key policy };
@@ -99,6 +103,10 @@ impl ViewSink for Sequencer {
     {
         self.entries.policies.take(&key)?;
         Ok(())
+    }
+
+    fn has_profile(&self, key: &NameKey, profile: &ViewProfile) -> bool {
+        self.entries.profiles.wants(key, profile)
     }
 
     fn profile_put(&mut self, key: NameKey, profile: ViewProfile) -> Result<(), Memory>

@@ -2,14 +2,15 @@
 //! goes after it. Of what goes and comes back nothing is told.
 ghost use Rattle.std.specs.Prelude.{◌≡◌, OnOk};
 
+use crate::values::{policy, profile};
 use crate::wanting::{put_policy, turn_endpoint, turn_member, turn_policy, turn_profile, turn_set};
 use fx_base::{Ipv4, Memory, NameKey, Net, SetKind, SetName};
-use fx_model::{Member, Message, View};
+use fx_model::{Member, Message, View, ViewSink};
 use fx_sequencer::Sequencer;
 use std::alloc::Global;
 use std::test::Fail;
 
-/// What comes if it isn't there, and goes if it is, or what is told.
+/// What comes if it isn't there, and goes if it is, what is there, or what is told.
 #[derive(Clone, Copy)]
 enum Event {
     /// It goes if it has no members.
@@ -23,17 +24,22 @@ enum Event {
     FirstPolicy,
     Profile,
     Endpoint,
+    /// The wanted policy is the first one, or it isn't.
+    HasFirst(bool),
+    /// The profile is wanted, or it isn't.
+    HasProfile(bool),
     /// The next message tells of this.
     Told(&'static str),
 }
 
 /// Each event, by the letter of what it is about.
-const EVENTS: [(u8, Event); 107] = [
+const EVENTS: [(u8, Event); 111] = [
     // What is named comes first and goes last.
     (b'e', Event::Endpoint),
     (b'e', Event::Policy),
     (b'e', Event::Set),
     (b'e', Event::Profile),
+    (b'e', Event::HasProfile(true)),
     (b'e', Event::Member),
     (b'e', Event::Told("a set")),
     (b'e', Event::Told("a policy")),
@@ -43,6 +49,7 @@ const EVENTS: [(u8, Event); 107] = [
     (b'e', Event::Member),
     (b'e', Event::Set),
     (b'e', Event::Profile),
+    (b'e', Event::HasProfile(false)),
     (b'e', Event::Endpoint),
     (b'e', Event::Policy),
     (b'e', Event::Told("no endpoint")),
@@ -65,7 +72,9 @@ const EVENTS: [(u8, Event); 107] = [
     (b'g', Event::Told("a policy")),
     (0, Event::Told("nothing")),
     (b'g', Event::ChangedPolicy),
+    (b'g', Event::HasFirst(false)),
     (b'g', Event::FirstPolicy),
+    (b'g', Event::HasFirst(true)),
     (0, Event::Told("nothing")),
     (b'g', Event::ChangedPolicy),
     (b'g', Event::Told("a policy")),
@@ -198,11 +207,22 @@ fn turn(
         Event::FirstPolicy => put_policy(alloc, sequencer, wanted, key, b"first"),
         Event::Profile => turn_profile(alloc, sequencer, wanted, key),
         Event::Endpoint => turn_endpoint(alloc, sequencer, wanted, &[letter; 4]),
-        Event::Told(_) => Ok(()),
+        Event::HasFirst(_) | Event::HasProfile(_) | Event::Told(_) => Ok(()),
     }
 }
 
-// Whether what is told is what the event says.
+fn has_first(alloc: Global, sequencer: &Sequencer, letter: u8) -> Result<bool, Memory> {
+    let first = policy(alloc, b"first")?;
+    Ok(sequencer.has_policy(&NameKey::new(&[letter; 5]), &first))
+}
+
+fn has_profile(alloc: Global, sequencer: &Sequencer, letter: u8) -> Result<bool, Memory> {
+    let key = NameKey::new(&[letter; 5]);
+    let profile = profile(alloc, key.bytes())?;
+    Ok(sequencer.has_profile(&key, &profile))
+}
+
+// Whether what is there or told is what the event says.
 fn happens(
     alloc: Global,
     sequencer: &mut Sequencer,
@@ -214,6 +234,8 @@ fn happens(
     ensures { OnOk result (sequencer.new.wanted ≡ wanted.new) }
 {
     match event {
+        Event::HasFirst(has) => Ok(has_first(alloc, sequencer, letter)? == has),
+        Event::HasProfile(has) => Ok(has_profile(alloc, sequencer, letter)? == has),
         Event::Told(what) => Ok(send(sequencer) == (what, letter)),
         other => {
             turn(alloc, sequencer, wanted, letter, other)?;

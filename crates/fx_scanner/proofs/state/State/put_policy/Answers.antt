@@ -69,16 +69,15 @@ returns-clause-scanned g c =
     let held = c.in_ok-replace.ensures.held rest
     (subst (λ us. AreHeld dg c.args.self.now.counts U (us ++ rest)) (sym before) (policy_held dg n P Q U c.requires.scanned id c.args.self.now.counts c.requires.kept))
     (subst (λ us. AreApartFrom dg us rest) (sym after) (policy_apart_from dg n id p c.requires.apart)) in
-    let uses : g.S.UseSink.uses c.policy_put.new.self ≡ g.S.UseSink.uses c.replace.new.sink = g.met.S.UseSink.kept _ _ c.in_ok-policy_put.ensures.others in
-    let told = subst (λ (us : List SetUse). AreHeld dg c.replace.new.counts (g.S.UseSink.uses c.policy_put.new.self) (us ++ rest)) after
-    (subst (λ u. AreHeld dg c.replace.new.counts u (c.deref.result.now ++ rest)) (sym uses) held) in
+    let told = subst (λ (us : List SetUse). AreHeld dg c.replace.new.counts (g.S.UseSink.uses c.tell_policy.new.sink) (us ++ rest)) after
+    (subst (λ u. AreHeld dg c.replace.new.counts u (c.deref.result.now ++ rest)) (sym c.in_ok-tell_policy.ensures.uses) held) in
     let now : c.insert.new.self ≡ map.insert n.policies id p = c.in_ok-insert.ensures.ok ∙ (λ j. map.insert n.policies (copies_policy_id _ _ c.in_ok-clone.ensures.cases j) (c.in_ok-clone-2.ensures.cases j)) in
-    subst (λ m. IsScanned dg (record n { policies = m }) (g.S.ViewSink.policies c.policy_put.new.self) (g.S.ViewSink.profiles c.policy_put.new.self) (g.S.UseSink.uses c.policy_put.new.self)) (sym now)
-    (policy_put dg n P Q U c.requires.scanned id p c.replace.new.counts (g.S.UseSink.uses c.policy_put.new.self) told c.requires.apart
-    (g.S.ViewSink.policies c.policy_put.new.self) (g.S.ViewSink.profiles c.policy_put.new.self)
-    (c.in_ok-policy_put.ensures.policies
+    subst (λ m. IsScanned dg (record n { policies = m }) (g.S.ViewSink.policies c.tell_policy.new.sink) (g.S.ViewSink.profiles c.tell_policy.new.sink) (g.S.UseSink.uses c.tell_policy.new.sink)) (sym now)
+    (policy_put dg n P Q U c.requires.scanned id p c.replace.new.counts (g.S.UseSink.uses c.tell_policy.new.sink) told c.requires.apart
+    (g.S.ViewSink.policies c.tell_policy.new.sink) (g.S.ViewSink.profiles c.tell_policy.new.sink)
+    (c.in_ok-tell_policy.ensures.policies
     ∙ (λ j. map.insert (c.in_ok-replace.ensures.policies j) (c.in_ok-key.ensures j) (c.in_ok-view_policy.ensures j)))
-    (c.in_ok-policy_put.ensures.profiles ∙ c.in_ok-replace.ensures.profiles))
+    (c.in_ok-tell_policy.ensures.profiles ∙ c.in_ok-replace.ensures.profiles))
 
 pub returns-clause-inputs : goal.returns-clause-inputs
 returns-clause-inputs g c =

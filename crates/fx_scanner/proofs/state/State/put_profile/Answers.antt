@@ -70,13 +70,12 @@ returns-clause-scanned g c =
     let held = c.in_ok-replace.ensures.held rest
     (subst (λ us. AreHeld dg c.args.self.now.counts U (us ++ rest)) (sym before) (profile_held dg n P Q U c.requires.scanned name c.args.self.now.counts c.requires.kept))
     (subst (λ us. AreApartFrom dg us rest) (sym after) (profile_apart_from dg n name p c.requires.apart)) in
-    let uses : g.S.UseSink.uses c.profile_put.new.self ≡ g.S.UseSink.uses c.replace.new.sink = g.met.S.UseSink.kept _ _ c.in_ok-profile_put.ensures.others in
-    let told = subst (λ (us : List SetUse). AreHeld dg c.replace.new.counts (g.S.UseSink.uses c.profile_put.new.self) (us ++ rest)) after
-    (subst (λ u. AreHeld dg c.replace.new.counts u (c.deref.result.now ++ rest)) (sym uses) held) in
+    let told = subst (λ (us : List SetUse). AreHeld dg c.replace.new.counts (g.S.UseSink.uses c.tell_profile.new.sink) (us ++ rest)) after
+    (subst (λ u. AreHeld dg c.replace.new.counts u (c.deref.result.now ++ rest)) (sym c.in_ok-tell_profile.ensures.uses) held) in
     let now : c.insert.new.self ≡ map.insert n.profiles name p = c.in_ok-insert.ensures.ok ∙ (λ j. map.insert n.profiles (c.in_ok-clone.ensures.cases j) (c.in_ok-own.ensures j)) in
-    subst (λ m. IsScanned dg (record n { profiles = m }) (g.S.ViewSink.policies c.profile_put.new.self) (g.S.ViewSink.profiles c.profile_put.new.self) (g.S.UseSink.uses c.profile_put.new.self)) (sym now)
-    (profile_put dg n P Q U c.requires.scanned name p c.replace.new.counts (g.S.UseSink.uses c.profile_put.new.self) told c.requires.apart
-    (g.S.ViewSink.policies c.profile_put.new.self) (g.S.ViewSink.profiles c.profile_put.new.self)
-    (c.in_ok-profile_put.ensures.policies ∙ c.in_ok-replace.ensures.policies)
-    (c.in_ok-profile_put.ensures.profiles
+    subst (λ m. IsScanned dg (record n { profiles = m }) (g.S.ViewSink.policies c.tell_profile.new.sink) (g.S.ViewSink.profiles c.tell_profile.new.sink) (g.S.UseSink.uses c.tell_profile.new.sink)) (sym now)
+    (profile_put dg n P Q U c.requires.scanned name p c.replace.new.counts (g.S.UseSink.uses c.tell_profile.new.sink) told c.requires.apart
+    (g.S.ViewSink.policies c.tell_profile.new.sink) (g.S.ViewSink.profiles c.tell_profile.new.sink)
+    (c.in_ok-tell_profile.ensures.policies ∙ c.in_ok-replace.ensures.policies)
+    (c.in_ok-tell_profile.ensures.profiles
     ∙ (λ j. map.insert (c.in_ok-replace.ensures.profiles j) (c.profile_key-key.ensures j) (c.in_ok-view_profile.ensures j))))
