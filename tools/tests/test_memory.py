@@ -11,11 +11,11 @@ LOADER.exec_module(memory)
 
 # Wrong bodies that meet every contract: a file, what stands in it once, what would tell it as want of memory, and where.
 WRONG = [
-    ("fx_agent/src/agent.rt", "Err(CheckFault::Taken { name, holder }) => Err(UpdateFault::Taken { name, holder })",
-     "Err(CheckFault::Taken { name, holder }) => Err(UpdateFault::Memory)", "Agent::update"),
+    ("fx_engine/src/engine.rt", "Err(CheckFault::Taken { name, holder }) => Err(UpdateFault::Taken { name, holder })",
+     "Err(CheckFault::Taken { name, holder }) => Err(UpdateFault::Memory)", "Engine::update"),
     ("fx_agent/src/pulling.rt", "Err(OutFault::Write) => Err(PullFault::Write)",
      "Err(OutFault::Write) => Err(PullFault::Memory)", "Agent::pull"),
-    ("felix_restore/src/reading.rt", "Ok(Err(RestoreRefusal::Rows(fault)))", "Err(Memory)", "tables_said"),
+    ("fx_restart_lines/src/reading.rt", "Ok(Err(RestoreRefusal::Rows(fault)))", "Err(Memory)", "tables_said"),
     ("fx_lines/src/commands.rt", "            Err(Refusal::BadJson)", "            Err(Refusal::Read(ReadFault::Memory))",
      "read_line"),
     ("fx_run/src/run_fault.rt", "LineFault::InputTooLong => RunFault::InputTooLong", "LineFault::InputTooLong => RunFault::Memory",

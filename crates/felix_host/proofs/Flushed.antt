@@ -2,16 +2,17 @@
 use Rattle.std.proofs.Common.{◌≡◌, ℕ, List, [], ◌∷◌, Result, Ok, Err, refl, sym, ap, subst}
 use Rattle.fx_names.specs.Digests.{Digest}
 use Rattle.fx_fields.specs.declared.refusal.Refusal.{Refusal}
+use Rattle.fx_program.specs.Answers.{accepted_text, settled}
 use Rattle.fx_reconcile.specs.Goal.{after_all}
 use Rattle.fx_reconcile.specs.Operations.{operations}
 use Rattle.fx_reconcile.proofs.End.{ends, next_in_turn, end_is_alike}
 use Rattle.fx_reconcile.proofs.Kept.{allowed_in_turn}
 use Rattle.fx_run.specs.Run.{state_after}
 use Rattle.fx_run.proofs.Runs.{state_after-append}
-use Rattle.felix_host.specs.declared.command.HostCommand.{HostCommand}
-use Rattle.felix_host.specs.declared.command.HostCommand.TheVariants as command
+use Rattle.fx_host_lines.specs.declared.command.HostCommand.{HostCommand}
+use Rattle.fx_host_lines.specs.declared.command.HostCommand.TheVariants as command
 use Rattle.felix_host.specs.Flushing.{Flushes, FlushesLead, IsChange, HaveNoChange, IsFlushed, TablesStay}
-use Rattle.felix_host.specs.Output.{State, start, next, answer_of, after_answer, answer_text, goal_of}
+use Rattle.felix_host.specs.Output.{State, start, next, answer_of, accepted, command_text, goal_of}
 use Rattle.felix_host.proofs.Served.{StandsAt, run_stands, tables_kept, wanted_are}
 
 -- ---- one flush
@@ -23,8 +24,8 @@ line_flushes s stands line said =
       turns = next_in_turn (goal_of s) (operations s.tables (goal_of s)) s.tables refl;
       allowed = allowed_in_turn (goal_of s) goal_kept (operations s.tables (goal_of s)) s.tables (tables_kept s.tables stands.standing) refl;
       alike = end_is_alike (after_all (operations s.tables (goal_of s)) s.tables (goal_of s)) (goal_of s) (ends (goal_of s) (operations s.tables (goal_of s)) s.tables refl);
-      ends = ap (λ (a : Result HostCommand Refusal). (after_answer s a).tables) said;
-      output = ap (answer_text s) said;
+      ends = ap (λ (a : Result HostCommand Refusal). (settled accepted s a).tables) said;
+      output = ap (accepted_text command_text s) said;
     }
 
 pub flushes_lead : (dg : Digest) (node : List ℕ) → FlushesLead dg node
@@ -32,7 +33,7 @@ flushes_lead dg node lines line said = line_flushes (state_after next (start dg 
 
 -- ---- behind it
 
-stays : (s : State) (a : Result HostCommand Refusal) → IsFlushed s → ¬ IsChange a → IsFlushed (after_answer s a)
+stays : (s : State) (a : Result HostCommand Refusal) → IsFlushed s → ¬ IsChange a → IsFlushed (settled accepted s a)
 stays s (Ok command.Blank) flushed none = flushed
 stays s (Ok command.Flush) flushed none = refl
 stays s (Ok command.Tables) flushed none = flushed
@@ -50,7 +51,7 @@ along s (line ∷ lines) flushed none = along (next s line) lines (stays s (answ
 from_flush : (s : State) (line : List ℕ) (lines : List (List ℕ)) → answer_of s line ≡ Ok command.Flush → HaveNoChange (next s line) lines → IsFlushed (state_after next s (line ∷ lines))
 unfolding state_after
 from_flush s line lines said none =
-    let flushed = subst (λ (a : Result HostCommand Refusal). IsFlushed (after_answer s a)) (sym said) refl in
+    let flushed = subst (λ (a : Result HostCommand Refusal). IsFlushed (settled accepted s a)) (sym said) refl in
     along (next s line) lines flushed none
 
 pub tables_stay : (dg : Digest) (node : List ℕ) → TablesStay dg node

@@ -1,5 +1,3 @@
-pub mod ReadingLemmas
-pub mod ReadForms
 pub mod TakingLemmas
 pub mod NodeLemmas
 pub mod HostLemmas

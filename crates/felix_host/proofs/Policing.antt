@@ -11,6 +11,7 @@ use Rattle.fx_model.specs.Tables.{Tables, host_hook}
 use Rattle.fx_model.specs.Walk.{Ended, noted_in}
 use Rattle.fx_fields.specs.declared.refusal.Refusal.{Refusal}
 use Rattle.fx_rules.specs.Rules.{direction_of}
+use Rattle.fx_program.specs.Answers.{accepted_text}
 use Rattle.fx_run.specs.Run.{state_after}
 use Rattle.fx_walk.specs.FromChain.{LastSeen, last_match}
 use Rattle.fx_walk.specs.PacketPaths.{deepest}
@@ -20,15 +21,15 @@ use Rattle.fx_hostep.specs.declared.packet.HostPacket.{HostPacket}
 use Rattle.fx_hostep.specs.HostRuns.{HostDecides, IsHostPacket}
 use Rattle.fx_hostep.specs.HostVerdict.{HostAnswer, HostWhy}
 use Rattle.fx_hostep.proofs.HostAgree.{host_run_has_one_end, is_host_answer}
-use Rattle.felix_host.specs.declared.command.HostCommand.{HostCommand}
-use Rattle.felix_host.specs.declared.command.HostCommand.TheVariants as command
-use Rattle.felix_host.specs.Commands.{command_of}
-use Rattle.felix_host.specs.Formed.{IsReadHost}
+use Rattle.fx_host_lines.specs.declared.command.HostCommand.{HostCommand}
+use Rattle.fx_host_lines.specs.declared.command.HostCommand.TheVariants as command
+use Rattle.fx_host_lines.specs.Commands.{command_of}
+use Rattle.fx_host_lines.specs.Formed.{IsReadHost}
 use Rattle.felix_host.specs.Flushing.{IsFlushed}
-use Rattle.felix_host.specs.Output.{State, start, next, answer_of, answer_text}
+use Rattle.felix_host.specs.Output.{State, start, next, answer_of, command_text}
 use Rattle.felix_host.specs.PacketLines.{nothing_seen, decided, answer_lines, packet_text}
 use Rattle.felix_host.specs.Policed.{TellsRun, PacketsAreRuns, TellsPolicy, KeepsPolicy, reference}
-use Rattle.felix_host.proofs.ReadForms.{command_of-read}
+use Rattle.fx_host_lines.proofs.ReadForms.{command_of-read}
 use Rattle.felix_host.proofs.Served.{StandsAt, run_stands, tables_ranked, checked_read}
 
 -- ---- the run of a packet
@@ -57,7 +58,7 @@ line_run : (s : State) → StandsAt s → (line : List ℕ) (p : HostPacket) →
 line_run s stands line p said = record {
   answer = decided s.tables (direction_of p.inbound) p.packet;
   run = decided_is_run s.tables (tables_ranked s.tables stands.standing) (direction_of p.inbound) p.packet;
-  output = ap (answer_text s) said;
+  output = ap (accepted_text command_text s) said;
 }
 
 pub packets_are_runs : (dg : Digest) (node : List ℕ) → PacketsAreRuns dg node

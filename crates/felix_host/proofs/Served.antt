@@ -15,6 +15,7 @@ use Rattle.fx_laws.proofs.ViewClosed.{view_of-closed}
 use Rattle.fx_fields.specs.declared.refusal.Refusal.{Refusal}
 use Rattle.fx_tables.specs.Invariant.{AreKept}
 use Rattle.fx_driver.proofs.Drivable.{empty_view-drivable}
+use Rattle.fx_program.specs.Answers.{settled}
 use Rattle.fx_run.specs.Run.{state_after}
 use Rattle.fx_run.proofs.Runs.{kept_after}
 use Rattle.fx_hostep.specs.declared.failsafe.Failsafe.{Failsafe}
@@ -23,14 +24,14 @@ use Rattle.fx_hostep.specs.HostRuns.{HasHooks, IsHostServable}
 use Rattle.fx_hostep.specs.HostTables.{host_tables_of}
 use Rattle.fx_hostep.proofs.HostAt.{hooks_there}
 use Rattle.fx_hostep.proofs.HostLeads.{host-kept, host-ranked}
-use Rattle.felix_host.specs.declared.command.HostCommand.{HostCommand}
-use Rattle.felix_host.specs.declared.command.HostCommand.TheVariants as command
-use Rattle.felix_host.specs.Commands.{command_of}
-use Rattle.felix_host.specs.Formed.{IsReadHost}
-use Rattle.felix_host.specs.Output.{State, start, next, unless_taken, checked, after_answer}
+use Rattle.fx_host_lines.specs.declared.command.HostCommand.{HostCommand}
+use Rattle.fx_host_lines.specs.declared.command.HostCommand.TheVariants as command
+use Rattle.fx_host_lines.specs.Commands.{command_of}
+use Rattle.fx_host_lines.specs.Formed.{IsReadHost}
+use Rattle.felix_host.specs.Output.{State, start, next, unless_taken, checked, accepted}
 use Rattle.felix_host.specs.Standing.{AreHostTables}
 use Rattle.felix_host.proofs.NodeLemmas.{none-host-servable, host-servable-after}
-use Rattle.felix_host.proofs.ReadForms.{command_of-read}
+use Rattle.fx_host_lines.proofs.ReadForms.{command_of-read}
 
 -- ---- host tables
 
@@ -65,7 +66,7 @@ start_stands dg node = record {
   standing = record { view = empty_view; failsafe = no_failsafe; closed = empty_view-drivable.closed; kinds = empty_view-drivable.kinds; same = refl };
 }
 
-untaken : (s : State) → StandsAt s → (u : Update) → is_formed u ≡ true → (o : Option Clash) → clash s.digest s.resources u ≡ o → StandsAt (after_answer s (unless_taken o (command.Update u)))
+untaken : (s : State) → StandsAt s → (u : Update) → is_formed u ≡ true → (o : Option Clash) → clash s.digest s.resources u ≡ o → StandsAt (settled accepted s (unless_taken o (command.Update u)))
 untaken s was u formed (Some c) is = was
 untaken s was u formed None is = record {
   servable = host-servable-after s.digest s.resources was.servable u formed is;
@@ -73,7 +74,7 @@ untaken s was u formed None is = record {
   standing = was.standing;
 }
 
-answered : (s : State) → StandsAt s → (said : Result HostCommand Refusal) → IfOk said IsReadHost → StandsAt (after_answer s (checked s.digest s.resources said))
+answered : (s : State) → StandsAt s → (said : Result HostCommand Refusal) → IfOk said IsReadHost → StandsAt (settled accepted s (checked s.digest s.resources said))
 answered s was (Ok command.Blank) read = was
 answered s was (Ok command.Flush) read = record { servable = was.servable; protocols = was.protocols; standing = wanted_are s.digest s.resources s.failsafe }
 answered s was (Ok command.Tables) read = was

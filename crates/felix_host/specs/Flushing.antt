@@ -7,8 +7,8 @@ use Rattle.fx_fields.specs.declared.refusal.Refusal.{Refusal}
 use Rattle.fx_reconcile.specs.Goal.{AreAlike, AreAllowedInTurn, AreNextInTurn, after_all}
 use Rattle.fx_reconcile.specs.Operations.{operations}
 use Rattle.fx_run.specs.Run.{state_after}
-use Rattle.felix_host.specs.declared.command.HostCommand.{HostCommand}
-use Rattle.felix_host.specs.declared.command.HostCommand.TheVariants as command
+use Rattle.fx_host_lines.specs.declared.command.HostCommand.{HostCommand}
+use Rattle.fx_host_lines.specs.declared.command.HostCommand.TheVariants as command
 use Rattle.felix_host.specs.Output.{State, start, next, answer_of, goal_of, text, flush_text}
 
 -- ---- one flush

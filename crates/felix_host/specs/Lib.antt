@@ -1,5 +1,3 @@
-pub mod Commands
-pub mod Formed
 pub mod PacketLines
 pub mod Output
 pub mod Standing

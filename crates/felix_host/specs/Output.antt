@@ -1,6 +1,6 @@
 -- The output of a run over host endpoints: what each line writes, and what stands between two lines. The rules that it
 -- follows stand in docs/INPUT.md and docs/OUTPUT.md of this repository.
-use Rattle.std.specs.Prelude.{ℕ, ◌+◌, List, [], ◌++◌, length, Bool, true, false, Option, Some, None, Result, Ok, Err, codes, decimal}
+use Rattle.std.specs.Prelude.{ℕ, List, [], ◌++◌, length, Option, Some, None, Result, Ok, Err, codes}
 use Rattle.std.specs.List.{concat}
 use Rattle.fx_names.specs.Digests.{Digest}
 use Rattle.fx_names.specs.Claims.{Clash}
@@ -14,25 +14,26 @@ use Rattle.fx_model.specs.Views.{empty_view, view_of}
 use Rattle.fx_fields.specs.declared.refusal.Refusal.{Refusal}
 use Rattle.fx_fields.specs.declared.refusal.Refusal.TheVariants.{Taken}
 use Rattle.fx_print.specs.Texts.{refusal_line}
+use Rattle.fx_program.specs.Answers.{accepted_text, by_answers, settled}
+use Rattle.fx_program.specs.Meanings.{Meaning}
 use Rattle.fx_reconcile.specs.Operations.{operations}
-use Rattle.fx_leading.specs.Lines.{op_lines}
+use Rattle.fx_leading.specs.Lines.{count_line, op_lines}
 use Rattle.fx_hostep.specs.declared.failsafe.Failsafe.{Failsafe}
 use Rattle.fx_hostep.specs.FailsafePorts.{no_failsafe}
 use Rattle.fx_hostep.specs.HostTables.{host_tables_of}
-use Rattle.felix_host.specs.declared.command.HostCommand.{HostCommand}
-use Rattle.felix_host.specs.declared.command.HostCommand.TheVariants as command
-use Rattle.felix_host.specs.Commands.{command_of}
+use Rattle.fx_host_lines.specs.declared.command.HostCommand.{HostCommand}
+use Rattle.fx_host_lines.specs.declared.command.HostCommand.TheVariants as command
+use Rattle.fx_host_lines.specs.Commands.{command_of}
 use Rattle.felix_host.specs.PacketLines.{packet_text}
+use Rattle.felix_host.specs.Words.{usage_line}
 
 -- what stands between two lines: the digest by which names are made, which stays, the resources and the failsafe ports,
--- the tables of the last flush, how many lines there were and whether one was refused
+-- and the tables of the last flush
 pub record State : Type 0 where
   pub digest : Digest
   pub resources : Resources
   pub failsafe : Failsafe
   pub tables : Tables
-  pub lines : ℕ
-  pub refused : Bool
 
 -- before the first line of the node of this name
 abbrev pub start : Digest → List ℕ → State
@@ -41,8 +42,6 @@ start dg node = record {
   resources = empty_resources node;
   failsafe = no_failsafe;
   tables = host_tables_of empty_view no_failsafe;
-  lines = 0;
-  refused = false;
 }
 
 -- the tables that a flush leads to
@@ -83,25 +82,15 @@ accepted s (command.Update u) = record s { resources = after s.resources u }
 accepted s (command.Failsafe f) = record s { failsafe = f }
 accepted s (command.Packet p) = s
 
--- what a counted line does; a refused one changes nothing
-abbrev pub settled : State → Result HostCommand Refusal → State
-settled s (Ok c) = accepted s c
-settled s (Err r) = record s { refused = true }
-
-abbrev pub counted : State → State
-counted s = record s { lines = s.lines + 1 }
-
-abbrev pub after_answer : State → Result HostCommand Refusal → State
-after_answer s answer = settled (counted s) answer
-
+-- a refused line changes nothing
 abbrev pub next : State → List ℕ → State
-next s line = after_answer s (answer_of s line)
+next s line = settled accepted s (answer_of s line)
 
 -- ---- what a line writes
 
 -- the number of operations; a chain that changes in its tags alone takes none
 abbrev pub applied_line : ℕ → List ℕ
-applied_line n = codes "applied " ++ (decimal n ++ codes "\n")
+applied_line n = count_line (codes "applied") n
 
 -- the operations from these tables to a goal, and their number
 abbrev pub flush_text : Tables → Tables → List ℕ
@@ -115,15 +104,12 @@ command_text s (command.Update u) = []
 command_text s (command.Failsafe f) = []
 command_text s (command.Packet p) = packet_text s.tables p
 
-abbrev pub settled_text : State → Result HostCommand Refusal → List ℕ
-settled_text s (Ok c) = command_text s c
-settled_text s (Err r) = refusal_line s.lines r
-
-abbrev pub answer_text : State → Result HostCommand Refusal → List ℕ
-answer_text s answer = settled_text (counted s) answer
-
+-- what a line writes that is accepted
 abbrev pub text : State → List ℕ → List ℕ
-text s line = answer_text s (answer_of s line)
+text s line = accepted_text command_text s (answer_of s line)
 
-abbrev pub was_refused : State → Bool
-was_refused s = s.refused
+-- ---- the whole
+
+-- of the node that the words name
+abbrev pub meaning : Digest → Meaning (List ℕ) State Refusal
+meaning dg = by_answers usage_line (start dg) answer_of accepted command_text refusal_line

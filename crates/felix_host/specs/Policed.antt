@@ -11,7 +11,7 @@ use Rattle.fx_run.specs.Run.{state_after}
 use Rattle.fx_hostep.specs.declared.packet.HostPacket.{HostPacket}
 use Rattle.fx_hostep.specs.HostRuns.{HostDecides}
 use Rattle.fx_hostep.specs.HostVerdict.{HostAnswer, host_verdict}
-use Rattle.felix_host.specs.declared.command.HostCommand.TheVariants as command
+use Rattle.fx_host_lines.specs.declared.command.HostCommand.TheVariants as command
 use Rattle.felix_host.specs.Flushing.{IsFlushed}
 use Rattle.felix_host.specs.Output.{State, start, next, answer_of, text}
 use Rattle.felix_host.specs.PacketLines.{answer_lines}

@@ -1,35 +1,19 @@
--- One step of a run over host endpoints: the laws of its machine.
-use Rattle.std.specs.Prelude.{◌≡◌, ◌+◌, ℕ, List, Result, Ok, Err, refl}
+-- One step of a run over host endpoints: the law of its program.
+use Rattle.std.specs.Prelude.{ℕ, List}
 use Rattle.std.proofs.Common.{ap}
-use Rattle.fx_fields.specs.declared.refusal.Refusal.{Refusal}
 use Rattle.fx_lines.specs.Lines.{clip}
-use Rattle.fx_lines.proofs.Clips.{value_in-clip}
-use Rattle.felix_host.specs.declared.command.HostCommand.{HostCommand}
-use Rattle.felix_host.specs.declared.command.HostCommand.TheVariants as command
-use Rattle.felix_host.specs.Commands.{of_value, command_of}
-use Rattle.felix_host.specs.Output.{State, next, checked, after_answer, answer_of, answer_text, text}
+use Rattle.fx_lines.proofs.Clips.{command_by-clip}
+use Rattle.fx_names.specs.Digests.{Digest}
+use Rattle.fx_print.specs.Texts.{refusal_line}
+use Rattle.fx_program.specs.Answers.{same_line}
+use Rattle.fx_program.specs.Meanings.{IsSameLine}
+use Rattle.fx_host_lines.specs.declared.command.HostCommand.TheVariants as command
+use Rattle.fx_host_lines.specs.Commands.{by_name}
+use Rattle.felix_host.specs.Output.{State, accepted, answer_of, checked, command_text, meaning, start}
+use Rattle.felix_host.specs.Words.{usage_line}
 
--- each line is counted
-pub step-lines : (s : State) (a : Result HostCommand Refusal) → (after_answer s a).lines ≡ s.lines + 1
-step-lines s (Ok command.Blank) = refl
-step-lines s (Ok command.Flush) = refl
-step-lines s (Ok command.Tables) = refl
-step-lines s (Ok (command.Update u)) = refl
-step-lines s (Ok (command.Failsafe f)) = refl
-step-lines s (Ok (command.Packet p)) = refl
-step-lines s (Err r) = refl
-
-pub next-lines : (s : State) (line : List ℕ) → (next s line).lines ≡ s.lines + 1
-next-lines s line = step-lines s (answer_of s line)
-
--- what is kept of a line says as much as the line
-command_of-clip : (line : List ℕ) → command_of (clip line) ≡ command_of line
-unfolding command_of
-command_of-clip line = ap of_value (value_in-clip line)
-
--- and does as much
-pub next-clip : (s : State) (line : List ℕ) → (next s (clip line) ≡ next s line) × (text s (clip line) ≡ text s line)
-next-clip s line = (
-  ap (λ (said : Result HostCommand Refusal). after_answer s (checked s.digest s.resources said)) (command_of-clip line),
-  ap (λ (said : Result HostCommand Refusal). answer_text s (checked s.digest s.resources said)) (command_of-clip line),
-)
+-- what is kept of a line does what the line does
+pub next-clip : (dg : Digest) (s : State) (line : List ℕ) → IsSameLine (meaning dg) s (clip line) line
+next-clip dg s line =
+    same_line usage_line (start dg) answer_of accepted command_text refusal_line s (clip line) line
+    (ap (checked s.digest s.resources) (command_by-clip command.Blank by_name line))

@@ -1,52 +1,49 @@
 //! Answers one line after another.
-ghost use Rattle.std.specs.Prelude.{◌≡◌, ◌-◌, ◌^◌, ◌<◌, IfOk, OnOk, true};
+ghost use Rattle.std.specs.Prelude.{◌≡◌, IfOk, Ok, OnOk, true};
 ghost use Rattle.std.specs.List.{concat};
 ghost use Rattle.fx_model.specs.Formed.{is_formed};
 ghost use Rattle.fx_model.specs.TableTexts.{table_lines};
 ghost use Rattle.fx_hostep.specs.HostRuns.{IsHostPacket};
-ghost use Rattle.fx_print.specs.Texts.{refusal_line};
+ghost use Rattle.fx_program.specs.Answers.{accepted_text, refusal_in, settled};
 ghost use Rattle.fx_run.specs.Writing.{Writes};
-ghost use Rattle.felix_host.specs.Formed.{IsReadHost};
-ghost use Rattle.felix_host.specs.Output.{State, accepted, checked, command_text, next, settled, settled_text, start, text, update_answer, was_refused};
+ghost use Rattle.fx_host_lines.specs.Formed.{IsReadHost};
+ghost use Rattle.felix_host.specs.Output.{State, accepted, checked, command_text, meaning, start, update_answer};
 ghost use Rattle.felix_host.specs.PacketLines.{packet_text};
 ghost use Rattle.felix_host.specs.Standing.{AreHostTables, IsReady, state_of};
-ghost use Rattle.felix_host.specs.Stepping.{next-clip, next-lines};
+ghost use Rattle.felix_host.specs.Stepping.{next-clip};
 
-use crate::command::HostCommand;
 use crate::flushing::flush;
 use crate::node::HostNode;
 use crate::packets::packet_texts;
-use crate::reading::command_in;
 use fx_base::{Memory, Sink, Text};
+use fx_engine::UpdateFault;
 use fx_fields::Refusal;
+use fx_host_lines::HostCommand;
 use fx_hostep::{Failsafe, HostPacket, host_goal};
+use fx_lines::read_said;
 use fx_model::{Update, View};
 use fx_names::{DigestFunction, DigestRule, Namer};
 use fx_print::{refusal_text, tables_text};
-use fx_run::{Machine, RunFault, put_all, put_one};
-use fx_store::CheckFault;
+use fx_program::Program;
+use fx_run::{RunFault, put_all};
 use fx_tables::Tables;
 use std::alloc::Global;
 
-/// The node and its failsafe ports, the tables of the last flush, the number of lines so far, and whether one was
-/// refused.
+/// The node and its failsafe ports, and the tables of the last flush.
 #[derive(Drop)]
 pub struct Host<R: DigestRule, F: DigestFunction<R> + Drop> {
     alloc: Global,
     pub node: HostNode<R, F>,
     pub failsafe: Failsafe,
     pub tables: Tables,
-    pub lines: u64,
-    pub refused: bool,
 }
 
 impl<R: DigestRule, F: DigestFunction<R> + Drop> Host<R, F> {
-    pub fn new(alloc: Global, name: &Text, namer: Namer<R, F>) -> Result<Self, Memory>
+    pub fn new(alloc: Global, name: Text, namer: Namer<R, F>) -> Result<Self, Memory>
         ensures state { IfOk result (λ h.
-            state_of R.digest_of h.node.store.resources h.failsafe h.tables h.lines h.refused
-            ≡ start R.digest_of name.now) }
+            state_of R.digest_of h.node.engine.resources h.failsafe h.tables ≡ start R.digest_of name) }
         ensures ready { IfOk result (λ h.
-            IsReady R.digest_of h.node.store h.node.graph.state h.node.view h.failsafe h.tables) }
+            IsReady R.digest_of h.node.engine h.node.view h.failsafe h.tables) }
     {
         // The node comes last, since each `?` lets go of all above it.
         let nothing = View::new(alloc);
@@ -58,87 +55,86 @@ impl<R: DigestRule, F: DigestFunction<R> + Drop> Host<R, F> {
             node,
             failsafe,
             tables,
-            lines: 0,
-            refused: false,
         })
     }
 
-    // Does what the counted line says.
-    fn settle<K: Sink>(
+    // Does what the command says, or tells why it is refused.
+    fn follow<K: Sink>(
         &mut self,
-        said: Result<HostCommand, Refusal>,
+        command: HostCommand,
         sink: &mut K,
-    ) -> Result<(), RunFault>
-        requires ready { IsReady R.digest_of self.old.node.store self.old.node.graph.state self.old.node.view
-            self.old.failsafe self.old.tables }
-        requires read { IfOk said IsReadHost }
+    ) -> Result<Option<Refusal>, RunFault>
+        requires ready { IsReady R.digest_of self.old.node.engine self.old.node.view self.old.failsafe self.old.tables }
+        requires read { IsReadHost command }
         ensures ready { OnOk result (
-            IsReady R.digest_of self.new.node.store self.new.node.graph.state self.new.node.view
-            self.new.failsafe self.new.tables) }
+            IsReady R.digest_of self.new.node.engine self.new.node.view self.new.failsafe self.new.tables) }
         ensures state { OnOk result (
-            state_of R.digest_of self.new.node.store.resources self.new.failsafe self.new.tables
-            self.new.lines self.new.refused
-            ≡ settled (state_of R.digest_of self.old.node.store.resources self.old.failsafe self.old.tables
-            self.old.lines self.old.refused) (checked R.digest_of self.old.node.store.resources said)) }
+            state_of R.digest_of self.new.node.engine.resources self.new.failsafe self.new.tables
+            ≡ settled accepted (state_of R.digest_of self.old.node.engine.resources self.old.failsafe self.old.tables)
+            (checked R.digest_of self.old.node.engine.resources (Ok command))) }
+        ensures refused { IfOk result (λ refusal. refusal
+            ≡ refusal_in (checked R.digest_of self.old.node.engine.resources (Ok command))) }
         ensures writes { Writes (K.state sink.old) (K.state sink.new)
-            (settled_text (state_of R.digest_of self.old.node.store.resources self.old.failsafe self.old.tables
-            self.old.lines self.old.refused) (checked R.digest_of self.old.node.store.resources said)) result }
+            (accepted_text command_text
+            (state_of R.digest_of self.old.node.engine.resources self.old.failsafe self.old.tables)
+            (checked R.digest_of self.old.node.engine.resources (Ok command))) result }
     {
-        match said {
-            Ok(HostCommand::Blank) => Ok(()),
-            Ok(HostCommand::Flush) => self.flush(sink),
-            Ok(HostCommand::Tables) => self.put_tables(sink),
-            Ok(HostCommand::Update(update)) => self.take(update, sink),
-            Ok(HostCommand::Failsafe(failsafe)) => {
-                self.failsafe = failsafe;
-                Ok(())
+        match command {
+            HostCommand::Blank => Ok(None),
+            HostCommand::Flush => {
+                self.flush(sink)?;
+                Ok(None)
             }
-            Ok(HostCommand::Packet(packet)) => self.put_packet(&packet, sink),
-            Err(refusal) => self.refuse(&refusal, sink),
+            HostCommand::Tables => {
+                self.put_tables(sink)?;
+                Ok(None)
+            }
+            HostCommand::Update(update) => Ok(self.take(update)?),
+            HostCommand::Failsafe(failsafe) => {
+                self.failsafe = failsafe;
+                Ok(None)
+            }
+            HostCommand::Packet(packet) => {
+                self.put_packet(&packet, sink)?;
+                Ok(None)
+            }
         }
     }
 
-    // Takes an update. The line is refused where a name that it claims is taken.
-    fn take<K: Sink>(&mut self, update: Update, sink: &mut K) -> Result<(), RunFault>
-        requires ready { IsReady R.digest_of self.old.node.store self.old.node.graph.state self.old.node.view
-            self.old.failsafe self.old.tables }
+    // Takes an update. It is refused where a name that it claims is taken.
+    fn take(&mut self, update: Update) -> Result<Option<Refusal>, Memory>
+        requires ready { IsReady R.digest_of self.old.node.engine self.old.node.view self.old.failsafe self.old.tables }
         requires formed { is_formed update ≡ true }
         ensures ready { OnOk result (
-            IsReady R.digest_of self.new.node.store self.new.node.graph.state self.new.node.view
-            self.new.failsafe self.new.tables) }
+            IsReady R.digest_of self.new.node.engine self.new.node.view self.new.failsafe self.new.tables) }
         ensures state { OnOk result (
-            state_of R.digest_of self.new.node.store.resources self.new.failsafe self.new.tables
-            self.new.lines self.new.refused
-            ≡ settled (state_of R.digest_of self.old.node.store.resources self.old.failsafe self.old.tables
-            self.old.lines self.old.refused) (update_answer R.digest_of self.old.node.store.resources update)) }
-        ensures writes { Writes (K.state sink.old) (K.state sink.new)
-            (settled_text (state_of R.digest_of self.old.node.store.resources self.old.failsafe self.old.tables
-            self.old.lines self.old.refused) (update_answer R.digest_of self.old.node.store.resources update)) result }
+            state_of R.digest_of self.new.node.engine.resources self.new.failsafe self.new.tables
+            ≡ settled accepted (state_of R.digest_of self.old.node.engine.resources self.old.failsafe self.old.tables)
+            (update_answer R.digest_of self.old.node.engine.resources update)) }
+        ensures refused { IfOk result (λ refusal. refusal
+            ≡ refusal_in (update_answer R.digest_of self.old.node.engine.resources update)) }
     {
         match self.node.take(update) {
-            Ok(()) => Ok(()),
-            Err(CheckFault::Taken { name, holder }) => {
-                self.refuse(&Refusal::Taken { name, holder }, sink)
-            }
-            Err(CheckFault::Memory) => Err(RunFault::Memory),
+            Ok(()) => Ok(None),
+            Err(UpdateFault::Taken { name, holder }) => Ok(Some(Refusal::Taken { name, holder })),
+            Err(UpdateFault::Memory) => Err(Memory),
+            // That comes only where memory ran out before, and then the run has ended.
+            Err(UpdateFault::NeedsResync) => unreachable!(),
         }
     }
 
     // Leads the tables to those of the resources and the failsafe ports.
     fn flush<K: Sink>(&mut self, sink: &mut K) -> Result<(), RunFault>
-        requires ready { IsReady R.digest_of self.old.node.store self.old.node.graph.state self.old.node.view
-            self.old.failsafe self.old.tables }
+        requires ready { IsReady R.digest_of self.old.node.engine self.old.node.view self.old.failsafe self.old.tables }
         ensures ready { OnOk result (
-            IsReady R.digest_of self.new.node.store self.new.node.graph.state self.new.node.view
-            self.new.failsafe self.new.tables) }
+            IsReady R.digest_of self.new.node.engine self.new.node.view self.new.failsafe self.new.tables) }
         ensures state { OnOk result (
-            state_of R.digest_of self.new.node.store.resources self.new.failsafe self.new.tables
-            self.new.lines self.new.refused
-            ≡ accepted (state_of R.digest_of self.old.node.store.resources self.old.failsafe self.old.tables
-            self.old.lines self.old.refused) HostCommand.Flush) }
+            state_of R.digest_of self.new.node.engine.resources self.new.failsafe self.new.tables
+            ≡ accepted (state_of R.digest_of self.old.node.engine.resources self.old.failsafe self.old.tables)
+            HostCommand.Flush) }
         ensures writes { Writes (K.state sink.old) (K.state sink.new)
-            (command_text (state_of R.digest_of self.old.node.store.resources self.old.failsafe self.old.tables
-            self.old.lines self.old.refused) HostCommand.Flush) result }
+            (command_text (state_of R.digest_of self.old.node.engine.resources self.old.failsafe self.old.tables)
+            HostCommand.Flush) result }
     {
         self.node.bring()?;
         let goal = host_goal(self.alloc, &self.node.view, &self.failsafe)?;
@@ -160,58 +156,46 @@ impl<R: DigestRule, F: DigestFunction<R> + Drop> Host<R, F> {
         let lines = packet_texts(self.alloc, &self.tables, packet)?;
         put_all(&lines, sink)
     }
-
-    fn refuse<K: Sink>(&mut self, refusal: &Refusal, sink: &mut K) -> Result<(), RunFault>
-        ensures same { OnOk result (self.new ≡ record self.old { refused = true }) }
-        ensures writes { Writes (K.state sink.old) (K.state sink.new) (refusal_line self.old.lines refusal.now) result }
-    {
-        self.refused = true;
-        let line = refusal_text(self.alloc, self.lines, refusal)?;
-        put_one(&line, sink)
-    }
 }
 
-impl<R: DigestRule, F: DigestFunction<R> + Drop> Machine for Host<R, F> {
+impl<R: DigestRule, F: DigestFunction<R> + Drop> Program for Host<R, F> {
+    type Asked = Text;
+
+    type Given = Namer<R, F>;
+
+    type Refusal = Refusal;
+
     ghost State = { State };
 
-    ghost state = { λ h. state_of R.digest_of h.node.store.resources h.failsafe h.tables h.lines h.refused };
+    ghost meaning = { meaning R.digest_of };
 
-    ghost Ready = { λ h. IsReady R.digest_of h.node.store h.node.graph.state h.node.view h.failsafe h.tables };
+    ghost state = { λ h. state_of R.digest_of h.node.engine.resources h.failsafe h.tables };
 
-    ghost next = { next };
+    ghost Ready = { λ h. IsReady R.digest_of h.node.engine h.node.view h.failsafe h.tables };
 
-    ghost text = { text };
-
-    ghost count = { λ s. s.lines };
-
-    ghost refused = { was_refused };
-
-    fn is_refused(&self) -> bool {
-        self.refused
+    fn usage_text() -> &'static [u8] {
+        b"usage: felix-host --node NAME\n"
     }
 
-    fn answer<K: Sink>(&mut self, line: &[u8], sink: &mut K) -> Result<(), RunFault>
-        requires ready { IsReady R.digest_of self.old.node.store self.old.node.graph.state self.old.node.view
-            self.old.failsafe self.old.tables }
-        requires few { self.old.lines < 2 ^ 64 - 1 }
-        ensures ready { OnOk result (
-            IsReady R.digest_of self.new.node.store self.new.node.graph.state self.new.node.view
-            self.new.failsafe self.new.tables) }
-        ensures state { OnOk result (
-            state_of R.digest_of self.new.node.store.resources self.new.failsafe self.new.tables
-            self.new.lines self.new.refused
-            ≡ next (state_of R.digest_of self.old.node.store.resources self.old.failsafe self.old.tables
-            self.old.lines self.old.refused) line.now) }
-        ensures writes { Writes (K.state sink.old) (K.state sink.new)
-            (text (state_of R.digest_of self.old.node.store.resources self.old.failsafe self.old.tables
-            self.old.lines self.old.refused) line.now) result }
-    {
-        let said = command_in(self.alloc, line)?;
-        self.lines += 1;
-        self.settle(said, sink)
+    fn begin(alloc: Global, asked: Text, namer: Namer<R, F>) -> Result<Self, Memory> {
+        Host::new(alloc, asked, namer)
     }
 
-    ghost clipped = { next-clip };
+    fn answer<K: Sink>(&mut self, line: &[u8], sink: &mut K) -> Result<Option<Refusal>, RunFault> {
+        let said = read_said::<HostCommand>(self.alloc, line)?;
+        match said {
+            Ok(command) => self.follow(command, sink),
+            Err(refusal) => Ok(Some(refusal)),
+        }
+    }
 
-    ghost counts = { next-lines };
+    fn refusal_text(alloc: Global, number: u64, refusal: &Refusal) -> Result<Text, Memory> {
+        refusal_text(alloc, number, refusal)
+    }
+
+    fn close<K: Sink>(&mut self, _sink: &mut K) -> Result<(), RunFault> {
+        Ok(())
+    }
+
+    ghost clipped = { next-clip R.digest_of };
 }

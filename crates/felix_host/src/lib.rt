@@ -5,12 +5,10 @@
 pub use fx_run::Status;
 pub use top::{HostStatus, felix_host};
 
-mod command;
 mod flushing;
 mod host;
 mod members;
 mod node;
 mod packets;
-mod reading;
 mod taking;
 mod top;

@@ -13,7 +13,8 @@ use Rattle.fx_names.specs.Digests.{Digest}
 use Rattle.fx_lines.specs.declared.commands.Command.{Command}
 use Rattle.fx_lines.specs.declared.commands.Command.TheVariants as command
 use Rattle.fx_run.specs.Run.{state_after}
-use Rattle.fx_replay.specs.Output.{State, start, answer_of, next, after_answer, flushed_in, flushed_by}
+use Rattle.fx_program.specs.Answers.{settled}
+use Rattle.fx_replay.specs.Output.{State, accepted, start, answer_of, next, flushed_in, flushed_by}
 use Rattle.fx_run.proofs.Runs.{kept_after, all_written}
 use Rattle.felix_replay.specs.Closing.{views_in, views_along, IsWhole}
 use Rattle.fx_driver.proofs.Drivable.{empty_view-drivable}
@@ -37,7 +38,7 @@ unfolding sent_views sent_after
 last_sent w P [] s holds all = holds
 last_sent w P (c ∷ cs) s holds all = last_sent w P cs (step_at c s w) all.0 all.1
 
-after_line : (s : State) (a : Result Command Refusal) → IsClosedView s.sent → IsClosedView (after_answer s a).sent
+after_line : (s : State) (a : Result Command Refusal) → IsClosedView s.sent → IsClosedView (settled accepted s a).sent
 after_line s (Ok command.Blank) closed = closed
 after_line s (Ok command.Tables) closed = closed
 after_line s (Ok (command.Flush limit)) closed =

@@ -5,5 +5,3 @@ pub mod Served
 pub mod Policing
 pub mod KubernetesKept
 pub mod SoakLemmas
-pub mod SoakBounds
-pub mod StoppingLemmas

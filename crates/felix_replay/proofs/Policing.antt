@@ -19,8 +19,9 @@ use Rattle.fx_walk.proofs.Agree.{policy_is_kept, traced_decides, run_has_one_end
 use Rattle.fx_walk.specs.PacketPaths.{first_walk}
 use Rattle.fx_lines.specs.declared.commands.Command.TheVariants as command
 use Rattle.fx_model.specs.PacketTexts.{packet_lines}
+use Rattle.fx_program.specs.Answers.{accepted_text}
 use Rattle.fx_run.specs.Run.{state_after}
-use Rattle.fx_replay.specs.Output.{State, start, answer_of, next, answer_text}
+use Rattle.fx_replay.specs.Output.{State, command_text, start, answer_of, next}
 use Rattle.felix_replay.specs.Policed.{TellsRun, PathsAreRuns, TellsPolicy, KeepsPolicy}
 use Rattle.felix_replay.proofs.ClosingLemmas.{run_closed}
 use Rattle.felix_replay.proofs.Served.{run_servable}
@@ -37,7 +38,7 @@ line_run s closed line a said =
       egress = (noted_in run).reasons.egress;
       ingress = (noted_in run).reasons.ingress;
       run = walk_is_run (tables_of s.sent) a [] (ranked-tables s.sent closed);
-      output = ap (answer_text s) said;
+      output = ap (accepted_text command_text s) said;
     }
 
 pub paths_are_runs : (dg : Digest) (node : List ℕ) → PathsAreRuns dg node

@@ -1,16 +1,19 @@
 -- A soak run, line by line.
-use Rattle.std.proofs.Common.{◌≡◌, ◌+◌, ◌-◌, ◌^◌, ℕ, suc, min, List, [], ◌∷◌, ◌++◌, length, Option, Some, None, sym, ◌∙◌, ap, subst, arith}
+use Rattle.std.proofs.Common.{◌≡◌, ◌+◌, ◌-◌, ◌^◌, ℕ, suc, min, List, [], ◌∷◌, ◌++◌, length, Bool, true, false, is_some, Option, Some, None, refl, sym, ◌∙◌, ap, subst, arith}
 use Rattle.fx_base.specs.Ticks.{IsTicked}
 use Rattle.fx_base.proofs.TickLemmas.{IsTicked-sum}
 use Rattle.fx_gen.specs.Generator.{line_of}
 use Rattle.fx_model.specs.Messages.{Flush}
 use Rattle.fx_model.specs.declared.resources.Resources.{Resources}
 use Rattle.fx_model.specs.declared.resources.Update.{Update}
+use Rattle.std.specs.Prelude.{◌||◌}
+use Rattle.fx_fields.specs.declared.refusal.Refusal.{Refusal}
 use Rattle.fx_names.specs.Digests.{Digest}
 use Rattle.fx_replay.specs.declared.tally.Tally.{Tally}
-use Rattle.fx_replay.specs.Output.{State, start, next, flushed_by}
+use Rattle.fx_program.specs.Answers.{refusal_in}
+use Rattle.fx_replay.specs.Output.{State, answer_of, start, next, flushed_by}
 use Rattle.fx_run.specs.Run.{state_after}
-use Rattle.felix_replay.specs.Soak.{drawn_lines, flushes_in, messages_in, flushes_along, messages_along, tests_along, tally_of, tally_along}
+use Rattle.felix_replay.specs.Soak.{drawn_lines, flushes_in, messages_in, flushes_along, messages_along, refused_along, tests_along, tally_of, tally_along}
 use Rattle.fx_replay.specs.Tallies.{told_number, tally_after, one_flush_more}
 use Rattle.fx_replay.specs.Tests.{tests_by}
 use Rattle.fx_run.proofs.Runs.{state_after-push}
@@ -50,6 +53,22 @@ tests-push f s (x ∷ xs) line =
 
 same_tally : (a b c d : ℕ) → a ≡ c → b ≡ d → tally_of a b ≡ tally_of c d
 same_tally a b c d e f = λ j. tally_of (e j) (f j)
+
+last_or : (a : Bool) → a || false ≡ false || a
+last_or true = refl
+last_or false = refl
+
+later_or : (a b c : Bool) → a || (b || c) ≡ (a || b) || c
+later_or true b c = refl
+later_or false b c = refl
+
+refused-push : (s : State) (lines : List (List ℕ)) (line : List ℕ) → refused_along s (lines ++ line ∷ []) ≡ refused_along s lines || is_some (refusal_in (answer_of (state_after next s lines) line))
+unfolding refused_along state_after
+refused-push s [] line = last_or (is_some (refusal_in (answer_of s line)))
+refused-push s (x ∷ xs) line =
+    let first = is_some (refusal_in (answer_of s x)) in
+    ap (λ (b : Bool). first || b) (refused-push (next s x) xs line)
+    ∙ later_or first (refused_along (next s x) xs) (is_some (refusal_in (answer_of (state_after next (next s x) xs) line)))
 
 still : (f m : ℕ) → tally_of f m ≡ tally_of (f + 0) (m + 0)
 still f m = same_tally f m (f + 0) (m + 0) (omega arith) (omega arith)
@@ -97,6 +116,16 @@ module _ (dg : Digest) (node : List ℕ) (seed n : ℕ) where
         ∙ ap (λ (l : List ℕ). tally_after (tally_along (start dg node) lines) (flushed_by s l)) same
         ∙ ap (λ (t : State). tally_after (tally_along (start dg node) lines) (flushed_by t drawn)) is
         ∙ tally-push
+
+    -- whether a line was refused so far
+    pub refused-drawn : (was : Bool) (refusal : Option Refusal) → was ≡ refused_along (start dg node) lines → refusal ≡ refusal_in (answer_of s line) → was || is_some refusal ≡ refused_along (start dg node) (drawn_lines seed node (n + 1))
+    refused-drawn was refusal first e =
+        ap (λ (o : Option Refusal). was || is_some o) e
+        ∙ ap (λ (b : Bool). b || is_some (refusal_in (answer_of s line))) first
+        ∙ ap (λ (l : List ℕ). refused_along (start dg node) lines || is_some (refusal_in (answer_of s l))) same
+        ∙ ap (λ (t : State). refused_along (start dg node) lines || is_some (refusal_in (answer_of t drawn))) is
+        ∙ sym (refused-push (start dg node) lines drawn)
+        ∙ ap (λ (l : List (List ℕ)). refused_along (start dg node) l) (sym (drawn-more seed node n))
 
     tests-of : (f : Resources → Update → ℕ) → tests_along f (start dg node) lines + tests_by f s line ≡ tests_along f (start dg node) (drawn_lines seed node (n + 1))
     tests-of f =

@@ -6,3 +6,5 @@ pub mod Policed
 pub mod KubernetesLines
 pub mod Soak
 pub mod SoakRuns
+pub mod SoakBounds
+pub mod Tasks

@@ -1,5 +1,5 @@
 -- A soak run: lines that are drawn in the place of an input, and a flush behind the last. What is told of it are numbers alone.
-use Rattle.std.specs.Prelude.{ℕ, zero, suc, ◌+◌, ◌-◌, List, [], ◌∷◌, ◌++◌, length, Bool, Option, Some, None}
+use Rattle.std.specs.Prelude.{ℕ, zero, suc, ◌+◌, List, [], ◌∷◌, ◌++◌, length, Bool, false, ◌||◌, Option, Some, None, is_some}
 use Rattle.fx_names.specs.Digests.{Digest}
 use Rattle.fx_model.specs.Messages.{Flush}
 use Rattle.fx_model.specs.Tests.{least_tests, most_tests}
@@ -10,7 +10,8 @@ use Rattle.fx_print.specs.Texts.{soak_line}
 use Rattle.fx_words.specs.declared.words.Soak.{Soak}
 use Rattle.fx_replay.specs.declared.tally.Tally.{Tally}
 use Rattle.fx_run.specs.Run.{state_after}
-use Rattle.fx_replay.specs.Output.{State, start, next, flush_of, flushed_by}
+use Rattle.fx_program.specs.Answers.{refusal_in}
+use Rattle.fx_replay.specs.Output.{State, answer_of, start, next, flush_of, flushed_by}
 use Rattle.fx_replay.specs.Tallies.{told_number}
 use Rattle.fx_replay.specs.Tests.{tests_by}
 
@@ -65,8 +66,13 @@ abbrev pub soak_output : Digest → List ℕ → Soak → ℕ → List ℕ
 soak_output dg node soak ticks =
     soak_line soak.seed soak.count (told_number (soak_flushes dg node soak)) (told_number (soak_messages dg node soak)) ticks
 
+-- whether one of the lines is refused
+unfoldable pub refused_along : State → List (List ℕ) → Bool
+refused_along s [] = false
+refused_along s (line ∷ lines) = is_some (refusal_in (answer_of s line)) || refused_along (next s line) lines
+
 abbrev pub is_soak_refused : Digest → List ℕ → Soak → Bool
-is_soak_refused dg node soak = (soak_end dg node soak).refused
+is_soak_refused dg node soak = refused_along (start dg node) (drawn_lines soak.seed node soak.count)
 
 -- ---- what is counted line by line
 

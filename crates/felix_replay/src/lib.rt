@@ -5,4 +5,5 @@ pub use fx_run::Status;
 pub use top::felix_replay;
 
 mod soaking;
+mod task;
 mod top;

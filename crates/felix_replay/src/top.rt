@@ -1,11 +1,11 @@
 //! The top call: from the bytes of a source to the bytes of a sink.
-ghost use Rattle.std.specs.Prelude.{List, ℕ, ◌≡◌, ◌⊎◌, ◌^◌, ◌<◌, ◌≤◌, IfOk, OnOk, OnErr, IsErrOf, IsSome, None, false, true};
+ghost use Rattle.std.specs.Prelude.{List, ℕ, ◌≡◌, ◌⊎◌, ◌^◌, ◌<◌, ◌≤◌, IsSome, None, false, true};
 ghost use Rattle.std.specs.Io.KnownBytes.{Appends};
 ghost use Rattle.fx_base.specs.Streams.{AppendsPrefix};
 ghost use Rattle.felix_replay.specs.Words.{node_name, AsksReplay, AsksSoak};
 ghost use Rattle.fx_words.specs.Words.{asked_of};
 ghost use Rattle.fx_print.specs.Texts.{usage_line};
-ghost use Rattle.felix_replay.specs.Top.{Ran, RanBy, RanFor, Stopped, StoppedBy, StoppedFor, EndsSoak, IsAsDefined};
+ghost use Rattle.felix_replay.specs.Top.{EndsSoak, IsAsDefined, RanFor, StoppedFor};
 ghost use Rattle.fx_run.specs.Ran.{SourceFailed, SinkFailed};
 ghost use Rattle.fx_run.specs.Statuses.{EndedEarly, HasRun, HasRunOrMemory};
 ghost use Rattle.std.specs.List.{AllByRecursion};
@@ -16,12 +16,11 @@ ghost use Rattle.felix_replay.specs.Flushing.{FlushesSendAll};
 ghost use Rattle.felix_replay.specs.Policed.{KeepsPolicy, PathsAreRuns};
 ghost use Rattle.felix_replay.specs.KubernetesLines.{KeepsKubernetes};
 
-use crate::soaking::soak;
-use fx_base::{Memory, Sink, Source, Text};
+use crate::task::ReplayTask;
+use fx_base::{Sink, Source, Text};
 use fx_names::{DigestFunction, DigestRule, Namer};
-use fx_replay::Replay;
-use fx_run::{RunFault, Status, answer_lines, tell_usage};
-use fx_words::{Asked, read_words};
+use fx_program::run_task;
+use fx_run::Status;
 use std::alloc::Global;
 
 /// Reads the source to its end, and writes what the lines say to the sink.
@@ -109,77 +108,5 @@ pub fn felix_replay<S: Source, K: Sink, R: DigestRule, F: DigestFunction<R> + Dr
         → (result ≡ Status.InputTooLong) ⊎ (result ≡ Status.Memory) }
     ensures limited { (S.state source.new).given ≤ 2 ^ 32 }
 {
-    let asked = match read_words(alloc, words) {
-        Ok(Some(asked)) => asked,
-        Ok(None) => return tell_usage(
-            b"usage: felix-replay --node NAME [--soak SEED --count N]\n",
-            sink,
-        ),
-        Err(Memory) => return Status::Memory,
-    };
-    match run(alloc, &asked, source, sink, namer) {
-        Ok(false) => Status::Done,
-        Ok(true) => Status::Refused,
-        Err(RunFault::ReadFault) => Status::ReadFault,
-        Err(RunFault::WriteFault) => Status::WriteFault,
-        Err(RunFault::Memory) => Status::Memory,
-        Err(RunFault::InputTooLong) => Status::InputTooLong,
-    }
-}
-
-// Does what is asked for, and tells whether a line was refused.
-fn run<S: Source, K: Sink, R: DigestRule, F: DigestFunction<R> + Drop>(
-    alloc: Global,
-    asked: &Asked,
-    source: &mut S,
-    sink: &mut K,
-    namer: Namer<R, F>,
-) -> Result<bool, RunFault>
-    requires fresh { (S.state source.old).given ≡ 0 }
-    requires unended { (S.state source.old).ended ≡ false }
-    ensures ran { IfOk result (RanBy R.digest_of asked.now.node asked.now.soak
-        (S.state source.old) (S.state source.new) (K.state sink.old) (K.state sink.new)) }
-    ensures stopped { OnErr result (StoppedBy R.digest_of asked.now.node asked.now.soak
-        (S.state source.old) (S.state source.new) (K.state sink.old) (K.state sink.new)) }
-    ensures read_fault { IsErrOf result RunFault.ReadFault → HasFailedRead (S.state source.old) (S.state source.new) }
-    ensures write_fault { IsErrOf result RunFault.WriteFault → SinkFailed (K.state sink.old) (K.state sink.new) }
-    ensures write_short { IsErrOf result RunFault.WriteFault → (S.state source.new).given < 2 ^ 32 }
-    ensures too_long { IsErrOf result RunFault.InputTooLong → IsTooLong (S.state source.new) }
-    ensures short { OnOk result ((S.state source.new).given < 2 ^ 32) }
-    ensures limited { (S.state source.new).given ≤ 2 ^ 32 }
-    ensures unread { IsSome asked.now.soak → S.state source.new ≡ S.state source.old }
-    ensures no_read_fault { IsSome asked.now.soak → ¬ IsErrOf result RunFault.ReadFault }
-    ensures no_length { IsSome asked.now.soak → ¬ IsErrOf result RunFault.InputTooLong }
-{
-    match asked.soak {
-        None => replay(alloc, &asked.node, source, sink, namer),
-        Some(drawn) => soak(alloc, &asked.node, drawn, sink, namer),
-    }
-}
-
-// The replay stands here and is lent to the loop, so that one place lets go of it.
-fn replay<S: Source, K: Sink, R: DigestRule, F: DigestFunction<R> + Drop>(
-    alloc: Global,
-    node: &Text,
-    source: &mut S,
-    sink: &mut K,
-    namer: Namer<R, F>,
-) -> Result<bool, RunFault>
-    requires fresh { (S.state source.old).given ≡ 0 }
-    requires unended { (S.state source.old).ended ≡ false }
-    ensures ran { IfOk result (Ran R.digest_of node.now (S.state source.old) (S.state source.new)
-        (K.state sink.old) (K.state sink.new)) }
-    ensures stopped { OnErr result (Stopped R.digest_of node.now (S.state source.old) (S.state source.new)
-        (K.state sink.old) (K.state sink.new)) }
-    ensures read_fault { IsErrOf result RunFault.ReadFault → HasFailedRead (S.state source.old) (S.state source.new) }
-    ensures write_fault { IsErrOf result RunFault.WriteFault → SinkFailed (K.state sink.old) (K.state sink.new) }
-    ensures write_short { IsErrOf result RunFault.WriteFault → (S.state source.new).given < 2 ^ 32 }
-    ensures too_long { IsErrOf result RunFault.InputTooLong → IsTooLong (S.state source.new) }
-    ensures short { OnOk result ((S.state source.new).given < 2 ^ 32) }
-    ensures limited { (S.state source.new).given ≤ 2 ^ 32 }
-{
-    let mut replay = Replay::new(alloc, node, namer)?;
-    let ended = answer_lines(alloc, &mut replay, source, sink);
-    replay.finish();
-    ended
+    run_task::<ReplayTask<R, F>, S, K>(alloc, words, source, sink, namer)
 }

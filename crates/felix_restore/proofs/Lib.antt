@@ -1,4 +1,2 @@
-pub mod ReadingLemmas
 pub mod TakingLemmas
 pub mod SendingLemmas
-pub mod ClosingLemmas

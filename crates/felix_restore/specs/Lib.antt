@@ -1,7 +1,3 @@
-pub mod Reading
-pub mod Formed
-pub mod Refusals
-pub mod Finding
 pub mod Output
 pub mod Standing
 pub mod Stepping

@@ -1,6 +1,6 @@
--- The output of a restart: what each line writes, what stands between two lines, and what is written behind the last.
+-- The output of a restart: what stands between two lines, what a line makes of it, and what is written behind the last.
 -- The rules that it follows stand in docs/INPUT.md and docs/OUTPUT.md of this repository.
-use Rattle.std.specs.Prelude.{ℕ, ◌+◌, List, [], ◌++◌, length, Bool, true, false, Option, Some, None, Result, Ok, Err, codes, decimal}
+use Rattle.std.specs.Prelude.{ℕ, List, ◌++◌, length, Option, Some, None, Result, Ok, Err, codes}
 use Rattle.fx_names.specs.Digests.{Digest}
 use Rattle.fx_names.specs.Claims.{Clash}
 use Rattle.fx_model.specs.declared.resources.Update.{Update}
@@ -13,29 +13,23 @@ use Rattle.fx_model.specs.Views.{view_of}
 use Rattle.fx_model.specs.ViewTables.{tables_of}
 use Rattle.fx_fields.specs.declared.refusal.Refusal.TheVariants.{Taken}
 use Rattle.fx_lines.specs.Commands.{value_in}
-use Rattle.fx_lines.specs.Lines.{answerable}
-use Rattle.fx_run.specs.Ran.{output_of, end_of}
 use Rattle.fx_found.specs.declared.found.Found.{Found}
 use Rattle.fx_reconcile.specs.Operations.{operations}
-use Rattle.fx_leading.specs.Lines.{op_lines}
-use Rattle.felix_restore.specs.declared.command.RestoreCommand.{RestoreCommand}
-use Rattle.felix_restore.specs.declared.command.RestoreCommand.TheVariants as command
-use Rattle.felix_restore.specs.declared.refusal.RestoreRefusal.{RestoreRefusal}
-use Rattle.felix_restore.specs.declared.refusal.RestoreRefusal.TheVariants.{Line}
-use Rattle.felix_restore.specs.declared.finding.Finding.{Finding}
-use Rattle.felix_restore.specs.declared.finding.Finding.TheVariants.{Awaited, Read}
-use Rattle.felix_restore.specs.Finding.{passed, found_in_sync}
-use Rattle.felix_restore.specs.Reading.{said_of}
-use Rattle.felix_restore.specs.Refusals.{refused_line}
+use Rattle.fx_leading.specs.Lines.{count_line, op_lines}
+use Rattle.fx_restart_lines.specs.declared.command.RestoreCommand.{RestoreCommand}
+use Rattle.fx_restart_lines.specs.declared.command.RestoreCommand.TheVariants as command
+use Rattle.fx_restart_lines.specs.declared.refusal.RestoreRefusal.{RestoreRefusal}
+use Rattle.fx_restart_lines.specs.declared.refusal.RestoreRefusal.TheVariants.{Line}
+use Rattle.fx_restart_lines.specs.declared.finding.Finding.{Finding}
+use Rattle.fx_restart_lines.specs.declared.finding.Finding.TheVariants.{Awaited, Read}
+use Rattle.fx_restart_lines.specs.Finding.{passed, found_in_sync}
+use Rattle.fx_restart_lines.specs.Reading.{said_of}
 
--- what stands between two lines: the digest by which names are made, which stays, the resources, what was found, how
--- many lines there were and whether one was refused
+-- what stands between two lines: the digest by which names are made, which stays, the resources and what was found
 pub record State : Type 0 where
   pub digest : Digest
   pub resources : Resources
   pub finding : Finding
-  pub lines : ℕ
-  pub refused : Bool
 
 -- before the first line of the node of this name
 abbrev pub start : Digest → List ℕ → State
@@ -43,8 +37,6 @@ start dg node = record {
   digest = dg;
   resources = empty_resources node;
   finding = Awaited;
-  lines = 0;
-  refused = false;
 }
 
 -- ---- what a line says of the resources
@@ -79,31 +71,13 @@ accepted s (command.Found found) = record s { finding = Read found }
 accepted s (command.Update u) = record s { resources = after s.resources u }
 accepted s (command.Batch us) = record s { resources = after_all s.resources us }
 
--- what a counted line does; a refused one changes nothing, but that the first one that isn't blank is past
+-- a refused line changes nothing, but that the first one that isn't blank is past
 abbrev pub settled : State → Result RestoreCommand RestoreRefusal → State
 settled s (Ok c) = accepted s c
-settled s (Err r) = record s { finding = passed s.finding; refused = true }
-
-abbrev pub counted : State → State
-counted s = record s { lines = s.lines + 1 }
-
-abbrev pub after_answer : State → Result RestoreCommand RestoreRefusal → State
-after_answer s answer = settled (counted s) answer
+settled s (Err r) = record s { finding = passed s.finding }
 
 abbrev pub next : State → List ℕ → State
-next s line = after_answer s (answer_of s line)
-
--- ---- what a line writes: its refusal, and nothing where it is accepted
-
-abbrev pub settled_text : State → Result RestoreCommand RestoreRefusal → List ℕ
-settled_text s (Ok c) = []
-settled_text s (Err r) = refused_line s.lines r
-
-abbrev pub answer_text : State → Result RestoreCommand RestoreRefusal → List ℕ
-answer_text s answer = settled_text (counted s) answer
-
-abbrev pub text : State → List ℕ → List ℕ
-text s line = answer_text s (answer_of s line)
+next s line = settled s (answer_of s line)
 
 -- ---- what is written behind the last line
 
@@ -117,7 +91,7 @@ led_from s = found_in_sync s.resources.in_sync s.finding
 
 -- the number of operations
 abbrev pub restored_line : ℕ → List ℕ
-restored_line n = codes "restored " ++ (decimal n ++ codes "\n")
+restored_line n = count_line (codes "restored") n
 
 abbrev pub waiting_line : List ℕ
 waiting_line = codes "restored 0 waiting\n"
@@ -133,32 +107,3 @@ restored_text (Some found) goal = led_text found.tables goal
 
 unfoldable pub closing : State → List ℕ
 closing s = restored_text (led_from s) (goal_of s)
-
--- ---- the whole output, from a state on
-
--- the state behind these bytes
-abbrev pub state_behind : State → List ℕ → State
-state_behind first bytes = end_of next first bytes
-
--- what these bytes write line by line
-abbrev pub line_output : State → List ℕ → List ℕ
-line_output first bytes = output_of next text first bytes
-
-abbrev pub whole_output : State → List ℕ → List ℕ
-whole_output first bytes = line_output first bytes ++ closing (state_behind first bytes)
-
--- what a run that ended early may have written: what stands behind the last line belongs to a whole input alone
-abbrev pub open_output : State → Bool → List ℕ → List ℕ
-open_output first true taken = whole_output first taken
-open_output first false taken = line_output first (answerable false taken)
-
-abbrev pub was_refused : State → Bool
-was_refused s = s.refused
-
--- ---- the whole output of an input
-
-abbrev pub restore_output : Digest → List ℕ → List ℕ → List ℕ
-restore_output dg node bytes = whole_output (start dg node) bytes
-
-abbrev pub is_refused : Digest → List ℕ → List ℕ → Bool
-is_refused dg node bytes = was_refused (state_behind (start dg node) bytes)

@@ -5,8 +5,8 @@ use Rattle.fx_model.specs.Tables.{Tables}
 use Rattle.fx_found.specs.declared.found.Found.{Found}
 use Rattle.fx_reconcile.specs.Operations.{operations}
 use Rattle.fx_reconcile.specs.Goal.{AreAlike, AreNextInTurn, AreAllowedInTurn}
-use Rattle.felix_restore.specs.declared.finding.Finding.{Finding}
-use Rattle.felix_restore.specs.declared.finding.Finding.TheVariants.{Read}
+use Rattle.fx_restart_lines.specs.declared.finding.Finding.{Finding}
+use Rattle.fx_restart_lines.specs.declared.finding.Finding.TheVariants.{Read}
 use Rattle.felix_restore.specs.Output.{State, goal_of, led_from}
 
 -- What was found is led to the goal: each operation is the next one at its turn, and allowed there. In the end the sets

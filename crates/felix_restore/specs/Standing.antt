@@ -1,16 +1,15 @@
 -- What a restart stands for between two lines.
-use Rattle.std.specs.Prelude.{◌≡◌, ℕ, Bool, true, false}
+use Rattle.std.specs.Prelude.{◌≡◌, Bool, true, false}
 use Rattle.fx_names.specs.Digests.{Digest}
 use Rattle.fx_model.specs.declared.resources.Update.{Update}
 use Rattle.fx_model.specs.declared.resources.Update.TheVariants as update
 use Rattle.fx_agent.specs.States.{AgentState}
-use Rattle.felix_restore.specs.declared.finding.Finding.{Finding}
+use Rattle.fx_restart_lines.specs.declared.finding.Finding.{Finding}
 use Rattle.felix_restore.specs.Output.{State}
 
--- the agent's resources, what was found, the lines so far, and whether one was refused
-abbrev pub state_of : Digest → AgentState → Finding → ℕ → Bool → State
-state_of dg agent finding lines refused =
-    record { digest = dg; resources = agent.resources; finding = finding; lines = lines; refused = refused }
+-- the agent's resources, and what was found
+abbrev pub state_of : Digest → AgentState → Finding → State
+state_of dg agent finding = record { digest = dg; resources = agent.resources; finding = finding }
 
 -- memory never ran out, and the restart knows whether the resources are in sync
 pub record IsReady (agent : AgentState) (in_sync : Bool) : Type 0 where

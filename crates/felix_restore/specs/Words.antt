@@ -1,15 +1,6 @@
--- The words of the command line: the node alone.
-use Rattle.std.specs.Prelude.{ℕ, List, [], Option, Some, None, codes}
-use Rattle.fx_words.specs.Words.{node_of}
+-- The words of the command line name the node alone.
+use Rattle.std.specs.Prelude.{ℕ, List, codes}
 
-abbrev pub node_in : Option (List ℕ) → List ℕ
-node_in None = []
-node_in (Some node) = node
-
--- the node's name, or none where the words are not in the grammar
-abbrev pub node_name : List (List ℕ) → List ℕ
-node_name words = node_in (node_of words)
-
--- what is told then
+-- what is told where they don't
 abbrev pub usage_line : List ℕ
 usage_line = codes "usage: felix-restore --node NAME\n"

@@ -1,16 +1,15 @@
 //! What is done and written behind the last line.
-ghost use Rattle.std.specs.Prelude.{◌≡◌, IfOk, OnOk};
+ghost use Rattle.std.specs.Prelude.{OnOk};
 ghost use Rattle.fx_run.specs.Writing.{Writes};
-ghost use Rattle.felix_restore.specs.Output.{restored_line, waiting_line, led_text, restored_text};
-ghost use Rattle.felix_restore.specs.Finding.{read_in, found_in_sync};
+ghost use Rattle.felix_restore.specs.Output.{led_text, restored_text, waiting_line};
+ghost use Rattle.fx_restart_lines.specs.Finding.{read_in, found_in_sync};
 ghost use Rattle.felix_restore.specs.Restored.{IsLed, IsLedFrom};
 
-use crate::finding::Finding;
-use fx_base::{Memory, Sink, Text};
+use fx_base::Sink;
 use fx_found::Found;
-use fx_leading::lead;
-use fx_rows::push_decimal;
-use fx_run::{RunFault, put_one};
+use fx_leading::{lead, put_count};
+use fx_restart_lines::Finding;
+use fx_run::RunFault;
 use fx_tables::Tables;
 use std::alloc::Global;
 
@@ -66,21 +65,5 @@ fn restore_found<K: Sink>(
     ensures writes { Writes (K.state sink.old) (K.state sink.new) (led_text found.old.tables goal.now) result }
 {
     let count = lead(alloc, &mut found.tables, goal, sink)?;
-    put_count(alloc, count, sink)
-}
-
-fn put_count<K: Sink>(alloc: Global, count: u64, sink: &mut K) -> Result<(), RunFault>
-    ensures writes { Writes (K.state sink.old) (K.state sink.new) (restored_line count) result }
-{
-    let line = count_text(alloc, count)?;
-    put_one(&line, sink)
-}
-
-fn count_text(alloc: Global, count: u64) -> Result<Text, Memory>
-    ensures { IfOk result (λ text. text ≡ restored_line count) }
-{
-    let mut bytes = Vec::from_slice(alloc, b"restored ")?;
-    push_decimal(&mut bytes, count)?;
-    bytes.extend_from_slice(b"\n")?;
-    Text::from_vec(bytes)
+    put_count(alloc, b"restored", count, sink)
 }

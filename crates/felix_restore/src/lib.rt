@@ -5,10 +5,6 @@ pub use fx_run::Status;
 pub use top::{RestoreStatus, felix_restore};
 
 mod closing;
-mod command;
-mod finding;
-mod reading;
-mod refusal;
 mod restore;
 mod sending;
 mod top;

@@ -1,5 +1,5 @@
 -- A first packet is answered, where all was sent, as the resources say as they are written.
-use Rattle.std.proofs.Common.{◌≡◌, ℕ, Bool, true, false, ◌&&◌, cond, List, [], ◌∷◌, Some, None, Ok, refl, sym, ap, ◌∙◌, subst}
+use Rattle.std.proofs.Common.{◌≡◌, ℕ, Bool, true, false, ◌&&◌, cond, List, [], ◌∷◌, Option, Some, None, Ok, refl, sym, ap, ◌∙◌, subst}
 use Rattle.std.proofs.lemmas.Bool.{false≢true}
 use Rattle.std.specs.List.{concat}
 use Rattle.std.specs.Str.{bytes_eq}
@@ -14,6 +14,7 @@ use Rattle.fx_model.specs.PacketTexts.{packet_lines}
 use Rattle.fx_model.specs.Policy.{Outcome, packet_verdict}
 use Rattle.fx_model.specs.ViewTables.{tables_of}
 use Rattle.fx_laws.proofs.Leading.{ranked-tables}
+use Rattle.fx_program.specs.Asks.{IsAskedFor}
 use Rattle.fx_run.specs.Run.{state_after}
 use Rattle.fx_services.specs.Places.{PlacesByKey}
 use Rattle.fx_services.specs.Standing.{as_written}
@@ -21,13 +22,12 @@ use Rattle.fx_services.specs.Written.{Written}
 use Rattle.fx_services.specs.WrittenVerdict.{written_verdict}
 use Rattle.fx_service_laws.proofs.Verdicts.{verdict_is_kept}
 use Rattle.fx_walk.proofs.Agree.{policy_is_kept, traced_decides, run_has_one_end}
-use Rattle.fx_words.specs.Words.{is_node_name, node_of}
-use Rattle.felix_services.specs.declared.command.ServicesCommand.TheVariants as command
+use Rattle.fx_words.specs.Words.{is_node_name, node_in, node_name, node_of}
+use Rattle.fx_service_lines.specs.declared.command.ServicesCommand.TheVariants as command
 use Rattle.felix_services.specs.Flushing.{IsFlushed}
 use Rattle.felix_services.specs.Output.{State, start, next, answer_of}
 use Rattle.felix_services.specs.Policed.{told_lines, TellsRun, TellsServices, KeepsServices}
-use Rattle.felix_services.specs.WrittenLines.{written_behind}
-use Rattle.felix_services.specs.Words.{node_in, node_name}
+use Rattle.felix_services.specs.WrittenRuns.{written_behind}
 use Rattle.felix_services.proofs.Policing.{line_run}
 use Rattle.felix_services.proofs.Served.{StandsAt, run_stands}
 
@@ -61,7 +61,7 @@ keeps_named dg node named lines line a said new sent =
 
 -- ---- the node of the words
 
-pub named_node : (node : List ℕ) → is_node_name node ≡ true → node ≢ []
+named_node : (node : List ℕ) → is_node_name node ≡ true → node ≢ []
 named_node [] is same = false≢true is
 named_node (b ∷ bs) is same = cc
 
@@ -76,6 +76,11 @@ words_named (option ∷ node ∷ []) some = by (bytes_eq option (codes "--node")
     by true true is there = named_node node is
     by true false is there = absurd (false≢true there)
     by false name_is is there = absurd (false≢true there)
+
+-- a node that some words name has a name
+pub asked_named : (node : List ℕ) → IsAskedFor node_of node → node ≢ []
+asked_named node asked =
+    subst (λ (o : Option (List ℕ)). node_in o ≢ []) asked.1 (words_named asked.0 (subst (λ (o : Option (List ℕ)). IsSome o) (sym asked.1) refl))
 
 pub keeps_services : (dg : Digest) (words : List (List ℕ)) → IsSome (node_of words) → KeepsServices dg (node_name words)
 keeps_services dg words some = keeps_named dg (node_name words) (words_named words some)

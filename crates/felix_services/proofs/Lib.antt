@@ -1,5 +1,3 @@
-pub mod ReadingLemmas
-pub mod ReadForms
 pub mod WrittenReads
 pub mod PacketLemmas
 pub mod TakingLemmas

@@ -14,15 +14,16 @@ use Rattle.fx_laws.proofs.Leading.{ranked-tables}
 use Rattle.fx_laws.proofs.ViewClosed.{view_of-closed}
 use Rattle.fx_fields.specs.declared.refusal.Refusal.{Refusal}
 use Rattle.fx_driver.proofs.Drivable.{empty_view-drivable}
+use Rattle.fx_program.specs.Answers.{accepted_text, settled}
 use Rattle.fx_run.specs.Run.{state_after}
 use Rattle.fx_run.proofs.Runs.{kept_after}
 use Rattle.fx_services.specs.declared.lowered.Lowered.{Lowered}
 use Rattle.fx_walk.proofs.Agree.{walk_is_run}
 use Rattle.fx_walk.specs.PacketPaths.{first_walk}
-use Rattle.felix_services.specs.declared.command.ServicesCommand.{ServicesCommand}
-use Rattle.felix_services.specs.declared.command.ServicesCommand.TheVariants as command
-use Rattle.felix_services.specs.Commands.{command_of}
-use Rattle.felix_services.specs.Output.{State, start, next, unless_taken, checked, answer_of, after_answer, answer_text}
+use Rattle.fx_service_lines.specs.declared.command.ServicesCommand.{ServicesCommand}
+use Rattle.fx_service_lines.specs.declared.command.ServicesCommand.TheVariants as command
+use Rattle.fx_service_lines.specs.Commands.{command_of}
+use Rattle.felix_services.specs.Output.{State, start, next, unless_taken, checked, accepted, answer_of, command_text}
 use Rattle.felix_services.specs.Policed.{TellsRun, PathsAreRuns}
 
 -- ---- the sent view
@@ -30,11 +31,11 @@ use Rattle.felix_services.specs.Policed.{TellsRun, PathsAreRuns}
 abbrev ClosedAt : State → Type 0
 ClosedAt s = IsClosedView s.replay.sent
 
-unless_closed : (s : State) → ClosedAt s → (l : Lowered) (o : Option Clash) → ClosedAt (after_answer s (unless_taken o (command.Change l)))
+unless_closed : (s : State) → ClosedAt s → (l : Lowered) (o : Option Clash) → ClosedAt (settled accepted s (unless_taken o (command.Change l)))
 unless_closed s closed l None = closed
 unless_closed s closed l (Some c) = closed
 
-after_line : (s : State) (said : Result ServicesCommand Refusal) → ClosedAt s → ClosedAt (after_answer s (checked s.replay.digest s.replay.resources said))
+after_line : (s : State) (said : Result ServicesCommand Refusal) → ClosedAt s → ClosedAt (settled accepted s (checked s.replay.digest s.replay.resources said))
 after_line s (Ok command.Blank) closed = closed
 after_line s (Ok command.Tables) closed = closed
 after_line s (Ok command.Flush) closed =
@@ -58,7 +59,7 @@ line_run s closed line a said =
       egress = (noted_in run).reasons.egress;
       ingress = (noted_in run).reasons.ingress;
       run = walk_is_run (tables_of s.replay.sent) a [] (ranked-tables s.replay.sent closed);
-      output = ap (answer_text s) said;
+      output = ap (accepted_text command_text s) said;
     }
 
 pub paths_are_runs : (dg : Digest) (node : List ℕ) → PathsAreRuns dg node

@@ -24,6 +24,7 @@ use Rattle.fx_laws.proofs.ViewClosed.{view_of-closed}
 use Rattle.fx_fields.specs.declared.refusal.Refusal.{Refusal}
 use Rattle.fx_laws.proofs.NoResources.{none-servable}
 use Rattle.fx_driver.proofs.Drivable.{empty_view-drivable}
+use Rattle.fx_program.specs.Answers.{settled}
 use Rattle.fx_run.specs.Run.{state_after}
 use Rattle.fx_services.specs.declared.lowered.Lowered.{Lowered}
 use Rattle.fx_services.specs.declared.slices.Slice.{Slice}
@@ -34,14 +35,15 @@ use Rattle.fx_services.specs.Standing.{StandsFor, IsSound, PlacesStandFor, is_so
 use Rattle.fx_services.specs.Written.{Written, WrittenUpdate, nothing_written, services_at, lowered_written}
 use Rattle.fx_service_laws.proofs.Kept.{stand_on}
 use Rattle.fx_service_laws.proofs.SoundKept.{stays_sound}
-use Rattle.felix_services.specs.declared.command.ServicesCommand.{ServicesCommand}
-use Rattle.felix_services.specs.declared.command.ServicesCommand.TheVariants as command
-use Rattle.felix_services.specs.Commands.{command_of}
-use Rattle.felix_services.specs.Formed.{IsReadChange, IsReadServices}
-use Rattle.felix_services.specs.Output.{State, start, unless_taken, checked, after_answer, next}
-use Rattle.felix_services.specs.WrittenLines.{made_if, made, written_of, written_next, written_along, written_behind}
+use Rattle.fx_service_lines.specs.declared.command.ServicesCommand.{ServicesCommand}
+use Rattle.fx_service_lines.specs.declared.command.ServicesCommand.TheVariants as command
+use Rattle.fx_service_lines.specs.Commands.{command_of}
+use Rattle.fx_service_lines.specs.Formed.{IsReadChange, IsReadServices}
+use Rattle.felix_services.specs.Output.{State, start, unless_taken, checked, accepted, next}
+use Rattle.fx_service_lines.specs.WrittenLines.{written_of}
+use Rattle.felix_services.specs.WrittenRuns.{made_if, made, written_next, written_along, written_behind}
 use Rattle.felix_services.proofs.PlacesKept.{places_stand_on}
-use Rattle.felix_services.proofs.ReadForms.{command_of-read}
+use Rattle.fx_service_lines.proofs.ReadForms.{command_of-read}
 use Rattle.felix_services.proofs.WrittenReads.{lowered_change, command_change, command_of-alike, written_of-sound}
 
 pub record Stands (dg : Digest) (R : Resources) (sent : View) (P : PlacesByKey) (W : Written) : Type 0 where
@@ -103,7 +105,7 @@ records_named : (W : Written) (R : Resources) → StandsFor W R → IsSound W �
 records_named W R records sound = subst (λ (n : List ℕ). n ≢ []) (sym records.node) sound.named
 
 changed : (s : State) (W : Written) → StandsAt s W → (u : WrittenUpdate) → IsReadChange (lowered_change u) → is_sound_update u ≡ true → (o : Option Clash) → clash s.replay.digest s.replay.resources (lowered_written u) ≡ o
-    → StandsAt (after_answer s (unless_taken o (command.Change (lowered_change u)))) (made_if o W u)
+    → StandsAt (settled accepted s (unless_taken o (command.Change (lowered_change u)))) (made_if o W u)
 changed s W was u read sound (Some c) is = was
 changed s W was u read sound None is =
     let R = s.replay.resources in
@@ -127,13 +129,13 @@ held_or (Some m) l = m
 
 -- what stands for a change is the one that a line asks for
 asked : (s : State) (W : Written) → StandsAt s W → (l : Lowered) → IsReadChange l → (said : Option WrittenUpdate) → IfSome said (λ u. is_sound_update u ≡ true) → Some l ≡ option_map lowered_change said
-    → StandsAt (after_answer s (checked s.replay.digest s.replay.resources (Ok (command.Change l)))) (made s.replay.digest s.replay.resources W said)
+    → StandsAt (settled accepted s (checked s.replay.digest s.replay.resources (Ok (command.Change l)))) (made s.replay.digest s.replay.resources W said)
 asked s W was l read None sound alike = nothing_there l (sym alike)
 asked s W was l read (Some u) sound alike =
     let dg = s.replay.digest in
     let R = s.replay.resources in
     let same : l ≡ lowered_change u = ap (λ (o : Option Lowered). held_or o l) alike in
-    let P : Lowered → Type 0 = λ m. IsReadChange m → StandsAt (after_answer s (checked dg R (Ok (command.Change m)))) (made dg R W (Some u)) in
+    let P : Lowered → Type 0 = λ m. IsReadChange m → StandsAt (settled accepted s (checked dg R (Ok (command.Change m)))) (made dg R W (Some u)) in
     subst P (sym same) (λ r. changed s W was u r sound (clash dg R (lowered_written u)) refl) read
 
 -- nothing is said of the resources
@@ -141,7 +143,7 @@ quiet : (s : State) (W : Written) → (t : State) → StandsAt t W → (said : O
 quiet s W t stands None alike = stands
 quiet s W t stands (Some u) alike = nothing_there (lowered_change u) alike
 
-flushed_stands : (s : State) (W : Written) → StandsAt s W → StandsAt (after_answer s (Ok command.Flush)) W
+flushed_stands : (s : State) (W : Written) → StandsAt s W → StandsAt (accepted s command.Flush) W
 flushed_stands s W was =
     let w = view_of s.replay.digest s.replay.resources in
     record {
@@ -153,13 +155,13 @@ flushed_stands s W was =
     }
 
 answered : (s : State) (W : Written) → StandsAt s W → (answer : Result ServicesCommand Refusal) → IfOk answer IsReadServices → (said : Option WrittenUpdate) → IfSome said (λ u. is_sound_update u ≡ true) → command_change answer ≡ option_map lowered_change said
-    → StandsAt (after_answer s (checked s.replay.digest s.replay.resources answer)) (made s.replay.digest s.replay.resources W said)
-answered s W was (Ok command.Blank) read said sound alike = quiet s W (after_answer s (Ok command.Blank)) was said alike
-answered s W was (Ok command.Tables) read said sound alike = quiet s W (after_answer s (Ok command.Tables)) was said alike
-answered s W was (Ok command.Flush) read said sound alike = quiet s W (after_answer s (Ok command.Flush)) (flushed_stands s W was) said alike
+    → StandsAt (settled accepted s (checked s.replay.digest s.replay.resources answer)) (made s.replay.digest s.replay.resources W said)
+answered s W was (Ok command.Blank) read said sound alike = quiet s W s was said alike
+answered s W was (Ok command.Tables) read said sound alike = quiet s W s was said alike
+answered s W was (Ok command.Flush) read said sound alike = quiet s W (accepted s command.Flush) (flushed_stands s W was) said alike
 answered s W was (Ok (command.Change l)) read said sound alike = asked s W was l read said sound alike
-answered s W was (Ok (command.Packet a)) read said sound alike = quiet s W (after_answer s (Ok (command.Packet a))) was said alike
-answered s W was (Err r) read said sound alike = quiet s W (after_answer s (Err r)) was said alike
+answered s W was (Ok (command.Packet a)) read said sound alike = quiet s W s was said alike
+answered s W was (Err r) read said sound alike = quiet s W s was said alike
 
 line_stands : (s : State) (W : Written) (line : List ℕ) → StandsAt s W → StandsAt (next s line) (written_next s W line)
 line_stands s W line was = answered s W was (command_of line) (command_of-read line) (written_of line) (written_of-sound line) (command_of-alike line)

@@ -1,5 +1,5 @@
--- A change is made, or the line is refused; and the node stays the same.
-use Rattle.std.proofs.Common.{◌≡◌, ℕ, true, List, [], Option, None, Some, Result, Ok, Err, refl, ap, subst, sym}
+-- A change is made or refused as its update is; and the node stays the same.
+use Rattle.std.proofs.Common.{◌≡◌, ℕ, List, [], Option, None, Some, Result, Ok, Err, refl, ap, subst, sym, ◌∙◌}
 use Rattle.std.specs.Prelude.{◌≢◌, OnOk}
 use Rattle.fx_names.specs.Claims.{Clash}
 use Rattle.fx_model.specs.declared.ids.ItemKey.TheVariants as item_key
@@ -11,25 +11,46 @@ use Rattle.fx_model.specs.declared.resources.Resources.{Resources}
 use Rattle.fx_model.specs.declared.resources.Update.{Update}
 use Rattle.fx_model.specs.declared.resources.Update.TheVariants as update
 use Rattle.fx_model.specs.Resources.{after, after_put, after_delete}
+use Rattle.fx_fields.specs.declared.refusal.Refusal.{Refusal}
 use Rattle.fx_fields.specs.declared.refusal.Refusal.TheVariants.{Taken}
-use Rattle.fx_print.specs.Texts.{refusal_line}
-use Rattle.felix_services.specs.declared.command.ServicesCommand.{ServicesCommand}
-use Rattle.felix_services.specs.Output.{State, unless_taken, accepted, command_text, settled, settled_text}
+use Rattle.fx_lines.specs.declared.commands.Command.{Command}
+use Rattle.fx_lines.specs.declared.commands.Command.TheVariants as replay_command
+use Rattle.fx_program.specs.Answers.{accepted_text, refusal_in, settled}
+use Rattle.fx_replay.specs.Output as replays
+use Rattle.fx_services.specs.declared.lowered.Lowered.{Lowered}
+use Rattle.fx_services.specs.Places.{PlacesByKey}
+use Rattle.fx_service_lines.specs.declared.command.ServicesCommand.TheVariants as command
+use Rattle.felix_services.specs.Noting.{noted_change}
+use Rattle.felix_services.specs.Output.{State, unless_taken, accepted, command_text}
 
-module _ (s : State) (o : Option Clash) (asked : ServicesCommand) where
-  -- nothing clashes
-  pub free_settled : o ≡ None → settled s (unless_taken o asked) ≡ accepted s asked
-  free_settled free = ap (λ (p : Option Clash). settled s (unless_taken p asked)) free
+-- what a replay answers to an update
+abbrev replayed : Option Clash → Update → Result Command Refusal
+replayed o u = replays.unless_taken o (replay_command.Update u)
 
-  pub free_text : o ≡ None → settled_text s (unless_taken o asked) ≡ command_text s asked
-  free_text free = ap (λ (p : Option Clash). settled_text s (unless_taken p asked)) free
+no_refusal : {A : Type 0} (r : Refusal) → Some r ≡ None → A
+no_refusal r is = cc
 
+-- the change is refused where the update is, for the same reason
+pub told_alike : (l : Lowered) (o : Option Clash) → refusal_in (replayed o l.update) ≡ refusal_in (unless_taken o (command.Change l))
+told_alike l None = refl
+told_alike l (Some c) = refl
+
+-- a change writes nothing, whether it is made or not
+pub untold : (s : State) (l : Lowered) (o : Option Clash) → accepted_text command_text s (unless_taken o (command.Change l)) ≡ []
+untold s l None = refl
+untold s l (Some c) = refl
+
+module _ (s : State) (l : Lowered) where
   -- a name is taken
-  pub taken_settled : (c : Clash) → o ≡ Some c → settled s (unless_taken o asked) ≡ record s { replay = record s.replay { refused = true } }
-  taken_settled c is = ap (λ (p : Option Clash). settled s (unless_taken p asked)) is
+  pub refused_state : (o : Option Clash) (r : Refusal) (t : replays.State) → t ≡ settled replays.accepted s.replay (replayed o l.update) → Some r ≡ refusal_in (replayed o l.update) → record s { replay = t } ≡ settled accepted s (unless_taken o (command.Change l))
+  refused_state None r t moved told = no_refusal r told
+  refused_state (Some c) r t moved told = λ j. record s { replay = moved j }
 
-  pub taken_text : (c : Clash) → o ≡ Some c → settled_text s (unless_taken o asked) ≡ refusal_line s.replay.lines (Taken c.name c.holder)
-  taken_text c is = ap (λ (p : Option Clash). settled_text s (unless_taken p asked)) is
+  -- none is
+  pub made_state : (o : Option Clash) (t : replays.State) (P F : PlacesByKey) → t ≡ settled replays.accepted s.replay (replayed o l.update) → None ≡ refusal_in (replayed o l.update) → P ≡ noted_change s.places l → F ≡ s.flushed
+      → record s { replay = t; places = P; flushed = F } ≡ settled accepted s (unless_taken o (command.Change l))
+  made_state None t P F moved told lists same = λ j. record s { replay = moved j; places = lists j; flushed = same j }
+  made_state (Some c) t P F moved told lists same = no_refusal (Taken c.name c.holder) (sym told)
 
 -- what two things that hold after a call that succeeds give
 pub on_ok_two : {T E P Q S : Type 0} (r : Result T E) → (P → Q → S) → OnOk r P → OnOk r Q → OnOk r S
@@ -78,7 +99,11 @@ module _ (R : Resources) where
   node_stays (update.Put k x) = node_put k x
   node_stays (update.Delete k) = node_deleted k
 
-  -- a node that has a name keeps it
-  pub named_after : (u : Update) → R.node ≢ [] → (S : Resources) → S ≡ after R u → S.node ≢ []
-  named_after u named S same =
-      subst (λ (T : Resources). T.node ≢ []) (sym same) (subst (λ (n : List ℕ). n ≢ []) (sym (node_stays u)) named)
+settled_node : (s : replays.State) (u : Update) (o : Option Clash) → (settled replays.accepted s (replayed o u)).resources.node ≡ s.resources.node
+settled_node s u None = node_stays s.resources u
+settled_node s u (Some c) = refl
+
+-- a node that has a name keeps it
+pub named_after : (s : replays.State) (u : Update) (o : Option Clash) → s.resources.node ≢ [] → (t : replays.State) → t ≡ settled replays.accepted s (replayed o u) → t.resources.node ≢ []
+named_after s u o named t moved =
+    subst (λ (n : List ℕ). n ≢ []) (sym (ap (λ (x : replays.State). x.resources.node) moved ∙ settled_node s u o)) named

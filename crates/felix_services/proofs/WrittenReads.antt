@@ -16,7 +16,7 @@ use Rattle.fx_fields.proofs.Readings.{then-if, read-if}
 use Rattle.fx_json.specs.Kubernetes.{kubernetes_key_in}
 use Rattle.fx_json.specs.Packets.{packet_of}
 use Rattle.fx_json.specs.Resources.{key_in, calico_delete, kubernetes_delete, delete_of}
-use Rattle.fx_lines.specs.Commands.{value_in, is_true, shaped, at_member, read_answer}
+use Rattle.fx_lines.specs.Commands.{value_in, by_value, command_by, is_true, shaped, at_member, read_answer}
 use Rattle.fx_lines.proofs.ReadForms.{shaped-if, at_member-if, read_answer-if}
 use Rattle.fx_services.specs.declared.lowered.Lowered.{Lowered}
 use Rattle.fx_services.specs.declared.lowered.Resource.{Resource as Read}
@@ -28,11 +28,11 @@ use Rattle.fx_services.specs.Slices.{is_slice, slice_of, slice_key, put_of_slice
 use Rattle.fx_services.specs.Standing.{is_sound_update}
 use Rattle.fx_services.specs.Written.{WrittenUpdate, Resource, PutSlice, DeleteSlice, lowered_written}
 use Rattle.fx_service_laws.proofs.ReadSound.{reads_are_sound}
-use Rattle.felix_services.specs.declared.command.ServicesCommand.{ServicesCommand}
-use Rattle.felix_services.specs.declared.command.ServicesCommand.TheVariants as command
-use Rattle.felix_services.specs.Commands.{resource_answer, sync_answer, without_rules, slice_lowered, slice_delete_lowered, delete_lowered, put_read, delete_read, change_in, request_in, change_or, of_value, command_of}
-use Rattle.felix_services.specs.WrittenLines.{slice_written, resource_written, slice_delete_written, delete_written, put_as_written, delete_as_written, written_in, change_said, said_by, written_of}
-use Rattle.felix_services.proofs.ReadForms.{by_kind-if}
+use Rattle.fx_service_lines.specs.declared.command.ServicesCommand.{ServicesCommand}
+use Rattle.fx_service_lines.specs.declared.command.ServicesCommand.TheVariants as command
+use Rattle.fx_service_lines.specs.Commands.{resource_answer, sync_answer, without_rules, slice_lowered, slice_delete_lowered, delete_lowered, put_read, delete_read, change_in, request_in, change_or, by_name, command_of}
+use Rattle.fx_service_lines.specs.WrittenLines.{slice_written, resource_written, slice_delete_written, delete_written, put_as_written, delete_as_written, written_in, change_said, said_by, written_of}
+use Rattle.fx_service_lines.proofs.ReadForms.{by_kind-if}
 
 -- ---- what stands for a change
 
@@ -217,16 +217,16 @@ change_or_alike others (Ok None) none = none
 change_or_alike others (Ok (Some u)) none = refl
 change_or_alike others (Err r) none = refl
 
-of_value_alike : (value : Result (Option Data) Refusal) → command_change (of_value value) ≡ option_map lowered_change (said_by value)
-of_value_alike (Ok None) = refl
-of_value_alike (Ok (Some d)) =
+by_value_alike : (value : Result (Option Data) Refusal) → command_change (by_value command.Blank by_name value) ≡ option_map lowered_change (said_by value)
+by_value_alike (Ok None) = refl
+by_value_alike (Ok (Some d)) =
     ap (λ (answer : Result (Option Lowered) Refusal). command_change (change_or (request_in d) answer)) (change_alike d)
     ∙ change_or_alike (request_in d) (written_in d) (no_change (request_in d) (request_other d))
-of_value_alike (Err r) = refl
+by_value_alike (Err r) = refl
 
 pub command_of-alike : (line : List ℕ) → command_change (command_of line) ≡ option_map lowered_change (written_of line)
-unfolding command_of
-command_of-alike line = of_value_alike (value_in line)
+unfolding command_by
+command_of-alike line = by_value_alike (value_in line)
 
 said_sound : (said : Result (Option WrittenUpdate) Refusal) → IfOk said FoundSound → FoundSound (change_said said)
 said_sound (Ok o) sound = sound

@@ -5,8 +5,8 @@ use Rattle.fx_fields.specs.declared.refusal.Refusal.{Refusal}
 use Rattle.fx_model.specs.Views.{view_of}
 use Rattle.fx_names.specs.Digests.{Digest}
 use Rattle.fx_run.specs.Run.{state_after}
-use Rattle.felix_services.specs.declared.command.ServicesCommand.{ServicesCommand}
-use Rattle.felix_services.specs.declared.command.ServicesCommand.TheVariants as command
+use Rattle.fx_service_lines.specs.declared.command.ServicesCommand.{ServicesCommand}
+use Rattle.fx_service_lines.specs.declared.command.ServicesCommand.TheVariants as command
 use Rattle.felix_services.specs.Output.{State, start, next, answer_of}
 
 -- an accepted change

@@ -1,11 +1,9 @@
-pub mod Commands
-pub mod Formed
 pub mod Noting
 pub mod PacketLines
 pub mod Output
 pub mod Standing
 pub mod Stepping
-pub mod WrittenLines
+pub mod WrittenRuns
 pub mod Flushing
 pub mod Policed
 pub mod Words

@@ -2,7 +2,7 @@
 -- lines. It is the output of a replay over the updates that stand for those of the lines, but that a packet's reasons
 -- name rules by their places as they are written. The rules that it follows stand in docs/INPUT.md and docs/OUTPUT.md
 -- of this repository.
-use Rattle.std.specs.Prelude.{ℕ, List, [], Bool, Option, Some, None, Result, Ok, Err}
+use Rattle.std.specs.Prelude.{ℕ, List, [], Option, Some, None, Result, Ok, Err}
 use Rattle.std.specs.FinMap as maps
 use Rattle.fx_names.specs.Digests.{Digest}
 use Rattle.fx_names.specs.Claims.{Clash}
@@ -12,14 +12,18 @@ use Rattle.fx_model.specs.ViewTables.{tables_of}
 use Rattle.fx_fields.specs.declared.refusal.Refusal.{Refusal}
 use Rattle.fx_fields.specs.declared.refusal.Refusal.TheVariants.{Taken}
 use Rattle.fx_lines.specs.declared.commands.Command.TheVariants as replay_command
+use Rattle.fx_print.specs.Texts.{refusal_line}
+use Rattle.fx_program.specs.Answers.{accepted_text, by_answers, settled}
+use Rattle.fx_program.specs.Meanings.{Meaning}
 use Rattle.fx_replay.specs.Output as replays
 use Rattle.fx_services.specs.declared.lowered.Lowered.{Lowered}
 use Rattle.fx_services.specs.Places.{PlacesByKey}
-use Rattle.felix_services.specs.declared.command.ServicesCommand.{ServicesCommand}
-use Rattle.felix_services.specs.declared.command.ServicesCommand.TheVariants as command
-use Rattle.felix_services.specs.Commands.{command_of}
+use Rattle.fx_service_lines.specs.declared.command.ServicesCommand.{ServicesCommand}
+use Rattle.fx_service_lines.specs.declared.command.ServicesCommand.TheVariants as command
+use Rattle.fx_service_lines.specs.Commands.{command_of}
 use Rattle.felix_services.specs.Noting.{noted_change}
 use Rattle.felix_services.specs.PacketLines.{packet_text}
+use Rattle.felix_services.specs.Words.{usage_line}
 
 -- what stands between two lines: the replay of the updates that stand for those of the lines, and the lists of places,
 -- now and as they were at the last flush
@@ -65,19 +69,9 @@ accepted s (command.Change l) =
     record s { replay = replays.accepted s.replay (replay_command.Update l.update); places = noted_change s.places l }
 accepted s (command.Packet a) = s
 
--- what a counted line does; a refused one changes nothing
-abbrev pub settled : State → Result ServicesCommand Refusal → State
-settled s (Ok c) = accepted s c
-settled s (Err r) = record s { replay = replays.settled s.replay (Err r) }
-
-abbrev pub counted : State → State
-counted s = record s { replay = replays.counted s.replay }
-
-abbrev pub after_answer : State → Result ServicesCommand Refusal → State
-after_answer s answer = settled (counted s) answer
-
+-- a refused line changes nothing
 abbrev pub next : State → List ℕ → State
-next s line = after_answer s (answer_of s line)
+next s line = settled accepted s (answer_of s line)
 
 -- ---- what a line writes
 
@@ -88,16 +82,12 @@ command_text s command.Flush = replays.command_text s.replay (replay_command.Flu
 command_text s (command.Change l) = []
 command_text s (command.Packet a) = packet_text (tables_of s.replay.sent) s.flushed a
 
--- what a counted line writes
-abbrev pub settled_text : State → Result ServicesCommand Refusal → List ℕ
-settled_text s (Ok c) = command_text s c
-settled_text s (Err r) = replays.settled_text s.replay (Err r)
-
-abbrev pub answer_text : State → Result ServicesCommand Refusal → List ℕ
-answer_text s answer = settled_text (counted s) answer
-
+-- what a line writes that is accepted
 abbrev pub text : State → List ℕ → List ℕ
-text s line = answer_text s (answer_of s line)
+text s line = accepted_text command_text s (answer_of s line)
 
-abbrev pub was_refused : State → Bool
-was_refused s = s.replay.refused
+-- ---- the whole
+
+-- of the node that the words name
+abbrev pub meaning : Digest → Meaning (List ℕ) State Refusal
+meaning dg = by_answers usage_line (start dg) answer_of accepted command_text refusal_line

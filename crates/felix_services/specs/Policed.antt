@@ -19,10 +19,10 @@ use Rattle.fx_run.specs.Run.{state_after}
 use Rattle.fx_services.specs.Places.{PlacesByKey, reason_as_written}
 use Rattle.fx_services.specs.Written.{Written}
 use Rattle.fx_services.specs.WrittenVerdict.{written_verdict}
-use Rattle.felix_services.specs.declared.command.ServicesCommand.TheVariants as command
+use Rattle.fx_service_lines.specs.declared.command.ServicesCommand.TheVariants as command
 use Rattle.felix_services.specs.Flushing.{IsFlushed}
 use Rattle.felix_services.specs.Output.{State, start, next, answer_of, text}
-use Rattle.felix_services.specs.WrittenLines.{written_behind}
+use Rattle.felix_services.specs.WrittenRuns.{written_behind}
 
 -- ---- any packet
 

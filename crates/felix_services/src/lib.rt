@@ -5,9 +5,7 @@
 pub use fx_run::Status;
 pub use top::{ServicesStatus, felix_services};
 
-mod command;
 mod noting;
 mod packets;
-mod reading;
 mod services;
 mod top;

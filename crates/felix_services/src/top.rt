@@ -1,21 +1,21 @@
 //! The top call: from the bytes of a source to the bytes of a sink.
-ghost use Rattle.std.specs.Prelude.{◌≡◌, ◌≢◌, ◌⊎◌, ◌^◌, ◌<◌, ◌≤◌, IfOk, OnErr, OnOk, IsErrOf, IsSome, None, [], false, true};
+ghost use Rattle.std.specs.Prelude.{◌≡◌, ◌⊎◌, ◌^◌, ◌<◌, ◌≤◌, IsSome, None, false, true};
 ghost use Rattle.std.specs.Io.KnownBytes.{Appends};
 ghost use Rattle.fx_base.specs.Streams.{AppendsPrefix};
 ghost use Rattle.fx_lines.specs.Reading.{HasFailedRead, IsTooLong};
 ghost use Rattle.fx_run.specs.Ran.{SinkFailed, SourceFailed};
 ghost use Rattle.fx_run.specs.Statuses.{EndedEarly, HasRun, HasRunOrMemory};
-ghost use Rattle.fx_words.specs.Words.{node_of};
+ghost use Rattle.fx_words.specs.Words.{node_name, node_of};
 ghost use Rattle.felix_services.specs.Flushing.{FlushesSendAll};
 ghost use Rattle.felix_services.specs.Policed.{KeepsServices, PathsAreRuns};
-ghost use Rattle.felix_services.specs.Top.{IsAsDefined, Ran, RanFor, Stopped, StoppedFor};
-ghost use Rattle.felix_services.specs.Words.{node_name, usage_line};
+ghost use Rattle.felix_services.specs.Top.{IsAsDefined, RanFor, StoppedFor};
+ghost use Rattle.felix_services.specs.Words.{usage_line};
 
 use crate::services::Services;
 use fx_base::{Sink, Source, Text};
 use fx_names::{DigestFunction, DigestRule, Namer};
-use fx_run::{RunFault, Status, answer_lines, tell_usage};
-use fx_words::read_node;
+use fx_program::run_program;
+use fx_run::Status;
 use std::alloc::Global;
 
 /// How a run ends.
@@ -28,7 +28,7 @@ pub type ServicesStatus = Status;
 /// A line is a JSON object with one member; each output line is written with its newline by one put. Rules may name
 /// services, whose addresses and ports EndpointSlices tell. Names in the kernel that are too long are made by the
 /// namer's digest rule.
-#[tactic(auto, using(crate::proofs::Flushed::flushes_send_all, crate::proofs::Policing::paths_are_runs, crate::proofs::Kept::keeps_services, crate::proofs::Kept::named_node))]
+#[tactic(auto, using(crate::proofs::Flushed::flushes_send_all, crate::proofs::Policing::paths_are_runs, crate::proofs::Kept::keeps_services))]
 pub fn felix_services<S: Source, K: Sink, R: DigestRule, F: DigestFunction<R> + Drop>(
     alloc: Global,
     words: &[Text],
@@ -95,43 +95,5 @@ pub fn felix_services<S: Source, K: Sink, R: DigestRule, F: DigestFunction<R> + 
         → (result ≡ Status.InputTooLong) ⊎ (result ≡ Status.Memory) }
     ensures limited { (S.state source.new).given ≤ 2 ^ 32 }
 {
-    let Some(node) = read_node(words) else {
-        return tell_usage(b"usage: felix-services --node NAME\n", sink);
-    };
-    match run(alloc, node, source, sink, namer) {
-        Ok(false) => Status::Done,
-        Ok(true) => Status::Refused,
-        Err(RunFault::ReadFault) => Status::ReadFault,
-        Err(RunFault::WriteFault) => Status::WriteFault,
-        Err(RunFault::Memory) => Status::Memory,
-        Err(RunFault::InputTooLong) => Status::InputTooLong,
-    }
-}
-
-// What answers the lines stands here and is lent, so that one place lets go of it.
-fn run<S: Source, K: Sink, R: DigestRule, F: DigestFunction<R> + Drop>(
-    alloc: Global,
-    node: &Text,
-    source: &mut S,
-    sink: &mut K,
-    namer: Namer<R, F>,
-) -> Result<bool, RunFault>
-    requires fresh { (S.state source.old).given ≡ 0 }
-    requires unended { (S.state source.old).ended ≡ false }
-    requires named { node.now ≢ [] }
-    ensures ran { IfOk result (Ran R.digest_of node.now (S.state source.old) (S.state source.new)
-        (K.state sink.old) (K.state sink.new)) }
-    ensures stopped { OnErr result (Stopped R.digest_of node.now (S.state source.old) (S.state source.new)
-        (K.state sink.old) (K.state sink.new)) }
-    ensures read_fault { IsErrOf result RunFault.ReadFault → HasFailedRead (S.state source.old) (S.state source.new) }
-    ensures write_fault { IsErrOf result RunFault.WriteFault → SinkFailed (K.state sink.old) (K.state sink.new) }
-    ensures write_short { IsErrOf result RunFault.WriteFault → (S.state source.new).given < 2 ^ 32 }
-    ensures too_long { IsErrOf result RunFault.InputTooLong → IsTooLong (S.state source.new) }
-    ensures short { OnOk result ((S.state source.new).given < 2 ^ 32) }
-    ensures limited { (S.state source.new).given ≤ 2 ^ 32 }
-{
-    let mut services = Services::new(alloc, node, namer)?;
-    let ended = answer_lines(alloc, &mut services, source, sink);
-    services.finish();
-    ended
+    run_program::<Services<R, F>, S, K>(alloc, words, source, sink, namer)
 }

@@ -1,5 +1,3 @@
 pub mod Driving
 pub mod Serving
 pub mod Answering
-pub mod Handing
-pub mod Unchanged

@@ -1,7 +1,6 @@
--- What the agent answers, each answer by its cause. Want of memory is the one free answer.
-use Rattle.std.specs.Prelude.{◌≡◌, ◌⊎◌, ℕ, Bool, true, false, Option, Some, None, ⊤}
+-- What the agent answers to pulls and packets, each answer by its cause. Want of memory is the one free answer.
+use Rattle.std.specs.Prelude.{◌≡◌, ◌⊎◌, ℕ, Bool, true, false, Option, Some, None}
 use Rattle.fx_base.specs.Streams.{Rose}
-use Rattle.fx_names.specs.Claims.{Clash}
 use Rattle.fx_model.specs.declared.chain.Reason.{Reason}
 use Rattle.fx_model.specs.declared.packet.Packet.{Packet}
 use Rattle.fx_model.specs.declared.packet.Verdict.{Verdict}
@@ -16,28 +15,6 @@ use Rattle.fx_agent.specs.declared.faults.PullFault.{PullFault}
 use Rattle.fx_agent.specs.declared.faults.PullFault.TheVariants as pull
 use Rattle.fx_agent.specs.declared.faults.Pulled.{Pulled}
 use Rattle.fx_agent.specs.declared.faults.Pulled.TheVariants as pulled
-use Rattle.fx_agent.specs.declared.faults.UpdateFault.{UpdateFault}
-use Rattle.fx_agent.specs.declared.faults.UpdateFault.TheVariants as update
-
--- ---- updates
-
--- whether the agent had failed, and whether the update clashes
-abbrev pub IsUpdateCause : Bool → Option Clash → UpdateFault → Type 0
-IsUpdateCause failed clash (update.Taken name holder) = (failed ≡ false) × (clash ≡ Some (record { name = name; holder = holder }))
-IsUpdateCause failed clash update.Memory = failed ≡ false
-IsUpdateCause failed clash update.NeedsResync = failed ≡ true
-
--- all stays, or the agent has failed
-abbrev pub UpdateLeaves : (same : Type 0) → (failed : Bool) → UpdateFault → Type 0
-UpdateLeaves same failed (update.Taken name holder) = same
-UpdateLeaves same failed update.Memory = failed ≡ true
-UpdateLeaves same failed update.NeedsResync = same
-
--- it stays where the update is refused; where memory ran out, nothing is said of it
-abbrev pub StaysIfRefused : (same : Type 0) → UpdateFault → Type 0
-StaysIfRefused same (update.Taken name holder) = same
-StaysIfRefused same update.Memory = ⊤
-StaysIfRefused same update.NeedsResync = same
 
 -- ---- pulls
 

@@ -1,19 +1,5 @@
-//! What the agent answers.
-use fx_base::{KernelName, Text};
+//! What a pull answers.
 use thiserror::Error;
-
-/// Why an update isn't taken.
-#[derive(Debug, Drop, Error)]
-pub enum UpdateFault {
-    /// A name in the kernel that it claims is another holder's.
-    #[error("a name in the kernel is taken")]
-    Taken { name: KernelName, holder: Text },
-    #[error("no memory is left")]
-    Memory,
-    /// Memory ran out before, so what the agent holds isn't known any more.
-    #[error("the agent has to begin anew")]
-    NeedsResync,
-}
 
 /// What a pull did.
 #[derive(Clone, Copy, Debug, PartialEq, Eq)]

@@ -2,10 +2,9 @@
 #![tactic(auto)]
 
 pub use agent::Agent;
-pub use faults::{PullFault, Pulled, UpdateFault};
+pub use faults::{PullFault, Pulled};
+pub use fx_engine::UpdateFault;
 
 mod agent;
-mod batches;
 mod faults;
 mod pulling;
-mod sharing;

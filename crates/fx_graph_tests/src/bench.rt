@@ -3,6 +3,7 @@ ghost use Rattle.std.specs.Prelude.{◌≡◌, true, None, OnOk};
 ghost use Rattle.fx_names.specs.Digests.{plain_digest};
 ghost use Rattle.fx_model.specs.Claims.{clash};
 ghost use Rattle.fx_model.specs.Formed.{is_formed};
+ghost use Rattle.fx_store.specs.Changing.{claims_after, claims_before};
 ghost use Rattle.fx_graph_tests.specs.Benches.{AreAlike, StaysAlike};
 
 use fx_base::{Counter, Memory, Text};
@@ -10,7 +11,7 @@ use fx_graph::Graph;
 use fx_lines::{Command, read_command};
 use fx_model::{Update, View};
 use fx_names::{Namer, PlainRule};
-use fx_store::Store;
+use fx_store::{ClaimChange, Store};
 use fx_wanted::{pending_key_of, take_at, view_of};
 use std::alloc::Global;
 
@@ -80,20 +81,27 @@ fn give(alloc: Global, line: &[u8], store: &mut Store, graph: &mut PlainGraph) -
     let Command::Update(update) = command else {
         return Err(Memory);
     };
-    if store.check(&update, graph.namer()).is_err() {
+    let Ok(change) = store.checked_claims(&update, graph.namer()) else {
         return Ok(());
-    }
-    take(update, store, graph)
+    };
+    take(update, &change, store, graph)
 }
 
-fn take(update: Update, store: &mut Store, graph: &mut PlainGraph) -> Result<(), Memory>
+fn take(
+    update: Update,
+    change: &ClaimChange,
+    store: &mut Store,
+    graph: &mut PlainGraph,
+) -> Result<(), Memory>
     requires alike { AreAlike store.old graph.old.state }
     requires formed { is_formed update ≡ true }
     requires free { clash plain_digest store.old.resources update ≡ None }
+    requires before { change.now.before.items ≡ claims_before plain_digest store.old.resources update }
+    requires after { change.now.after.items ≡ claims_after plain_digest store.old.resources update }
     ensures { OnOk result (AreAlike store.new graph.new.state) }
 {
     graph.apply(&update, &mut Counter::new())?;
-    store.apply(update, graph.namer())?;
+    store.apply_with::<PlainRule>(update, change)?;
     Ok(())
 }
 

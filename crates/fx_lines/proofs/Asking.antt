@@ -7,14 +7,13 @@ use Rattle.std.proofs.lemmas.Str.{IsUtf8-from_is_utf8, is_utf8-from_IsUtf8}
 use Rattle.serde_json.specs.Data.{Data}
 use Rattle.serde_json.specs.Read.{read}
 use Rattle.fx_lines.specs.Lines.{line_limit}
-use Rattle.fx_lines.specs.Commands.{is_blank_byte, value_of, one_member, short_value, value_in, told_from, of_value, command_of}
-use Rattle.fx_lines.specs.declared.commands.Command.{Command}
+use Rattle.fx_lines.specs.Commands.{is_blank_byte, value_of, one_member, short_value, value_in, told_from, by_value, command_by}
 use Rattle.fx_fields.specs.declared.fault.ReadFault.{ReadFault}
 use Rattle.fx_fields.specs.declared.fault.ReadFault.TheVariants.{Memory}
 use Rattle.fx_fields.specs.declared.refusal.Refusal.{Refusal}
 use Rattle.fx_fields.specs.declared.refusal.Refusal.TheVariants.{Read, LineTooLong, BadJson}
 use Rattle.fx_fields.specs.Faults.{within, IsReadFault}
-use Rattle.fx_fields.specs.Refusals.{Refuses}
+use Rattle.fx_fields.specs.Refusals.{Refuses, is_memory}
 
 -- ---- the value of a line
 
@@ -57,18 +56,42 @@ told_from-fault {A = A} path answer fault told (inr moved) (inr same) =
 
 -- ---- the command of a line, by its value
 
-pub command_of-at : (line : List ℕ) (value : Result (Option Data) Refusal) → value_in line ≡ value → command_of line ≡ of_value value
-unfolding command_of
-command_of-at line value is = ap of_value is
+module _ {C : Type 0} (blank : C) (by_name : Data → Result C Refusal) where
+  pub command_by-at : (line : List ℕ) (value : Result (Option Data) Refusal) → value_in line ≡ value → command_by blank by_name line ≡ by_value blank by_name value
+  unfolding command_by
+  command_by-at line value is = ap (by_value blank by_name) is
 
--- what code answers that computes it
-pub command_of-refused : (line : List ℕ) (told : Refusal) → (told ≡ Read Memory) ⊎ (value_in line ≡ Err told) → Refuses (command_of line) (Err told)
-command_of-refused line told (inl memory) = inl memory
-command_of-refused line told (inr is) = inr (command_of-at line (Err told) is)
+  -- what code answers that computes it
+  pub command_by-refused : (line : List ℕ) (told : Refusal) → (told ≡ Read Memory) ⊎ (value_in line ≡ Err told) → Refuses (command_by blank by_name line) (Err told)
+  command_by-refused line told (inl memory) = inl memory
+  command_by-refused line told (inr is) = inr (command_by-at line (Err told) is)
 
-pub command_of-answered : (line : List ℕ) (value : Option Data) (told : Result Command Refusal) → value_in line ≡ Ok value → Refuses (of_value (Ok value)) told → Refuses (command_of line) told
-command_of-answered line value told is answered =
-    let P : Result Command Refusal → Type 0 = λ r. Refuses r told in subst P (sym (command_of-at line (Ok value) is)) answered
+  pub command_by-answered : (line : List ℕ) (value : Data) (told : Result C Refusal) → value_in line ≡ Ok (Some value) → Refuses (by_name value) told → Refuses (command_by blank by_name line) told
+  command_by-answered line value told is answered =
+      let P : Result C Refusal → Type 0 = λ r. Refuses r told in subst P (sym (command_by-at line (Ok (Some value)) is)) answered
+
+  pub command_by-blank : (line : List ℕ) (told : C) → told ≡ blank → value_in line ≡ Ok None → Refuses (command_by blank by_name line) (Ok told)
+  command_by-blank line told is none = command_by-at line (Ok None) none ∙ sym (ap (λ (c : C). Ok c) is)
+
+  -- what holds of each command holds of a line's
+  pub command_by-read : (P : C → Type 0) → P blank → ((d : Data) → IfOk (by_name d) P) → (line : List ℕ) → IfOk (command_by blank by_name line) P
+  unfolding command_by
+  command_by-read P of_blank each line = by_cases (value_in line)
+    where
+      by_cases : (value : Result (Option Data) Refusal) → IfOk (by_value blank by_name value) P
+      by_cases (Ok None) = of_blank
+      by_cases (Ok (Some d)) = each d
+      by_cases (Err r) = tt
+
+no_truth : {A : Type 0} → true ≡ false → A
+no_truth e = cc
+
+-- what code answers is the definition's where it doesn't want memory
+pub refused_as_defined : {A : Type 0} (answer : Result A Refusal) (refusal : Refusal) → is_memory refusal ≡ false → Refuses answer (Err refusal) → answer ≡ Err refusal
+refused_as_defined answer refusal none h = elim h as (λ _. answer ≡ Err refusal) [
+  | inl is ↦ no_truth (sym (ap is_memory is) ∙ none)
+  | inr is ↦ is
+]
 
 -- what is computed alike is answered
 pub refuses-same : {A : Type 0} (answer told : Result A Refusal) → answer ≡ told → Refuses answer told

@@ -1,12 +1,14 @@
 -- What a reader keeps of a line that may be too long.
-use Rattle.std.proofs.Common.{◌≡◌, ◌≢◌, ◌⊎◌, ⊎_elim, ◌<◌, ◌≤◌, ◌+◌, ◌-◌, min, ℕ, zero, suc, List, [], ◌∷◌, ◌++◌, length, take, slice_index, Bool, true, false, refl, sym, ◌∙◌, ap, subst, arith, length-append, append_assoc}
+use Rattle.std.proofs.Common.{◌≡◌, ◌≢◌, ◌⊎◌, ⊎_elim, ◌<◌, ◌≤◌, ◌+◌, ◌-◌, min, ℕ, zero, suc, List, [], ◌∷◌, ◌++◌, length, take, slice_index, Bool, true, false, Result, refl, sym, ◌∙◌, ap, subst, arith, length-append, append_assoc}
 use Rattle.std.proofs.Math.Seq.{take-nil, take-append-add}
 use Rattle.std.proofs.Math.Nat.{min-le_right}
 use Rattle.std.proofs.lemmas.List.{length-take, length-take-le, take_all, append_cancel_left, get_or-append-add}
 use Rattle.std.proofs.lemmas.Bool.{cases_lt, lt-ltb}
+use Rattle.serde_json.specs.Data.{Data}
+use Rattle.fx_fields.specs.declared.refusal.Refusal.{Refusal}
 use Rattle.fx_lines.specs.Lines.{line_limit, clip, HasNoNewline}
 use Rattle.fx_lines.specs.Reading.{IsNext, line_if}
-use Rattle.fx_lines.specs.Commands.{value_in, of_value, command_of}
+use Rattle.fx_lines.specs.Commands.{value_in, by_value, command_by}
 use Rattle.fx_lines.proofs.Asking.{value_in-long}
 use Rattle.fx_lines.proofs.Cuts.{HasNoNewline-from_places, NoneBefore, none_in_prefix, last_is_next}
 
@@ -33,9 +35,9 @@ value_in-clip line = ⊎_elim long short (cases_lt line_limit (length line))
     short : length line ≤ line_limit → value_in (clip line) ≡ value_in line
     short is = ap value_in (take_all (line_limit + 1) line (omega arith))
 
-pub command_of-clip : (line : List ℕ) → command_of (clip line) ≡ command_of line
-unfolding command_of
-command_of-clip line = ap of_value (value_in-clip line)
+pub command_by-clip : {C : Type 0} (blank : C) (by_name : Data → Result C Refusal) (line : List ℕ) → command_by blank by_name (clip line) ≡ command_by blank by_name line
+unfolding command_by
+command_by-clip blank by_name line = ap (by_value blank by_name) (value_in-clip line)
 
 HasNoNewline-append : (front back : List ℕ) → HasNoNewline front → HasNoNewline back → HasNoNewline (front ++ back)
 HasNoNewline-append [] back clear behind = behind

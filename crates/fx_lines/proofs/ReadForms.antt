@@ -22,8 +22,9 @@ use Rattle.fx_fields.specs.declared.rule_form.Services.TheVariants.{Refused}
 use Rattle.fx_k8s.proofs.FormedPuts.{put_with-formed, put_with-workload, put_with-change}
 use Rattle.fx_lines.specs.declared.commands.Command.{Command}
 use Rattle.fx_lines.specs.declared.commands.Command.TheVariants as command
+use Rattle.fx_lines.proofs.Asking.{command_by-read}
 use Rattle.fx_lines.specs.Formed.{is_formed_command, puts_on_workloads, batches_changes, IsReadUpdate, IsReadBatch, IsReadCommand}
-use Rattle.fx_lines.specs.Commands.{value_in, is_true, shaped, at_member, read_answer, limit_of, limit_answer, limited_answer, flush_answer, update_in, are_elements, element_of, told_from, element_at, listed_answer, batch_in, request_in, update_or, batch_or, batch_or_request, of_value, command_of}
+use Rattle.fx_lines.specs.Commands.{is_true, shaped, at_member, read_answer, limit_of, limit_answer, limited_answer, flush_answer, update_in, are_elements, element_of, told_from, element_at, listed_answer, batch_in, request_in, update_or, batch_or, batch_or_request, by_name, command_of}
 
 pub shaped-if : {A : Type 0} (P : A → Type 0) (b : Bool) (answer : Result A Refusal) → IfOk answer P → IfOk (shaped b answer) P
 shaped-if P true answer holds = holds
@@ -104,7 +105,7 @@ module _ (Q : Update → Type 0) (put : (d : Data) → IfOk (put_of d) Q) (delet
       (at_member-if Found (field (codes "delete") d) _ _ (λ v. shaped-if Found (is_object v) _ (read_answer-if Q Found Some (λ u holds. holds) (delete_of v) (delete v)))
       (at_member-if Found (field (codes "inSync") d) _ _ (λ v. shaped-if Found (is_true v) _ mark) tt))
 
-  module _ (P : Command → Type 0) (of_update : (u : Update) → Q u → P (command.Update u)) (of_batch : (us : List Update) → IsReadBatch us → P (command.Batch us)) (of_packet : (a : Packet) → P (command.Packet a)) (of_blank : P command.Blank) (of_flush : (limit : Option ℕ) → P (command.Flush limit)) (of_tables : P command.Tables) where
+  module _ (P : Command → Type 0) (of_update : (u : Update) → Q u → P (command.Update u)) (of_batch : (us : List Update) → IsReadBatch us → P (command.Batch us)) (of_packet : (a : Packet) → P (command.Packet a)) (of_flush : (limit : Option ℕ) → P (command.Flush limit)) (of_tables : P command.Tables) where
     packet_answer-if : (answer : Result Packet ReadFault) → IfOk (read_answer command.Packet answer) P
     packet_answer-if (Ok a) = of_packet a
     packet_answer-if (Err fault) = tt
@@ -140,14 +141,8 @@ module _ (Q : Update → Type 0) (put : (d : Data) → IfOk (put_of d) Q) (delet
     batch_or_request-if : (d : Data) → IfOk (batch_or_request d) P
     batch_or_request-if d = batch_or-if (request_in d) (batch_in d) (request_in-if d) (batch_in-read d)
 
-    of_value-if : (value : Result (Option Data) Refusal) → IfOk (of_value value) P
-    of_value-if (Ok None) = of_blank
-    of_value-if (Ok (Some d)) = update_or-if (batch_or_request d) (update_in d) (batch_or_request-if d) (update_in-if d)
-    of_value-if (Err r) = tt
-
-    command_of-if : (line : List ℕ) → IfOk (command_of line) P
-    unfolding command_of
-    command_of-if line = of_value-if (value_in line)
+    by_name-if : (d : Data) → IfOk (by_name d) P
+    by_name-if d = update_or-if (batch_or_request d) (update_in d) (batch_or_request-if d) (update_in-if d)
 
 abbrev IsFormed : Update → Type 0
 IsFormed u = is_formed u ≡ true
@@ -180,10 +175,17 @@ both-read : (answer : Result Command Refusal) → IfOk answer FormedCommand → 
 both-read (Ok c) formed changes standing = record { formed = formed; changes = changes; on_workloads = λ node. standing node }
 both-read (Err r) formed changes standing = tt
 
--- a line whose answer is a command gives one that is read so
+-- an object with one member whose answer is a command gives one that is read so
+pub by_name-read : (d : Data) → IfOk (by_name d) IsReadCommand
+by_name-read d =
+    both-read (by_name d)
+    (by_name-if IsFormed (put_with-formed Refused) delete_of-formed refl FormedCommand (λ u formed. formed) (λ us read. read.formed) (λ a. refl) (λ limit. refl) refl d)
+    (by_name-if IsFormed (put_with-formed Refused) delete_of-formed refl BatchesChanges (λ u formed. refl) (λ us read. read.changes) (λ a. refl) (λ limit. refl) refl d)
+    (λ node. by_name-if (IsOnWorkloads node) (put_with-workload Refused node) (delete_of-workload node) refl (OnWorkloads node) (λ u standing. standing) (λ us read. read.on_workloads node) (λ a. refl) (λ limit. refl) refl d)
+
+pub blank_read : IsReadCommand command.Blank
+blank_read = record { formed = refl; changes = refl; on_workloads = λ node. refl }
+
+-- and so does a line
 pub command_of-read : (line : List ℕ) → IfOk (command_of line) IsReadCommand
-command_of-read line =
-    both-read (command_of line)
-    (command_of-if IsFormed (put_with-formed Refused) delete_of-formed refl FormedCommand (λ u formed. formed) (λ us read. read.formed) (λ a. refl) refl (λ limit. refl) refl line)
-    (command_of-if IsFormed (put_with-formed Refused) delete_of-formed refl BatchesChanges (λ u formed. refl) (λ us read. read.changes) (λ a. refl) refl (λ limit. refl) refl line)
-    (λ node. command_of-if (IsOnWorkloads node) (put_with-workload Refused node) (delete_of-workload node) refl (OnWorkloads node) (λ u standing. standing) (λ us read. read.on_workloads node) (λ a. refl) refl (λ limit. refl) refl line)
+command_of-read line = command_by-read command.Blank by_name IsReadCommand blank_read by_name-read line

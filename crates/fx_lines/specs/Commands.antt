@@ -176,11 +176,15 @@ by_name d = update_or (batch_or_request d) (update_in d)
 
 -- ---- the command of a line
 
-abbrev pub of_value : Result (Option Data) Refusal → Result Command Refusal
-of_value (Ok None) = Ok command.Blank
-of_value (Ok (Some d)) = by_name d
-of_value (Err r) = Err r
+-- by the line's value: what a blank line asks for, or what an object with one member does
+abbrev pub by_value : {C : Type 0} → C → (Data → Result C Refusal) → Result (Option Data) Refusal → Result C Refusal
+by_value blank by_name (Ok None) = Ok blank
+by_value blank by_name (Ok (Some d)) = by_name d
+by_value blank by_name (Err r) = Err r
 
 -- the command of a line, or its refusal
-unfoldable pub command_of : List ℕ → Result Command Refusal
-command_of line = of_value (value_in line)
+unfoldable pub command_by : {C : Type 0} → C → (Data → Result C Refusal) → List ℕ → Result C Refusal
+command_by blank by_name line = by_value blank by_name (value_in line)
+
+abbrev pub command_of : List ℕ → Result Command Refusal
+command_of line = command_by command.Blank by_name line

@@ -6,8 +6,10 @@ ghost use Rattle.fx_fields.specs.Refusals.{Refuses};
 ghost use Rattle.fx_fields.specs.Values.{whole_in};
 ghost use Rattle.fx_lines.specs.Commands.{is_blank_byte, viewed, one_member, value_in, is_true, shaped, put_answer, delete_answer, limit_of, limit_answer, limited_answer, flush_answer, packet_answer, update_in, request_in, batch_or_request, by_name, command_of};
 ghost use Rattle.fx_lines.specs.Formed.{IsReadUpdate, IsReadCommand};
+ghost use Rattle.fx_lines.specs.declared.commands.Command.TheVariants as command;
 
 use crate::batches::batch_command;
+use crate::line_command::{LineCommand, is_true, read_as, shaped};
 use crate::lines::is_too_long;
 use fx_base::Seq;
 use fx_fields::{ReadFault, Refusal, field, has_members};
@@ -35,15 +37,22 @@ pub fn read_command(alloc: Global, line: &[u8]) -> Result<Command, Refusal>
     ensures answer { Refuses (command_of line.now) result }
     ensures read { IfOk result IsReadCommand }
 {
-    command_of(alloc, line)
+    read_as::<Command>(alloc, line)
 }
 
-fn command_of(alloc: Global, line: &[u8]) -> Result<Command, Refusal>
-    ensures { Refuses (command_of line.now) result }
-{
-    match read_line(alloc, line)? {
-        Some(value) => command_in(alloc, &value),
-        None => Ok(Command::Blank),
+impl LineCommand for Command {
+    ghost nothing = { command.Blank };
+
+    ghost by_name = { by_name };
+
+    ghost IsRead = { IsReadCommand };
+
+    fn blank() -> Self {
+        Command::Blank
+    }
+
+    fn read_member(alloc: Global, value: &Value) -> Result<Self, Refusal> {
+        command_in(alloc, value)
     }
 }
 
@@ -227,22 +236,6 @@ fn packet_command(alloc: Global, packet: &Value) -> Result<Command, Refusal>
         return Err(Refusal::BadLine);
     }
     Ok(Command::Packet(read_packet(alloc, packet)?))
-}
-
-fn shaped(right: bool, command: Command) -> Result<Command, Refusal>
-    ensures { result ≡ shaped right (Ok command) }
-{
-    if right {
-        Ok(command)
-    } else {
-        Err(Refusal::BadLine)
-    }
-}
-
-fn is_true(value: &Value) -> bool
-    ensures { result ≡ is_true (view value.now) }
-{
-    value.as_bool().unwrap_or(false)
 }
 
 fn is_blank(line: &[u8]) -> bool

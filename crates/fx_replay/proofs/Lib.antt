@@ -1,6 +1,6 @@
 pub mod SendingLemmas
 pub mod PortionLemmas
 pub mod PacketLines
-pub mod Asked
 pub mod Taking
+pub mod TestBounds
 pub mod Pulling

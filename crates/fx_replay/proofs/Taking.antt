@@ -1,6 +1,5 @@
 -- An update or a batch is made, or the line is refused.
-use Rattle.std.proofs.Common.{◌≡◌, ℕ, true, List, Option, None, Some, Result, Ok, refl, sym, ap, subst}
-use Rattle.std.specs.Prelude.{OnOk}
+use Rattle.std.proofs.Common.{◌≡◌, ℕ, List, [], Option, None, Some, Ok, refl, sym, ap, subst}
 use Rattle.fx_base.specs.Ticks.{IsTicked}
 use Rattle.fx_base.specs.declared.counts.Counter.{Counter}
 use Rattle.fx_base.proofs.TickLemmas.{IsTicked-none}
@@ -10,27 +9,35 @@ use Rattle.fx_model.specs.declared.resources.Update.{Update}
 use Rattle.fx_fields.specs.declared.refusal.Refusal.TheVariants.{Taken}
 use Rattle.fx_lines.specs.declared.commands.Command.{Command}
 use Rattle.fx_lines.specs.declared.commands.Command.TheVariants as command
-use Rattle.fx_print.specs.Texts.{refusal_line}
 use Rattle.fx_replay.specs.declared.tally.Tally.{Tally}
 use Rattle.fx_replay.specs.Tallies.{tally_after}
-use Rattle.fx_replay.specs.Output.{State, unless_taken, accepted, command_text, flushed_in, settled, settled_text}
+use Rattle.fx_program.specs.Answers.{accepted_text, refusal_in, settled}
+use Rattle.fx_replay.specs.Output.{State, unless_taken, accepted, command_text, flushed_in}
 use Rattle.fx_replay.specs.Tests.{HasTested}
-use Rattle.fx_replay.proofs.SendingLemmas.{on_ok_always}
 
 module _ (s : State) (o : Option Clash) (asked : Command) where
   -- nothing clashes
-  pub free-settled : o ≡ None → settled s (unless_taken o asked) ≡ accepted s asked
-  free-settled free = ap (λ (p : Option Clash). settled s (unless_taken p asked)) free
+  pub free-settled : o ≡ None → settled accepted s (unless_taken o asked) ≡ accepted s asked
+  free-settled free = ap (λ (p : Option Clash). settled accepted s (unless_taken p asked)) free
 
-  pub free-text : o ≡ None → settled_text s (unless_taken o asked) ≡ command_text s asked
-  free-text free = ap (λ (p : Option Clash). settled_text s (unless_taken p asked)) free
+  pub free-told : o ≡ None → None ≡ refusal_in (unless_taken o asked)
+  free-told free = sym (ap (λ (p : Option Clash). refusal_in (unless_taken p asked)) free)
 
   -- a name is taken
-  pub taken-settled : (c : Clash) → o ≡ Some c → settled s (unless_taken o asked) ≡ record s { refused = true }
-  taken-settled c is = ap (λ (p : Option Clash). settled s (unless_taken p asked)) is
+  pub taken-settled : (c : Clash) → o ≡ Some c → settled accepted s (unless_taken o asked) ≡ s
+  taken-settled c is = ap (λ (p : Option Clash). settled accepted s (unless_taken p asked)) is
 
-  pub taken-text : (c : Clash) → o ≡ Some c → settled_text s (unless_taken o asked) ≡ refusal_line s.lines (Taken c.name c.holder)
-  taken-text c is = ap (λ (p : Option Clash). settled_text s (unless_taken p asked)) is
+  pub taken-told : (c : Clash) → o ≡ Some c → Some (Taken c.name c.holder) ≡ refusal_in (unless_taken o asked)
+  taken-told c is = sym (ap (λ (p : Option Clash). refusal_in (unless_taken p asked)) is)
+
+-- an update writes nothing, whether it is made or not, and no more does a batch
+pub untold : (s : State) (u : Update) (o : Option Clash) → accepted_text command_text s (unless_taken o (command.Update u)) ≡ []
+untold s u None = refl
+untold s u (Some c) = refl
+
+pub untold_all : (s : State) (us : List Update) (o : Option Clash) → accepted_text command_text s (unless_taken o (command.Batch us)) ≡ []
+untold_all s us None = refl
+untold_all s us (Some c) = refl
 
 -- an update is no flush, whether it is made or not, and no more is a batch
 pub untallied : (t : Tally) (s : State) (u : Update) (o : Option Clash) → t ≡ tally_after t (flushed_in s (unless_taken o (command.Update u)))
@@ -55,6 +62,5 @@ module _ (R : Resources) (o : Option Clash) (asked : Command) (before now : Coun
       (subst (λ (n : ℕ). IsTicked 0 0 before.ticks n) (sym quiet) (IsTicked-none before.ticks))
 
 -- a call that leaves the counter as it was tests nothing
-pub quiet-tested : {T E : Type 0} (r : Result T E) (before now : Counter) → now ≡ before → OnOk r (IsTicked 0 0 before.ticks now.ticks)
-quiet-tested r before now same =
-    on_ok_always r (subst (λ (c : Counter). IsTicked 0 0 before.ticks c.ticks) (sym same) (IsTicked-none before.ticks))
+pub untested : (before now : Counter) → now ≡ before → IsTicked 0 0 before.ticks now.ticks
+untested before now same = subst (λ (c : Counter). IsTicked 0 0 before.ticks c.ticks) (sym same) (IsTicked-none before.ticks)

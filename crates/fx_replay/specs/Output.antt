@@ -1,6 +1,6 @@
 -- The output of a replay: what each line writes, and what stands between two lines. The rules that it follows stand in
 -- docs/INPUT.md and docs/OUTPUT.md of this repository.
-use Rattle.std.specs.Prelude.{ℕ, ◌+◌, ◌-◌, ◌^◌, min, List, [], ◌++◌, map, length, Bool, true, false, Option, Some, None, is_some, Result, Ok, Err}
+use Rattle.std.specs.Prelude.{ℕ, ◌-◌, ◌^◌, min, List, [], ◌++◌, map, length, Bool, Option, Some, None, is_some, Result, Ok, Err}
 use Rattle.std.specs.List.{concat}
 use Rattle.fx_model.specs.declared.resources.Update.{Update}
 use Rattle.fx_model.specs.declared.resources.Resources.{Resources}
@@ -18,20 +18,19 @@ use Rattle.fx_fields.specs.declared.refusal.Refusal.TheVariants.{Taken}
 use Rattle.fx_lines.specs.declared.commands.Command.{Command}
 use Rattle.fx_lines.specs.declared.commands.Command.TheVariants as command
 use Rattle.fx_lines.specs.Commands.{command_of}
-use Rattle.fx_print.specs.Texts.{refusal_line, flushed_line}
+use Rattle.fx_print.specs.Texts.{refusal_line, flushed_line, usage_line}
+use Rattle.fx_program.specs.Answers.{accepted_text, by_answers, settled}
+use Rattle.fx_program.specs.Meanings.{Meaning}
+use Rattle.fx_words.specs.declared.words.Asked.{Asked}
 use Rattle.fx_model.specs.MessageTexts.{message_line}
 use Rattle.fx_model.specs.TableTexts.{table_lines}
 use Rattle.fx_replay.specs.PacketRuns.{packet_text}
-use Rattle.fx_run.specs.Ran.{output_of, end_of}
 
--- what stands between two lines: the digest by which names are made, which stays, the resources, the view that was sent, how many
--- lines there were and whether one was refused
+-- what stands between two lines: the digest by which names are made, which stays, the resources and the view that was sent
 pub record State : Type 0 where
   pub digest : Digest
   pub resources : Resources
   pub sent : View
-  pub lines : ℕ
-  pub refused : Bool
 
 -- before the first line of the node of this name
 abbrev pub start : Digest → List ℕ → State
@@ -39,8 +38,6 @@ start dg node = record {
   digest = dg;
   resources = empty_resources node;
   sent = empty_view;
-  lines = 0;
-  refused = false;
 }
 
 -- ---- what a line says of the resources
@@ -99,19 +96,9 @@ accepted s (command.Update u) = record s { resources = after s.resources u }
 accepted s (command.Batch us) = record s { resources = after_all s.resources us }
 accepted s (command.Packet a) = s
 
--- what a counted line does; a refused one changes nothing
-abbrev pub settled : State → Result Command Refusal → State
-settled s (Ok c) = accepted s c
-settled s (Err r) = record s { refused = true }
-
-abbrev pub counted : State → State
-counted s = record s { lines = s.lines + 1 }
-
-abbrev pub after_answer : State → Result Command Refusal → State
-after_answer s answer = settled (counted s) answer
-
+-- a refused line changes nothing
 abbrev pub next : State → List ℕ → State
-next s line = after_answer s (answer_of s line)
+next s line = settled accepted s (answer_of s line)
 
 -- ---- what a line writes
 
@@ -147,24 +134,12 @@ command_text s (command.Update u) = []
 command_text s (command.Batch us) = []
 command_text s (command.Packet a) = packet_text (tables_of s.sent) a
 
--- what a counted line writes
-abbrev pub settled_text : State → Result Command Refusal → List ℕ
-settled_text s (Ok c) = command_text s c
-settled_text s (Err r) = refusal_line s.lines r
-
-abbrev pub answer_text : State → Result Command Refusal → List ℕ
-answer_text s answer = settled_text (counted s) answer
-
+-- what a line writes that is accepted
 abbrev pub text : State → List ℕ → List ℕ
-text s line = answer_text s (answer_of s line)
+text s line = accepted_text command_text s (answer_of s line)
 
--- ---- the whole output
+-- ---- the whole
 
-abbrev pub output : Digest → List ℕ → List ℕ → List ℕ
-output dg node bytes = output_of next text (start dg node) bytes
-
-abbrev pub was_refused : State → Bool
-was_refused s = s.refused
-
-abbrev pub is_refused : Digest → List ℕ → List ℕ → Bool
-is_refused dg node bytes = was_refused (end_of next (start dg node) bytes)
+-- of what the words ask for
+abbrev pub meaning : Digest → Meaning Asked State Refusal
+meaning dg = by_answers usage_line (λ (asked : Asked). start dg asked.node) answer_of accepted command_text refusal_line

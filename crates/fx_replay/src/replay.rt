@@ -1,19 +1,20 @@
 //! Answers one line after another.
-ghost use Rattle.std.specs.Prelude.{◌≡◌, ◌-◌, ◌^◌, ◌<◌, OnOk, IfOk, None, false, true};
+ghost use Rattle.std.specs.Prelude.{◌≡◌, OnOk, IfOk, None, Ok, false, true};
 ghost use Rattle.std.specs.List.{concat};
 ghost use Rattle.fx_model.specs.Closed.{IsClosedView};
+ghost use Rattle.fx_model.specs.Formed.{is_formed, puts_workload_interface};
 ghost use Rattle.fx_model.specs.TableTexts.{table_lines};
 ghost use Rattle.fx_model.specs.ViewTables.{tables_of};
 ghost use Rattle.fx_model.specs.Views.{view_of};
-ghost use Rattle.fx_lines.specs.Commands.{command_of};
-ghost use Rattle.fx_lines.specs.Formed.{IsReadCommand};
-ghost use Rattle.fx_print.specs.Texts.{refusal_line, flushed_line};
-ghost use Rattle.fx_replay.specs.Output.{State, was_refused, start, next, text, answer_of, checked, update_answer, batch_answer, accepted, settled, settled_text, flush_text, flushed_in, flushed_by, message_count};
+ghost use Rattle.fx_lines.specs.Formed.{IsReadBatch, IsReadCommand};
+ghost use Rattle.fx_print.specs.Texts.{flushed_line};
+ghost use Rattle.fx_program.specs.Answers.{accepted_text, refusal_in, settled};
+ghost use Rattle.fx_replay.specs.Output.{State, accepted, answer_of, batch_answer, checked, command_text, flush_text, flushed_by, flushed_in, meaning, message_count, next, start, text, update_answer};
 ghost use Rattle.fx_replay.specs.Tallies.{no_flushes, one_flush_more, tally_after};
 ghost use Rattle.fx_replay.specs.Tests.{HasTested, ticks_of};
 ghost use Rattle.fx_replay.specs.PacketRuns.{packet_text};
 ghost use Rattle.fx_replay.specs.Standing.{state_of};
-ghost use Rattle.fx_replay.specs.Stepping.{next-lines, next-clip};
+ghost use Rattle.fx_replay.specs.Stepping.{next-clip};
 ghost use Rattle.fx_run.specs.Writing.{Writes};
 
 use crate::sending::send_up_to;
@@ -21,42 +22,38 @@ use crate::tally::Tally;
 use fx_agent::{Agent, UpdateFault};
 use fx_base::{CountSink, Counter, Memory, Seq, Sink, Text};
 use fx_fields::Refusal;
-use fx_lines::{Command, read_command};
+use fx_lines::{Command, read_said};
 use fx_model::{Packet, Update};
 use fx_names::{DigestFunction, DigestRule, Namer};
 use fx_print::{flushed_text, packet_texts, refusal_text, tables_text};
-use fx_run::{Machine, RunFault, put_all, put_one};
+use fx_program::Program;
+use fx_run::{RunFault, put_all, put_one};
 use fx_tables::Tables;
 use fx_walk::trace;
+use fx_words::Asked;
 use std::alloc::Global;
 
-/// The agent of a node that lines are replayed to, the number of lines so far, and whether one was refused; the numbers of its
-/// flushes, and of the tests of selectors in its updates.
+/// The agent of a node that lines are replayed to; the numbers of its flushes, and of the tests of selectors in its
+/// updates.
 #[derive(Drop)]
 pub struct Replay<R: DigestRule, F: DigestFunction<R> + Drop> {
     alloc: Global,
     pub agent: Agent<R, F>,
-    pub lines: u64,
-    pub refused: bool,
     pub tally: Tally,
     pub ticks: Counter,
 }
 
 impl<R: DigestRule, F: DigestFunction<R> + Drop> Replay<R, F> {
-    pub fn new(alloc: Global, node: &Text, namer: Namer<R, F>) -> Result<Self, Memory>
-        ensures state { IfOk result (λ r.
-            state_of R.digest_of r.agent r.lines r.refused ≡ start R.digest_of node.now) }
+    pub fn new(alloc: Global, node: Text, namer: Namer<R, F>) -> Result<Self, Memory>
+        ensures state { IfOk result (λ r. state_of R.digest_of r.agent ≡ start R.digest_of node) }
         ensures ready { IfOk result (λ r. r.agent.failed ≡ false) }
         ensures tally { IfOk result (λ r. r.tally ≡ no_flushes) }
         ensures ticks { IfOk result (λ r. ticks_of r.ticks ≡ 0) }
     {
-        let own_node = node.clone()?;
-        let agent = Agent::new(alloc, own_node, namer)?;
+        let agent = Agent::new(alloc, node, namer)?;
         Ok(Replay {
             alloc,
             agent,
-            lines: 0,
-            refused: false,
             tally: Tally::new(),
             ticks: Counter::new(),
         })
@@ -67,105 +64,110 @@ impl<R: DigestRule, F: DigestFunction<R> + Drop> Replay<R, F> {
         self.agent.finish();
     }
 
-    /// Answers the next line, and writes nothing.
-    pub fn answer_quietly(&mut self, line: &[u8]) -> Result<(), Memory>
+    /// Answers the next line, and writes nothing. Tells why it is refused, if it is.
+    pub fn answer_quietly(&mut self, line: &[u8]) -> Result<Option<Refusal>, Memory>
         requires ready { self.old.agent.failed ≡ false }
-        requires few { self.old.lines < 2 ^ 64 - 1 }
         ensures ready { OnOk result (self.new.agent.failed ≡ false) }
-        ensures state { OnOk result (state_of R.digest_of self.new.agent self.new.lines self.new.refused
-            ≡ next (state_of R.digest_of self.old.agent self.old.lines self.old.refused) line.now) }
+        ensures state { OnOk result (state_of R.digest_of self.new.agent
+            ≡ next (state_of R.digest_of self.old.agent) line.now) }
+        ensures refused { IfOk result (λ refusal. refusal
+            ≡ refusal_in (answer_of (state_of R.digest_of self.old.agent) line.now)) }
         ensures tally { OnOk result (self.new.tally ≡ tally_after self.old.tally
-            (flushed_by (state_of R.digest_of self.old.agent self.old.lines self.old.refused) line.now)) }
+            (flushed_by (state_of R.digest_of self.old.agent) line.now)) }
         ensures tests { OnOk result (HasTested self.old.agent.resources
-            (answer_of (state_of R.digest_of self.old.agent self.old.lines self.old.refused) line.now)
-            self.old.ticks self.new.ticks) }
+            (answer_of (state_of R.digest_of self.old.agent) line.now) self.old.ticks self.new.ticks) }
     {
         // A sink that counts never fails, so that only memory can be wanting.
         match self.answer(line, &mut CountSink::new()) {
-            Ok(()) => Ok(()),
+            Ok(refusal) => Ok(refusal),
             Err(fault) => Err(fault.want_of_memory()),
         }
     }
 
-    // Does what the counted line says.
-    fn settle<K: Sink>(
+    // Does what the command says, or tells why it is refused.
+    fn follow<K: Sink>(
         &mut self,
-        said: Result<Command, Refusal>,
+        command: Command,
         sink: &mut K,
-    ) -> Result<(), RunFault>
+    ) -> Result<Option<Refusal>, RunFault>
         requires ready { self.old.agent.failed ≡ false }
-        requires read { IfOk said IsReadCommand }
+        requires read { IsReadCommand command }
         ensures ready { OnOk result (self.new.agent.failed ≡ false) }
-        ensures state { OnOk result (state_of R.digest_of self.new.agent self.new.lines self.new.refused
-            ≡ settled (state_of R.digest_of self.old.agent self.old.lines self.old.refused)
-            (checked R.digest_of self.old.agent.resources said)) }
+        ensures state { OnOk result (state_of R.digest_of self.new.agent
+            ≡ settled accepted (state_of R.digest_of self.old.agent)
+            (checked R.digest_of self.old.agent.resources (Ok command))) }
+        ensures refused { IfOk result (λ refusal. refusal
+            ≡ refusal_in (checked R.digest_of self.old.agent.resources (Ok command))) }
         ensures tally { OnOk result (self.new.tally ≡ tally_after self.old.tally
-            (flushed_in (state_of R.digest_of self.old.agent self.old.lines self.old.refused)
-            (checked R.digest_of self.old.agent.resources said))) }
+            (flushed_in (state_of R.digest_of self.old.agent)
+            (checked R.digest_of self.old.agent.resources (Ok command)))) }
         ensures tests { OnOk result (HasTested self.old.agent.resources
-            (checked R.digest_of self.old.agent.resources said) self.old.ticks self.new.ticks) }
+            (checked R.digest_of self.old.agent.resources (Ok command)) self.old.ticks self.new.ticks) }
         ensures writes { Writes (K.state sink.old) (K.state sink.new)
-            (settled_text (state_of R.digest_of self.old.agent self.old.lines self.old.refused)
-            (checked R.digest_of self.old.agent.resources said)) result }
+            (accepted_text command_text (state_of R.digest_of self.old.agent)
+            (checked R.digest_of self.old.agent.resources (Ok command))) result }
     {
-        match said {
-            Ok(Command::Blank) => Ok(()),
-            Ok(Command::Tables) => self.put_tables(sink),
-            Ok(Command::Flush { limit }) => self.flush(limit, sink),
-            Ok(Command::Update(update)) => self.take(update, sink),
-            Ok(Command::Batch(updates)) => self.take_all(updates, sink),
-            Ok(Command::Packet(packet)) => self.put_packet(&packet, sink),
-            Err(refusal) => self.refuse(&refusal, sink),
+        match command {
+            Command::Blank => Ok(None),
+            Command::Tables => {
+                self.put_tables(sink)?;
+                Ok(None)
+            }
+            Command::Flush { limit } => {
+                self.flush(limit, sink)?;
+                Ok(None)
+            }
+            Command::Update(update) => Ok(self.take(update)?),
+            Command::Batch(updates) => Ok(self.take_all(updates)?),
+            Command::Packet(packet) => {
+                self.put_packet(&packet, sink)?;
+                Ok(None)
+            }
         }
     }
 
-    // Gives the agent an update. The line is refused where a name that it claims is taken.
-    fn take<K: Sink>(&mut self, update: Update, sink: &mut K) -> Result<(), RunFault>
+    /// Gives the agent an update. It is refused where a name that it claims is taken.
+    pub fn take(&mut self, update: Update) -> Result<Option<Refusal>, Memory>
         requires ready { self.old.agent.failed ≡ false }
-        requires read { IsReadCommand (Command.Update update) }
+        requires formed { is_formed update ≡ true }
+        requires interface { puts_workload_interface self.old.agent.resources.node update ≡ true }
         ensures ready { OnOk result (self.new.agent.failed ≡ false) }
-        ensures state { OnOk result (state_of R.digest_of self.new.agent self.new.lines self.new.refused
-            ≡ settled (state_of R.digest_of self.old.agent self.old.lines self.old.refused)
+        ensures state { OnOk result (state_of R.digest_of self.new.agent
+            ≡ settled accepted (state_of R.digest_of self.old.agent)
             (update_answer R.digest_of self.old.agent.resources update)) }
-        ensures tally { OnOk result (self.new.tally ≡ self.old.tally) }
+        ensures refused { IfOk result (λ refusal. refusal
+            ≡ refusal_in (update_answer R.digest_of self.old.agent.resources update)) }
+        ensures tally { self.new.tally ≡ self.old.tally }
         ensures tests { OnOk result (HasTested self.old.agent.resources
             (update_answer R.digest_of self.old.agent.resources update) self.old.ticks self.new.ticks) }
-        ensures writes { Writes (K.state sink.old) (K.state sink.new)
-            (settled_text (state_of R.digest_of self.old.agent self.old.lines self.old.refused)
-            (update_answer R.digest_of self.old.agent.resources update)) result }
     {
         match self.agent.update(update, &mut self.ticks) {
-            Ok(()) => Ok(()),
-            Err(UpdateFault::Taken { name, holder }) => {
-                self.refuse(&Refusal::Taken { name, holder }, sink)
-            }
-            Err(UpdateFault::Memory) => Err(RunFault::Memory),
+            Ok(()) => Ok(None),
+            Err(UpdateFault::Taken { name, holder }) => Ok(Some(Refusal::Taken { name, holder })),
+            Err(UpdateFault::Memory) => Err(Memory),
             // That comes only where memory ran out before, and then the run has ended.
             Err(UpdateFault::NeedsResync) => unreachable!(),
         }
     }
 
-    // Gives the agent updates that are made together. The line is refused where a name is taken that they claim in the end.
-    fn take_all<K: Sink>(&mut self, updates: Seq<Update>, sink: &mut K) -> Result<(), RunFault>
+    // Gives the agent updates that are made together. They are refused where a name is taken that they claim in the end.
+    fn take_all(&mut self, updates: Seq<Update>) -> Result<Option<Refusal>, Memory>
         requires ready { self.old.agent.failed ≡ false }
-        requires read { IsReadCommand (Command.Batch updates) }
+        requires read { IsReadBatch updates }
         ensures ready { OnOk result (self.new.agent.failed ≡ false) }
-        ensures state { OnOk result (state_of R.digest_of self.new.agent self.new.lines self.new.refused
-            ≡ settled (state_of R.digest_of self.old.agent self.old.lines self.old.refused)
+        ensures state { OnOk result (state_of R.digest_of self.new.agent
+            ≡ settled accepted (state_of R.digest_of self.old.agent)
             (batch_answer R.digest_of self.old.agent.resources updates)) }
-        ensures tally { OnOk result (self.new.tally ≡ self.old.tally) }
+        ensures refused { IfOk result (λ refusal. refusal
+            ≡ refusal_in (batch_answer R.digest_of self.old.agent.resources updates)) }
+        ensures tally { self.new.tally ≡ self.old.tally }
         ensures tests { OnOk result (HasTested self.old.agent.resources
             (batch_answer R.digest_of self.old.agent.resources updates) self.old.ticks self.new.ticks) }
-        ensures writes { Writes (K.state sink.old) (K.state sink.new)
-            (settled_text (state_of R.digest_of self.old.agent self.old.lines self.old.refused)
-            (batch_answer R.digest_of self.old.agent.resources updates)) result }
     {
         match self.agent.update_all(updates.into_vec(), &mut self.ticks) {
-            Ok(()) => Ok(()),
-            Err(UpdateFault::Taken { name, holder }) => {
-                self.refuse(&Refusal::Taken { name, holder }, sink)
-            }
-            Err(UpdateFault::Memory) => Err(RunFault::Memory),
+            Ok(()) => Ok(None),
+            Err(UpdateFault::Taken { name, holder }) => Ok(Some(Refusal::Taken { name, holder })),
+            Err(UpdateFault::Memory) => Err(Memory),
             // As above: the run has ended then.
             Err(UpdateFault::NeedsResync) => unreachable!(),
         }
@@ -218,22 +220,12 @@ impl<R: DigestRule, F: DigestFunction<R> + Drop> Replay<R, F> {
         Ok(lines)
     }
 
-    /// Writes that the last line is refused, and why.
-    pub fn refuse<K: Sink>(&mut self, refusal: &Refusal, sink: &mut K) -> Result<(), RunFault>
-        ensures same { OnOk result (self.new ≡ record self.old { refused = true }) }
-        ensures writes { Writes (K.state sink.old) (K.state sink.new) (refusal_line self.old.lines refusal.now) result }
-    {
-        self.refused = true;
-        let line = refusal_text(self.alloc, self.lines, refusal)?;
-        put_one(&line, sink)
-    }
-
     /// Pulls until nothing is left or the limit is met. Tells how many messages there were, and whether there are more.
     pub fn flush<K: Sink>(&mut self, limit: Option<u32>, sink: &mut K) -> Result<(), RunFault>
         requires ready { self.old.agent.failed ≡ false }
         ensures ready { OnOk result (self.new.agent.failed ≡ false) }
-        ensures state { OnOk result (state_of R.digest_of self.new.agent self.new.lines self.new.refused
-            ≡ accepted (state_of R.digest_of self.old.agent self.old.lines self.old.refused) (Command.Flush limit)) }
+        ensures state { OnOk result (state_of R.digest_of self.new.agent
+            ≡ accepted (state_of R.digest_of self.old.agent) (Command.Flush limit)) }
         ensures tally { OnOk result (self.new.tally ≡ one_flush_more self.old.tally
             (message_count limit self.old.agent.sent (view_of R.digest_of self.old.agent.resources))) }
         ensures ticks { self.new.ticks ≡ self.old.ticks }
@@ -252,7 +244,6 @@ impl<R: DigestRule, F: DigestFunction<R> + Drop> Replay<R, F> {
         ensures tally { OnOk result (self.new.tally ≡ one_flush_more self.old.tally
             (message_count None self.old.agent.sent (view_of R.digest_of self.old.agent.resources))) }
         ensures ticks { self.new.ticks ≡ self.old.ticks }
-        ensures refused { OnOk result (self.new.refused ≡ self.old.refused) }
     {
         match self.flush(None, &mut CountSink::new()) {
             Ok(()) => Ok(()),
@@ -261,47 +252,59 @@ impl<R: DigestRule, F: DigestFunction<R> + Drop> Replay<R, F> {
     }
 }
 
-impl<R: DigestRule, F: DigestFunction<R> + Drop> Machine for Replay<R, F> {
+impl<R: DigestRule, F: DigestFunction<R> + Drop> Program for Replay<R, F> {
+    type Asked = Asked;
+
+    type Given = Namer<R, F>;
+
+    type Refusal = Refusal;
+
     ghost State = { State };
 
-    ghost state = { λ r. state_of R.digest_of r.agent r.lines r.refused };
+    ghost meaning = { meaning R.digest_of };
+
+    ghost state = { λ r. state_of R.digest_of r.agent };
 
     ghost Ready = { λ r. r.agent.failed ≡ false };
 
-    ghost next = { next };
-
-    ghost text = { text };
-
-    ghost count = { λ s. s.lines };
-
-    ghost refused = { was_refused };
-
-    fn is_refused(&self) -> bool {
-        self.refused
+    fn usage_text() -> &'static [u8] {
+        b"usage: felix-replay --node NAME [--soak SEED --count N]\n"
     }
 
-    fn answer<K: Sink>(&mut self, line: &[u8], sink: &mut K) -> Result<(), RunFault>
+    fn begin(alloc: Global, asked: Asked, namer: Namer<R, F>) -> Result<Self, Memory> {
+        Replay::new(alloc, asked.node, namer)
+    }
+
+    fn answer<K: Sink>(&mut self, line: &[u8], sink: &mut K) -> Result<Option<Refusal>, RunFault>
         requires ready { self.old.agent.failed ≡ false }
-        requires few { self.old.lines < 2 ^ 64 - 1 }
         ensures ready { OnOk result (self.new.agent.failed ≡ false) }
-        ensures state { OnOk result (state_of R.digest_of self.new.agent self.new.lines self.new.refused
-            ≡ next (state_of R.digest_of self.old.agent self.old.lines self.old.refused) line.now) }
+        ensures state { OnOk result (state_of R.digest_of self.new.agent
+            ≡ next (state_of R.digest_of self.old.agent) line.now) }
+        ensures refused { IfOk result (λ refusal. refusal
+            ≡ refusal_in (answer_of (state_of R.digest_of self.old.agent) line.now)) }
         ensures tally { OnOk result (self.new.tally ≡ tally_after self.old.tally
-            (flushed_by (state_of R.digest_of self.old.agent self.old.lines self.old.refused) line.now)) }
+            (flushed_by (state_of R.digest_of self.old.agent) line.now)) }
         ensures tests { OnOk result (HasTested self.old.agent.resources
-            (answer_of (state_of R.digest_of self.old.agent self.old.lines self.old.refused) line.now)
-            self.old.ticks self.new.ticks) }
+            (answer_of (state_of R.digest_of self.old.agent) line.now) self.old.ticks self.new.ticks) }
         ensures writes { Writes (K.state sink.old) (K.state sink.new)
-            (text (state_of R.digest_of self.old.agent self.old.lines self.old.refused) line.now) result }
+            (text (state_of R.digest_of self.old.agent) line.now) result }
     {
-        let said = command_in(self.alloc, line)?;
-        self.lines += 1;
-        self.settle(said, sink)
+        let said = read_said::<Command>(self.alloc, line)?;
+        match said {
+            Ok(command) => self.follow(command, sink),
+            Err(refusal) => Ok(Some(refusal)),
+        }
     }
 
-    ghost clipped = { next-clip };
+    fn refusal_text(alloc: Global, number: u64, refusal: &Refusal) -> Result<Text, Memory> {
+        refusal_text(alloc, number, refusal)
+    }
 
-    ghost counts = { next-lines };
+    fn close<K: Sink>(&mut self, _sink: &mut K) -> Result<(), RunFault> {
+        Ok(())
+    }
+
+    ghost clipped = { next-clip R.digest_of };
 }
 
 fn put_count<K: Sink>(alloc: Global, count: u64, more: bool, sink: &mut K) -> Result<(), RunFault>
@@ -309,21 +312,4 @@ fn put_count<K: Sink>(alloc: Global, count: u64, more: bool, sink: &mut K) -> Re
 {
     let line = flushed_text(alloc, count, more)?;
     put_one(&line, sink)
-}
-
-// The command of a line, or its refusal. Want of memory is neither.
-#[tactic(auto, using(crate::proofs::Asked::refused_as_defined))]
-fn command_in(alloc: Global, line: &[u8]) -> Result<Result<Command, Refusal>, Memory>
-    ensures answer { IfOk result (λ said. said ≡ command_of line.now) }
-    ensures read { IfOk result (λ said. IfOk said IsReadCommand) }
-{
-    match read_command(alloc, line) {
-        Ok(command) => Ok(Ok(command)),
-        Err(refusal) => {
-            if refusal.is_memory() {
-                return Err(Memory);
-            }
-            Ok(Err(refusal))
-        }
-    }
 }

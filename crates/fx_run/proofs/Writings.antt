@@ -86,3 +86,12 @@ module _ {T : Type 0} where
     later = omega (arith, then.later);
     cause = cause_wider a b c f le then.cause;
   }
+
+-- ---- a call that answers something else than the one that wrote for it
+
+module _ {T U : Type 0} {before now : SinkState} {text : List ℕ} where
+  pub Writes-answered : {x : T} {y : U} → Writes before now text (Ok x) → Writes before now text (Ok y)
+  Writes-answered wrote = record { whole = wrote.whole; prefix = tt; later = wrote.later; cause = tt }
+
+  pub Writes-failed : {f : RunFault} → Writes {T = T} before now text (Err f) → Writes {T = U} before now text (Err f)
+  Writes-failed wrote = record { whole = tt; prefix = wrote.prefix; later = wrote.later; cause = wrote.cause }

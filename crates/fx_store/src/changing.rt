@@ -23,7 +23,7 @@ pub struct ClaimChange {
 }
 
 impl Store {
-    /// Whether an update clashes, as `check` tells it. If it doesn't, what it changes of the claims, for `apply_with`.
+    /// Whether an update clashes: the name, and who holds it. If it doesn't, what it changes of the claims, for `apply_with`.
     pub fn checked_claims<R: DigestRule, F: DigestFunction<R> + Drop>(
         &self,
         update: &Update,
@@ -59,7 +59,7 @@ impl Store {
         Ok(())
     }
 
-    pub(crate) fn change_of<R: DigestRule, F: DigestFunction<R> + Drop>(
+    fn change_of<R: DigestRule, F: DigestFunction<R> + Drop>(
         &self,
         update: &Update,
         namer: &Namer<R, F>,

@@ -2,9 +2,8 @@
 ghost use Rattle.std.specs.Prelude.{◌≡◌, true, None, OnOk, option_map};
 ghost use Rattle.std.specs.List.{list_all};
 ghost use Rattle.fx_names.specs.Digests.{Digest};
-ghost use Rattle.fx_model.specs.Resources.{empty_resources, after};
+ghost use Rattle.fx_model.specs.Resources.{empty_resources};
 ghost use Rattle.fx_model.specs.Formed.{is_formed};
-ghost use Rattle.fx_model.specs.Claims.{clash};
 ghost use Rattle.fx_model.specs.Batches.{after_all, clash_all};
 ghost use Rattle.fx_store.specs.Keeping.{KeepsClaims};
 ghost use Rattle.fx_store.specs.Checking.{Tells};
@@ -20,7 +19,7 @@ use fx_names::{DigestFunction, DigestRule, Namer, Registry};
 use fx_sharing::Shared;
 use std::alloc::Global;
 
-/// The resources of a node and what they claim. After want of memory in `apply` or its like it isn't used again.
+/// The resources of a node and what they claim. After want of memory in `apply_with` or `apply_all` it isn't used again.
 #[derive(Drop)]
 pub struct Store {
     pub(crate) alloc: Global,
@@ -75,37 +74,6 @@ impl Store {
             ItemKey::Endpoint { .. } => self.resources.endpoints.get(key).map(Found::Endpoint),
             ItemKey::NetSet { .. } => self.resources.net_sets.get(key).map(Found::NetSet),
         }
-    }
-
-    /// Whether an update clashes: the name, and who holds it.
-    pub fn check<R: DigestRule, F: DigestFunction<R> + Drop>(
-        &self,
-        update: &Update,
-        namer: &Namer<R, F>,
-    ) -> Result<(), CheckFault>
-        requires claims { KeepsClaims R.digest_of self.now }
-        requires formed { is_formed update.now ≡ true }
-        ensures { Tells result (clash R.digest_of self.now.resources update.now) }
-    {
-        self.checked_claims(update, namer)?;
-        Ok(())
-    }
-
-    /// Makes an update that doesn't clash.
-    pub fn apply<R: DigestRule, F: DigestFunction<R> + Drop>(
-        &mut self,
-        update: Update,
-        namer: &Namer<R, F>,
-    ) -> Result<(), Memory>
-        requires claims { KeepsClaims R.digest_of self.old }
-        requires free { clash R.digest_of self.old.resources update ≡ None }
-        requires formed { is_formed update ≡ true }
-        ensures made { OnOk result (self.new.resources ≡ after self.old.resources update) }
-        ensures claims { OnOk result (KeepsClaims R.digest_of self.new) }
-    {
-        let change = self.change_of(&update, namer)?;
-        self.apply_with::<R>(update, &change)?;
-        Ok(())
     }
 
     /// Whether updates that are made together clash in the end: the first such name, and who holds it. What would stand between them

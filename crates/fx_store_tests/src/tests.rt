@@ -108,8 +108,8 @@ fn make(store: &mut Store, update: Update) -> Result<(), Fail>
     requires formed { is_formed update ≡ true }
     ensures { OnOk result (KeepsClaims plain_digest store.new) }
 {
-    store.check(&update, &plain())?;
-    store.apply(update, &plain())?;
+    let change = store.checked_claims(&update, &plain())?;
+    store.apply_with::<PlainRule>(update, &change)?;
     Ok(())
 }
 
@@ -131,13 +131,13 @@ fn are_made(store: &mut Store, updates: &[Update]) -> Result<bool, Fail>
     Ok(is_delete_first)
 }
 
-fn is_taken(told: &Result<(), CheckFault>) -> bool {
+fn is_taken<T>(told: &Result<T, CheckFault>) -> bool {
     match told {
         Err(CheckFault::Taken { name, holder }) => {
             name.bytes() == b"cali-pri-_YWFhYWFhYWFhYWFhYW".as_slice()
                 && holder.bytes() == b"profile aaaaaaaaaaaaaaaaaaaa1".as_slice()
         }
-        Ok(()) | Err(CheckFault::Memory) => false,
+        Ok(_) | Err(CheckFault::Memory) => false,
     }
 }
 
@@ -145,7 +145,7 @@ fn is_refused(alloc: Global, store: &Store, change: Change) -> Result<bool, Memo
     requires { KeepsClaims plain_digest store.now }
 {
     let update = update(alloc, change)?;
-    Ok(is_taken(&store.check(&update, &plain())))
+    Ok(is_taken(&store.checked_claims(&update, &plain())))
 }
 
 fn are_refused(store: &Store, updates: &[Update]) -> bool

@@ -144,3 +144,11 @@ node_of [] = None
 node_of (option ∷ []) = None
 node_of (option ∷ node ∷ []) = if bytes_eq option (codes "--node") && is_node_name node then Some node else None
 node_of (option ∷ node ∷ more ∷ words) = None
+
+abbrev pub node_in : Option (List ℕ) → List ℕ
+node_in None = []
+node_in (Some node) = node
+
+-- the node's name, or none where the words are not in the grammar
+abbrev pub node_name : List (List ℕ) → List ℕ
+node_name words = node_in (node_of words)

@@ -1,14 +1,14 @@
-use Rattle.std.proofs.Common.{◌≡◌}
+use Rattle.std.proofs.Common.{◌≡◌, false}
 use Rattle.fx_model.specs.Messages.{differences}
-use Rattle.fx_graph.specs.Graphs.{KeepsResources, sides_of}
+use Rattle.fx_model.specs.Views.{view_of}
 use Rattle.felix_host.proofs.node.take_all.Given as goal
 
 abbrev pub invariant-loop-alloc : goal.invariant-loop-alloc
 invariant-loop-alloc g l = record {
-  told : l.view ≡ (sides_of l.graph.state).sent;
-  wanted : (sides_of l.graph.state).wanted ≡ (sides_of l.fn.graph.state).wanted;
-  resources : KeepsResources g.R.DigestRule.digest_of l.fn.graph.state l.graph.state;
+  told : l.view ≡ l.engine.sent;
+  ready : l.engine.failed ≡ false;
+  resources : l.engine.resources ≡ l.fn.engine.resources;
 }
 
 abbrev pub decreases-loop-alloc : goal.decreases-loop-alloc
-decreases-loop-alloc g l = differences (sides_of l.graph.state).sent (sides_of l.graph.state).wanted
+decreases-loop-alloc g l = differences l.engine.sent (view_of g.R.DigestRule.digest_of l.engine.resources)

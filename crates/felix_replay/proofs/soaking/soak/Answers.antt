@@ -3,7 +3,7 @@ use Rattle.std.specs.Io.KnownBytes.{Appends}
 use Rattle.fx_base.specs.Streams.{AppendsPrefix}
 use Rattle.fx_base.proofs.Compose.{AppendsPrefix-none}
 use Rattle.fx_lines.proofs.Cuts.{OnErr-always}
-use Rattle.felix_replay.proofs.SoakBounds.{most_ticks, most_ticks_are_within}
+use Rattle.felix_replay.specs.SoakBounds.{most_ticks, most_ticks_are_within}
 use Rattle.felix_replay.proofs.soaking.soak.Goals as goal
 
 -- nothing was written, and nothing was counted to the end

@@ -1,14 +1,14 @@
-use Rattle.std.proofs.Common.{inl, sym, subst}
+use Rattle.std.proofs.Common.{inl, sym, ap, ◌∙◌, subst}
 use Rattle.std.proofs.lemmas.Result.{err_from_is_err_and}
 use Rattle.fx_model.specs.Lent.{change_of}
-use Rattle.fx_sequencer.specs.declared.sides.Sides.{Sides}
-use Rattle.fx_agent.specs.Driven.{IsDriven}
+use Rattle.fx_engine.specs.States.{EngineState}
+use Rattle.fx_agent.specs.Sound.{IsDriven}
 use Rattle.fx_agent.proofs.Answering.{no_write, sent-tells, torn-left}
 use Rattle.fx_agent.proofs.Driving.{driven-on, is-next}
 use Rattle.fx_agent.proofs.pulling.hand_on.Goals as goal
 
 pub apply-requires : goal.apply-requires
-apply-requires g c = is-next c.args.graph.now.state.nodes.sequencer c.args.driver.now c.requires (change_of c.in-Some.message) (sym c.in-Some.ensures.message)
+apply-requires g c = is-next g.R.DigestRule.digest_of c.args.engine.now c.args.driver.now c.requires.driven (change_of c.in-Some.message) (sym c.in-Some.ensures.message)
 
 pub returns-in_err-message-clause-out : goal.returns-in_err-message-clause-out
 returns-in_err-message-clause-out g c =
@@ -30,11 +30,6 @@ returns-in_err-apply-clause-cause g c =
     let p = err_from_is_err_and c.from_residual-in_err-apply.result c.from_residual-in_err-apply.ensures.1 in
     λ is. no_write _ p.0 p.1 p.2 is
 
-pub returns-in_err-apply-clause-graph : goal.returns-in_err-apply-clause-graph
-returns-in_err-apply-clause-graph g c =
-    let p = err_from_is_err_and c.from_residual-in_err-apply.result c.from_residual-in_err-apply.ensures.1 in
-    λ is. no_write _ p.0 p.1 p.2 is
-
 pub returns-in_err-apply-clause-driver : goal.returns-in_err-apply-clause-driver
 returns-in_err-apply-clause-driver g c =
     let p = err_from_is_err_and c.from_residual-in_err-apply.result c.from_residual-in_err-apply.ensures.1 in
@@ -42,11 +37,18 @@ returns-in_err-apply-clause-driver g c =
 
 pub returns-clause-driven : goal.returns-clause-driven
 returns-clause-driven g c =
-    let after = driven-on c.args.graph.now.state.nodes.sequencer c.args.driver.now c.requires (change_of c.in-Some.message) (sym c.in-Some.ensures.message) c.apply.new.self c.in_ok-apply.ensures.driven in
-    subst (λ (v : Sides). IsDriven v c.apply.new.self) (sym c.sent.ensures.step) after
+    let dg = g.R.DigestRule.digest_of in
+    let after = driven-on dg c.args.engine.now c.args.driver.now c.requires.driven (change_of c.in-Some.message) (sym c.in-Some.ensures.message) c.apply.new.self c.in_ok-apply.ensures.driven in
+    subst (λ (e : EngineState). IsDriven dg e c.apply.new.self) (sym c.sent.ensures) after
+
+pub returns-clause-stays : goal.returns-clause-stays
+returns-clause-stays g c = ap (λ (e : EngineState). e.failed) c.sent.ensures ∙ c.requires.ready
 
 pub returns-clause-step : goal.returns-clause-step
-returns-clause-step g c = c.sent.ensures.step
+returns-clause-step g c = ap (λ (e : EngineState). e.sent) c.sent.ensures
+
+pub returns-clause-resources : goal.returns-clause-resources
+returns-clause-resources g c = ap (λ (e : EngineState). e.resources) c.sent.ensures
 
 pub returns-clause-pulled : goal.returns-clause-pulled
 returns-clause-pulled g c = (change_of c.in-Some.message, (sym c.in-Some.ensures.message, c.in_ok-message.ensures.whole))

@@ -26,10 +26,10 @@ pub returns : goal.returns
 returns c =
     let R = c.args.store.now.resources in
     let was = c.requires.alike in
-    let made = c.in_ok-apply-2.ensures.made in
+    let made = c.in_ok-apply_with.ensures.made in
     record {
       formed = ap are_formed made ∙ are_formed-after R was.formed c.args.update c.requires.formed;
       apart = subst (IsClashFree plain_digest) (sym made) (clash_free_after plain_digest R c.args.update c.requires.formed was.apart c.requires.free);
-      claims = c.in_ok-apply-2.ensures.claims;
+      claims = c.in_ok-apply_with.ensures.claims;
       graph = subst (λ (S : Resources). IsGraphOf plain_digest S c.apply.new.self.state) (sym made) (c.in_ok-apply.ensures.follows R was.graph);
     }

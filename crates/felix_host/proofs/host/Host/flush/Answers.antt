@@ -4,7 +4,6 @@ use Rattle.fx_model.specs.declared.view.View.{View}
 use Rattle.fx_model.specs.Tables.{Tables}
 use Rattle.fx_run.specs.Writing.{Writes}
 use Rattle.fx_run.proofs.Writings.{Writes-nothing}
-use Rattle.fx_store.specs.declared.store.Store.{Store}
 use Rattle.fx_hostep.specs.HostTables.{host_tables_of}
 use Rattle.felix_host.specs.Output.{State, flush_text, goal_of}
 use Rattle.felix_host.specs.Standing.{state_of}
@@ -35,8 +34,8 @@ pub returns-clause-state : goal.returns-clause-state
 returns-clause-state g c =
     let dg = g.R.DigestRule.digest_of in
     let was = c.args.self.now in
-    let s : State = state_of dg was.node.store.resources was.failsafe was.tables was.lines was.refused in
-    let same : c.bring.new.self.store.resources ≡ was.node.store.resources = ap (λ (t : Store). t.resources) c.in_ok-bring.ensures.store in
+    let s : State = state_of dg was.node.engine.resources was.failsafe was.tables in
+    let same = c.in_ok-bring.ensures.resources in
     let end : c.in_ok-goal.goal ≡ goal_of s = c.in_ok-goal.ensures ∙ ap (λ (v : View). host_tables_of v was.failsafe) c.in_ok-bring.ensures.reached in
     on_ok_weaker c.flush.result (λ reached. λ j. record s { resources = same j; tables = (reached ∙ end) j }) c.flush.ensures.reached
 
@@ -44,7 +43,7 @@ pub returns-clause-writes : goal.returns-clause-writes
 returns-clause-writes g c =
     let dg = g.R.DigestRule.digest_of in
     let was = c.args.self.now in
-    let s : State = state_of dg was.node.store.resources was.failsafe was.tables was.lines was.refused in
+    let s : State = state_of dg was.node.engine.resources was.failsafe was.tables in
     let end : c.in_ok-goal.goal ≡ goal_of s = c.in_ok-goal.ensures ∙ ap (λ (v : View). host_tables_of v was.failsafe) c.in_ok-bring.ensures.reached in
     subst (λ (t : Tables). Writes {T = Unit {0}} (g.K.Sink.state c.args.sink.now) (g.K.Sink.state c.flush.new.sink) (flush_text was.tables t) c.flush.result) end c.flush.ensures.writes
 

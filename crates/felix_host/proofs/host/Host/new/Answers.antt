@@ -1,6 +1,4 @@
 use Rattle.std.proofs.Common.{ap, ◌∙◌, sym, subst}
-use Rattle.fx_model.specs.Closed.{IsClosedView}
-use Rattle.fx_model.specs.Views.{empty_view}
 use Rattle.fx_driver.specs.Stepping.{IsDrivable}
 use Rattle.fx_driver.proofs.Drivable.{empty_view-drivable}
 use Rattle.fx_hostep.specs.FailsafePorts.{have_port_protocols}
@@ -21,7 +19,7 @@ pub host_goal-requires-clause-protocols : goal.host_goal-requires-clause-protoco
 host_goal-requires-clause-protocols g c = ap have_port_protocols c.new-failsafe.ensures
 
 pub returns-clause-state : goal.returns-clause-state
-returns-clause-state g c = λ j. record (start g.R.DigestRule.digest_of c.args.name.now) {
+returns-clause-state g c = λ j. record (start g.R.DigestRule.digest_of c.args.name) {
   resources = c.in_ok-node.ensures.resources j;
   failsafe = c.new-failsafe.ensures j;
   tables = (c.in_ok-tables.ensures ∙ (λ k. host_tables_of (c.new-nothing.ensures k) (c.new-failsafe.ensures k))) j;

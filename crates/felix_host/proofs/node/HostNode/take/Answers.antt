@@ -4,6 +4,5 @@ use Rattle.felix_host.proofs.node.HostNode.take.Goals as goal
 pub returns-clause-followed : goal.returns-clause-followed
 returns-clause-followed g c =
     let was = c.args.self.now in
-    let now = c.make.new in
-    let made = c.in_ok-make.ensures in
-    followed-after g.R.DigestRule.digest_of was.store now.store was.graph.state now.graph.state was.view c.requires.followed c.args.update c.requires.formed made.tells made.follows made.sent made.resources made.claims
+    let made = c.in_ok-update.ensures in
+    followed-after g.R.DigestRule.digest_of was.engine c.update.new.self was.view c.requires.followed c.args.update c.requires.formed made.free made.resources made.sent made.stays

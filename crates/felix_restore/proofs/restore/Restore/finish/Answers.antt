@@ -3,8 +3,8 @@ use Rattle.std.proofs.lemmas.Result.{on_ok_weaker}
 use Rattle.fx_model.specs.Tables.{Tables}
 use Rattle.fx_model.specs.ViewTables.{tables_of}
 use Rattle.fx_run.specs.Writing.{Writes}
-use Rattle.felix_restore.specs.Finding.{found_in_sync}
-use Rattle.felix_restore.specs.declared.finding.Finding.{Finding}
+use Rattle.fx_restart_lines.specs.Finding.{found_in_sync}
+use Rattle.fx_restart_lines.specs.declared.finding.Finding.{Finding}
 use Rattle.felix_restore.specs.Output.{State, closing, goal_of, restored_text}
 use Rattle.felix_restore.specs.Restored.{IsLedFrom}
 use Rattle.felix_restore.specs.Standing.{state_of}
@@ -14,7 +14,7 @@ pub returns-clause-writes : goal.returns-clause-writes
 unfolding closing
 returns-clause-writes g c =
     let was = c.args.self.now in
-    let s : State = state_of g.R.DigestRule.digest_of was.agent was.finding was.lines was.refused in
+    let s : State = state_of g.R.DigestRule.digest_of was.agent was.finding in
     let end : c.tables-goal.result.now ≡ goal_of s = c.tables-goal.ensures.sent c.in_ok-send_all.ensures.ready ∙ ap tables_of c.in_ok-send_all.ensures.reached in
     let mark : was.in_sync ≡ s.resources.in_sync = c.requires.ready.mark in
     subst (λ (t : List ℕ). Writes {T = Unit {0}} (g.K.Sink.state c.args.sink.now) (g.K.Sink.state c.restore.new.sink) t c.restore.result)
@@ -30,7 +30,7 @@ module _ (was : Finding) (now : Finding) (mark sync : Bool) (same : mark ≡ syn
 pub returns-clause-restored : goal.returns-clause-restored
 returns-clause-restored g c =
     let was = c.args.self.now in
-    let s : State = state_of g.R.DigestRule.digest_of was.agent was.finding was.lines was.refused in
+    let s : State = state_of g.R.DigestRule.digest_of was.agent was.finding in
     let end : c.tables-goal.result.now ≡ goal_of s = c.tables-goal.ensures.sent c.in_ok-send_all.ensures.ready ∙ ap tables_of c.in_ok-send_all.ensures.reached in
     let mark : was.in_sync ≡ s.resources.in_sync = c.requires.ready.mark in
     on_ok_weaker c.restore.result (λ led. record {
@@ -41,7 +41,7 @@ returns-clause-restored g c =
 pub returns-clause-led : goal.returns-clause-led
 returns-clause-led g c =
     let was = c.args.self.now in
-    let s : State = state_of g.R.DigestRule.digest_of was.agent was.finding was.lines was.refused in
+    let s : State = state_of g.R.DigestRule.digest_of was.agent was.finding in
     let end : c.tables-goal.result.now ≡ goal_of s = c.tables-goal.ensures.sent c.in_ok-send_all.ensures.ready ∙ ap tables_of c.in_ok-send_all.ensures.reached in
     let mark : was.in_sync ≡ s.resources.in_sync = c.requires.ready.mark in
     on_ok_weaker c.restore.result (led_by was.finding c.restore.new.finding was.in_sync s.resources.in_sync mark c.tables-goal.result.now (goal_of s) end) c.restore.ensures.led

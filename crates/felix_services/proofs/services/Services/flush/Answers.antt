@@ -22,7 +22,7 @@ returns-clause-ready g c =
 pub returns-clause-state : goal.returns-clause-state
 returns-clause-state g c =
     let was = c.args.self.now in
-    let s : State = state_of g.R.DigestRule.digest_of was.replay.agent was.replay.lines was.replay.refused was.places in
+    let s : State = state_of g.R.DigestRule.digest_of was.replay.agent was.places in
     on_ok_weaker c.flush-sent.result
     (λ is. λ j. record s { replay = is j; places = c.flush.ensures.lists j; flushed = c.flush.ensures.flushed j })
     c.flush-sent.ensures.state

@@ -30,7 +30,7 @@ returns-clause-policy g c =
     let answer = subst (λ (t : Tables). IsPolicyAnswer t a o.verdict (option_copied o.egress) (option_copied o.ingress)) c.tables.ensures c.decide.ensures.policy in
     let AsReferred : AgentState → Type 0 = λ s. s.failed ≡ false → s.sent ≡ view_of dg s.resources → a.state ≡ New → IsAnswer (packet_verdict s.resources a) o.verdict (option_copied o.egress) (option_copied o.ingress) in
     subst AsReferred c.self.view_is
-    (λ ready same new. sound-policy dg is.store is.graph.state is.driver (c.self.invariant.sound ready) same a new o.verdict (option_copied o.egress) (option_copied o.ingress) answer)
+    (λ ready same new. sound-policy dg is.engine is.driver (c.self.invariant.sound ready) same a new o.verdict (option_copied o.egress) (option_copied o.ingress) answer)
 
 pub returns-clause-kubernetes : goal.returns-clause-kubernetes
 returns-clause-kubernetes g c =
@@ -41,4 +41,4 @@ returns-clause-kubernetes g c =
     let answer = subst (λ (t : Tables). IsPolicyAnswer t a o.verdict (option_copied o.egress) (option_copied o.ingress)) c.tables.ensures c.decide.ensures.policy in
     let AsKubernetes : AgentState → Type 0 = λ s. s.failed ≡ false → s.sent ≡ view_of dg s.resources → a.state ≡ New → IsKubernetesVerdict s.resources a o.verdict in
     subst AsKubernetes c.self.view_is
-    (λ ready same new. sound-kubernetes dg is.store is.graph.state is.driver (c.self.invariant.sound ready) same a new o.verdict (option_copied o.egress) (option_copied o.ingress) answer)
+    (λ ready same new. sound-kubernetes dg is.engine is.driver (c.self.invariant.sound ready) same a new o.verdict (option_copied o.egress) (option_copied o.ingress) answer)

@@ -39,7 +39,7 @@ returns-clause-state g c =
     let was = c.args.self.now in
     let s = c.in_ok-count.ensures in
     on_ok_always c.put_count.result
-    (λ j. record (state_of g.R.DigestRule.digest_of was.agent was.lines was.refused) { resources = s.resources j; sent = s.ends j })
+    (λ j. record (state_of g.R.DigestRule.digest_of was.agent) { resources = s.resources j; sent = s.ends j })
 
 pub returns-clause-ready : goal.returns-clause-ready
 returns-clause-ready g c = on_ok_always c.put_count.result c.in_ok-count.ensures.ready

@@ -1,0 +1,4 @@
+pub mod States
+pub mod Sound
+pub mod Answers
+pub mod Handing

@@ -1,0 +1,11 @@
+use Rattle.serde_json.specs.View.{view}
+use Rattle.fx_lines.specs.Formed.{IsReadCommand}
+use Rattle.fx_lines.specs.Commands.{by_name}
+use Rattle.fx_lines.proofs.ReadForms.{by_name-read}
+use Rattle.fx_lines.proofs.Asking.{kept}
+use Rattle.fx_lines.proofs.commands.CommandLineCommand.read_member.Goals as goal
+
+pub returns-clause-read : goal.returns-clause-read
+returns-clause-read c =
+    let d = view c.args.value.now in
+    kept IsReadCommand (by_name d) c.command_in.result c.command_in.ensures (by_name-read d)
