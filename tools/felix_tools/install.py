@@ -1,4 +1,4 @@
-"""tools/install: the built programs, the tools and a man page under a folder."""
+"""tools/install: the built programs, the tools and the man pages under a folder."""
 import os
 import shutil
 import subprocess
@@ -7,17 +7,18 @@ from felix_tools import program
 from felix_tools.options import tool_parser
 from felix_tools.reading import InputError
 from felix_tools.start import answered
-from felix_tools.version import INSTALLED, VERSION
+from felix_tools.version import FORMATS, INSTALLED, VERSION
 
 DESCRIPTION = """\
-Copies the built programs, the tools and a man page under a folder, and tells each file.
+Copies the built programs, the tools and the man pages under a folder, and tells each file.
 
   tools/install /usr/local
   tools/install package/usr
 
 Programs go to PREFIX/bin under their names, the tools as felix-ask, felix-lines and so on, and the plugin of kubectl as
 kubectl-felix, which `kubectl felix` finds where PREFIX/bin is on the PATH. What they are made of goes to
-PREFIX/lib/felix, and the man page felix-replay(1) to PREFIX/share/man. No file names the folder, so it may be moved.
+PREFIX/lib/felix, man pages of all programs to PREFIX/share/man. The changes, the schema of --json, and VERSION, which
+tells the release and the formats of JSON, go to PREFIX/share/doc/felix. No file names the folder, so it may be moved.
 Nothing is copied unless each program is built from the sources that stand here. `felix-ask --version` says which they
 are.
 
@@ -26,6 +27,8 @@ Status: 0 done, 2 a file can't be written, 4 some program isn't built, 5 the out
 TOOLS = ("apply", "ask", "check", "cluster", "diff", "found", "growth", "hostile", "limits", "lines", "picture",
          "refuse-memory")
 PLUGIN = "kubectl-felix"
+# What tells those who use it what changed, and what --json writes.
+PAGES = ("CHANGELOG.md", "docs/answers.schema.json")
 MODULES = os.path.dirname(os.path.abspath(__file__))
 SCRIPTS = os.path.dirname(MODULES)
 
@@ -43,8 +46,7 @@ def install(options):
         for name, path in paths:
             copy(path, os.path.join(options.prefix, "bin", name), 0o755)
         install_tools(options.prefix, version)
-        page = os.path.join(program.TOP, "docs", "felix-replay.1")
-        copy(page, os.path.join(options.prefix, "share", "man", "man1", "felix-replay.1"), 0o644)
+        install_pages(options.prefix, version)
     except OSError as fault:
         raise InputError("%s: %s" % (fault.filename or options.prefix, fault.strerror))
     print("version %s" % version)
@@ -83,6 +85,15 @@ def install_tools(prefix, version):
         link(os.path.join("..", "lib", "felix", name), os.path.join(prefix, "bin", "felix-" + name))
     copy(os.path.join(SCRIPTS, PLUGIN), os.path.join(folder, PLUGIN), 0o755)
     link(os.path.join("..", "lib", "felix", PLUGIN), os.path.join(prefix, "bin", PLUGIN))
+
+
+def install_pages(prefix, version):
+    for name in (one.name + ".1" for one in program.PROGRAMS):
+        copy(os.path.join(program.TOP, "docs", "man", name), os.path.join(prefix, "share", "man", "man1", name), 0o644)
+    folder = os.path.join(prefix, "share", "doc", "felix")
+    for path in PAGES:
+        copy(os.path.join(program.TOP, path), os.path.join(folder, os.path.basename(path)), 0o644)
+    write(os.path.join(folder, "VERSION"), "felix %s\n%s\n" % (version, FORMATS))
 
 
 # ---- files, each of which is whole at every moment, also where another stood

@@ -3,9 +3,9 @@ import json
 
 from felix_tools.questions import is_node, is_outside, name_of
 from felix_tools.verdicts import word_of
+from felix_tools.version import ANSWERS_FORMAT
 from felix_tools.words import input_blocks
 
-FORM = 1
 # A packet's members, and what they are called here.
 TRAFFIC_NAMES = {"proto": "protocol", "dport": "port", "sport": "sourcePort", "icmpType": "icmpType",
                  "icmpCode": "icmpCode"}
@@ -13,7 +13,7 @@ TRAFFIC_NAMES = {"proto": "protocol", "dport": "port", "sport": "sourcePort", "i
 
 def written(kind, statement, **members):
     """The text of a whole answer."""
-    return json.dumps(dict({"form": FORM, "kind": kind}, **dict(statement, **members)), indent=2, ensure_ascii=False)
+    return json.dumps(dict({"form": ANSWERS_FORMAT, "kind": kind}, **dict(statement, **members)), indent=2, ensure_ascii=False)
 
 
 def input_value(inquiry, options):

@@ -7,7 +7,7 @@ from felix_tools import ask, check, diff, fetching, lines
 from felix_tools.options import PlainHelp
 from felix_tools.reading import InputError
 from felix_tools.start import REFUSED, USAGE, answered, remark
-from felix_tools.version import tool_name, version_text
+from felix_tools.version import about, tool_name
 
 NAME = "kubectl-felix"
 DESCRIPTION = """\
@@ -45,7 +45,7 @@ def parser():
     usage = "%s {%s} [OPTION ..] [WORD OF THE TOOL ..]" % (name, ",".join(sorted(TOOLS)))
     made = argparse.ArgumentParser(prog=name, usage=usage, description=DESCRIPTION, formatter_class=PlainHelp,
                                    allow_abbrev=False, add_help=False)
-    made.add_argument("--version", action="version", version="%s %s" % (name, version_text()))
+    made.add_argument("--version", action="version", version=about(NAME))
     made.add_argument("tool", choices=sorted(TOOLS), metavar="TOOL", help="ask, check, diff or lines")
     made.add_argument("--context", help="the context of kubectl's configuration")
     made.add_argument("--kubeconfig", metavar="FILE", help="kubectl's configuration")

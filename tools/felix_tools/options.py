@@ -9,7 +9,7 @@ from felix_tools.questions import (
     port_traffic,
 )
 from felix_tools.reading import is_address
-from felix_tools.version import tool_name, version_text, with_names_here
+from felix_tools.version import about, tool_name, with_names_here
 from felix_tools.workloads import with_namespace
 
 UPLINK = "eth0"
@@ -178,7 +178,7 @@ def tool_parser(tool, description):
     """A parser of a tool's words, which tells its use and its version."""
     name = tool_name(tool)
     made = argparse.ArgumentParser(prog=name, description=with_names_here(description), formatter_class=PlainHelp)
-    made.add_argument("--version", action="version", version="%s %s" % (name, version_text()))
+    made.add_argument("--version", action="version", version=about(tool))
     return made
 
 

@@ -7,6 +7,7 @@ import tempfile
 import unittest
 
 from felix_tools import program
+from felix_tools.version import FORMATS
 
 TESTS = os.path.dirname(os.path.abspath(__file__))
 TOOLS = os.path.dirname(TESTS)
@@ -32,8 +33,9 @@ class Install(unittest.TestCase):
         self.room = tempfile.mkdtemp()
         self.addCleanup(shutil.rmtree, self.room)
         shutil.copytree(TOOLS, self.path("tree", "tools"), ignore=shutil.ignore_patterns("tests", "__pycache__"))
-        os.makedirs(self.path("tree", "docs"))
-        shutil.copy(os.path.join(program.TOP, "docs", "felix-replay.1"), self.path("tree", "docs"))
+        shutil.copytree(os.path.join(program.TOP, "docs", "man"), self.path("tree", "docs", "man"))
+        for name in ("CHANGELOG.md", "docs/answers.schema.json"):
+            shutil.copy(os.path.join(program.TOP, name), self.path("tree", name))
         for one in program.PROGRAMS:
             os.makedirs(self.path("tree", "crates", one.crate, "out"))
         write(self.path("tree", "crates.txt"), "")
@@ -64,6 +66,17 @@ class Install(unittest.TestCase):
             there = [os.path.join(at, name) for at, _, names in os.walk(self.path("prefix")) for name in names]
             self.assertEqual(sorted(told), sorted(there))
 
+    def test_release_formats_and_pages_are_put_in_place(self):
+        self.build(program.PROGRAMS)
+        version = self.install().stdout.splitlines()[-1][len("version "):]
+        shared = self.path("prefix", "share")
+        with open(os.path.join(shared, "doc", "felix", "VERSION"), encoding="utf-8") as file:
+            self.assertEqual(file.read(), "felix %s\n%s\n" % (version, FORMATS))
+        beside = sorted(os.listdir(os.path.join(shared, "doc", "felix")))
+        self.assertEqual(beside, ["CHANGELOG.md", "VERSION", "answers.schema.json"])
+        pages = sorted(os.listdir(os.path.join(shared, "man", "man1")))
+        self.assertEqual(pages, sorted(one.name + ".1" for one in program.PROGRAMS))
+
     def test_a_prefix_that_was_moved_works_by_itself(self):
         self.build(program.PROGRAMS)
         version = self.install().stdout.splitlines()[-1][len("version "):]
@@ -72,12 +85,12 @@ class Install(unittest.TestCase):
         for one in program.PROGRAMS:
             self.assertEqual(run_it(self.path("moved", "bin", one.name)).stdout, "verdict deny\n")
         ask = self.path("moved", "bin", "felix-ask")
-        self.assertEqual(run_it(ask, "--version").stdout, "felix-ask %s\n" % version)
+        self.assertEqual(run_it(ask, "--version").stdout, "felix-ask %s\n%s\n" % (version, FORMATS))
         cluster = os.path.join(TESTS, "data", "shop", "cluster.json")
         asked = ["--from", "shop/web-0", "--to", "shop/db-0", "--tcp", "5432"]
         self.assertIn("DENIED", run_it(ask, cluster, *asked).stdout)
         plugin = run_it(self.path("moved", "bin", "kubectl-felix"), "--version")
-        self.assertEqual((plugin.stdout, plugin.stderr), ("kubectl felix %s\n" % version, ""))
+        self.assertEqual((plugin.stdout, plugin.stderr), ("kubectl felix %s\n%s\n" % (version, FORMATS), ""))
         self.assertIn("\n  felix-found --printed", run_it(self.path("moved", "bin", "felix-found"), "--help").stdout)
 
 
